@@ -24,6 +24,7 @@ PATIENCE = 300  # seconds, on a machine that has too much to do, or was stopped 
 ENDS = 20  # seconds in which a browser ends by itself
 Json = Dict[str, Any]  # what the browser tells: each method and each event has fields of its own
 KEYS = {"ArrowLeft": 37, "ArrowUp": 38, "ArrowRight": 39, "ArrowDown": 40, "Home": 36, "End": 35, "Escape": 27, "Enter": 13, "Tab": 9}
+LEFT = "Inspected target navigated or closed"  # what it says of an expression on a page that is being left
 
 
 class Browser:
@@ -137,13 +138,18 @@ class Tab:
 
     def call(self, method: str, **given: object) -> Json:
         """What the browser answers."""
+        told = self._asked(method, **given)
+        assert "error" not in told, told
+        result: Json = told["result"]
+        return result
+
+    def _asked(self, method: str, **given: object) -> Json:
+        """The whole answer."""
         self.send(method, **given)
         while True:
             told: Json = json.loads(self._message())
             if told.get("id") == self.number:
-                assert "error" not in told, told
-                result: Json = told["result"]
-                return result
+                return told
             self.events.append(told)
 
     def send(self, method: str, **given: object) -> None:
@@ -196,8 +202,12 @@ class Tab:
         self.call("Page.navigate", url=url)
 
     def value(self, expression: str) -> object:
-        """What the expression is on the page; None where it has none."""
-        result = self.call("Runtime.evaluate", expression=expression, returnByValue=True, awaitPromise=True)
+        """What the expression is on the page; None where it has none, or where the page is just being left."""
+        told = self._asked("Runtime.evaluate", expression=expression, returnByValue=True, awaitPromise=True)
+        if told.get("error", {}).get("message") == LEFT:
+            return None
+        assert "error" not in told, told
+        result: Json = told["result"]
         seen: object = None if "exceptionDetails" in result else result["result"].get("value")
         return seen
 
