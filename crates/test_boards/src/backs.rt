@@ -2,6 +2,7 @@
 //! time message is the identifier 0x8D, the length 10, for each side its hours, and in two digits its minutes and its
 //! seconds, and the status, 0x20 where no clock is connected.
 
+use crate::coded_frames::{expect_none, first_false};
 use board_captures::Method;
 use chess_rules::Position;
 use dgt_frame::First;
@@ -10,7 +11,6 @@ use dgt_vectors::captures::{INITIAL, Signal, bytes_of};
 use going_back::{Answer, BackError, back_to};
 use settle_core::Outcome;
 use std::alloc::Global;
-use std::process::Abort;
 
 const E4: &str = "rnbqkbnr/pppppppp/8/8/4P3/8/PPPP1PPP/RNBQKBNR";
 
@@ -103,76 +103,84 @@ fn numbers_of(
     }
 }
 
-/// Fails where something else becomes of it, by itself or with pairs put in.
-fn expect(
-    rt: &impl Abort,
+/// A text, and what becomes of a capture that goes back to it.
+type Back<'a> = (&'a str, &'a str);
+
+/// The number of the first text of which something else becomes, by itself or with pairs put in.
+fn first_unlike(
     alloc: Global,
     capture: &[Signal<'_>],
-    to: &str,
     made: &[Signal<'_>],
-    told: &str,
-) {
-    let alone = back_of(alloc, false, capture, to, made) == told;
-    let recovered = back_of(alloc, true, capture, to, made) == told;
-    assert!(rt; alone && recovered, "{to}");
+    rows: &[Back<'_>],
+) -> Option<usize> {
+    for (i, (to, told)) in rows.iter().enumerate() {
+        let alone = back_of(alloc, false, capture, to, made) == *told;
+        if !alone || back_of(alloc, true, capture, to, made) != *told {
+            return Some(i);
+        }
+    }
+    None
 }
 
-#[test]
-fn plies_go_where_the_board_shows_them_no_more(rt: HostRuntime) {
-    let capture = [
-        Dump(INITIAL),
-        AT_29_50,
-        Dump(E4),
-        AT_29_40,
-        Dump(E4_E5),
-        Dump(E4),
-    ];
-    let one = [
-        Dump(INITIAL),
-        Time([0x01, 0x29, 0x50, 0x01, 0x29, 0x50, 0x00]),
-        Dump(E4),
-        Time([0x01, 0x29, 0x50, 0x01, 0x29, 0x40, 0x00]),
-        Dump(E4),
-    ];
-    for to in ["", "1", "1.", "1. e4", "1. e4+"] {
-        expect(&rt, rt.alloc(), &capture, to, &one, "made");
-    }
-    for to in ["2.", "1. d4", "3", "e4", "1... e4"] {
-        expect(&rt, rt.alloc(), &capture, to, &one, "unnamed");
-    }
-    // What it shows is 1. e4.
-    expect(&rt, rt.alloc(), &capture, "0", &one, "moved");
-}
+static PLAYED_ON: [Signal<'static>; 6] = [
+    Dump(INITIAL),
+    AT_29_50,
+    Dump(E4),
+    AT_29_40,
+    Dump(E4_E5),
+    Dump(E4),
+];
+
+static ONE_PLY: [Signal<'static>; 5] = [
+    Dump(INITIAL),
+    Time([0x01, 0x29, 0x50, 0x01, 0x29, 0x50, 0x00]),
+    Dump(E4),
+    Time([0x01, 0x29, 0x50, 0x01, 0x29, 0x40, 0x00]),
+    Dump(E4),
+];
+
+/// Plies go where the board shows them no more. What it shows at last is 1. e4.
+static TO_ONE_PLY: [Back<'static>; 11] = [
+    ("", "made"),
+    ("1", "made"),
+    ("1.", "made"),
+    ("1. e4", "made"),
+    ("1. e4+", "made"),
+    ("2.", "unnamed"),
+    ("1. d4", "unnamed"),
+    ("3", "unnamed"),
+    ("e4", "unnamed"),
+    ("1... e4", "unnamed"),
+    ("0", "moved"),
+];
+
+/// What the board still shows comes back.
+static STILL_SHOWN: [Back<'static>; 2] = [("", "moved"), ("1. e4", "moved")];
 
 #[test]
-fn what_the_board_still_shows_comes_back(rt: HostRuntime) {
+fn captures_go_back(rt: HostRuntime) {
+    let alloc = rt.alloc();
     let played = [Dump(INITIAL), Dump(E4), Dump(E4_E5)];
-    expect(&rt, rt.alloc(), &played, "", &[], "moved");
-    expect(&rt, rt.alloc(), &played, "1. e4", &[], "moved");
     let ended = [Dump(INITIAL), Dump(KINGS)];
-    expect(&rt, rt.alloc(), &ended, "*", &[], "signed");
-    expect(&rt, rt.alloc(), &[], "*", &[], "unseen");
-}
-
-#[test]
-fn a_result_goes_and_updates_count_as_before(rt: HostRuntime) {
     let trusted = [Dump(INITIAL), Dump(KINGS), Dump(INITIAL)];
     let without = [NO_CLOCK, Dump(INITIAL)];
-    expect(&rt, rt.alloc(), &trusted, "*", &without, "made");
     let lost = [Dump(INITIAL), Dump(KINGS), Dump(INITIAL), Raw(&[0x00])];
     let still_lost = [NO_CLOCK, Dump(INITIAL), Raw(&[0x00])];
-    expect(&rt, rt.alloc(), &lost, "*", &still_lost, "made");
-}
-
-#[test]
-fn what_stays_and_goes_is_told(rt: HostRuntime) {
     let two = [Dump(INITIAL), Dump(E4), Dump(E4_E5), Dump(E4)];
-    assert_eq!(&rt; numbers_of(rt.alloc(), &two, ""), Some((1, 1, None)));
-    assert_eq!(&rt; numbers_of(rt.alloc(), &two, "2. d4"), Some((2, 0, None)));
-    let ended = [Dump(INITIAL), Dump(KINGS), Dump(INITIAL)];
-    assert_eq!(&rt;
-        numbers_of(rt.alloc(), &ended, "*"),
-        Some((0, 0, Some(Outcome::WhiteWins)))
-    );
-    assert_eq!(&rt; numbers_of(rt.alloc(), &ended, ""), None);
+    let won = Some(Outcome::WhiteWins);
+    let holds = [
+        first_unlike(alloc, &PLAYED_ON, &ONE_PLY, &TO_ONE_PLY).is_none(),
+        first_unlike(alloc, &played, &[], &STILL_SHOWN).is_none(),
+        first_unlike(alloc, &ended, &[], &[("*", "signed")]).is_none(),
+        first_unlike(alloc, &[], &[], &[("*", "unseen")]).is_none(),
+        // a result goes, and updates count as before
+        first_unlike(alloc, &trusted, &without, &[("*", "made")]).is_none(),
+        first_unlike(alloc, &lost, &still_lost, &[("*", "made")]).is_none(),
+        // what stays and goes is told
+        numbers_of(alloc, &two, "") == Some((1, 1, None)),
+        numbers_of(alloc, &two, "2. d4") == Some((2, 0, None)),
+        numbers_of(alloc, &trusted, "*") == Some((0, 0, won)),
+        numbers_of(alloc, &trusted, "").is_none(),
+    ];
+    expect_none(&rt, first_false(&holds));
 }

@@ -1,10 +1,10 @@
 //! What happens at a board's cable, with its bytes: what the board is sent, and which bytes the game gets.
 
+use crate::coded_frames::expect_none;
 use board_asking::Handling;
 use board_cable::What::{Begins, Closes, Hears, Interrupts, Lends, Opens, Owns, Takes, Wakes};
 use board_cable::{Answer, Cable, Happened, What};
 use std::alloc::{AllocError, Global};
-use std::process::Abort;
 
 const OWN: [u8; 5] = *b"01234";
 
@@ -251,35 +251,35 @@ fn released_of(alloc: Global, size: usize) -> Result<usize, AllocError> {
     Ok(cable.released().len())
 }
 
-fn expect(rt: &impl Abort, alloc: Global, name: &str, rows: &[Row<'_>]) {
-    let wrong = first_wrong(alloc, rows);
-    assert!(rt; matches!(wrong, Ok(0)), "{name}");
-}
-
-fn expect_released(rt: &impl Abort, alloc: Global, size: usize, left: usize) {
-    let released = released_of(alloc, size);
-    assert!(rt; matches!(released, Ok(n) if n == left), "{size}");
+/// The number of the first rows that aren't as they say.
+fn first_unlike(alloc: Global, all: &[&[Row<'_>]]) -> Option<usize> {
+    for (i, rows) in all.iter().enumerate() {
+        if first_wrong(alloc, rows) != Ok(0) {
+            return Some(i);
+        }
+    }
+    None
 }
 
 #[test]
 fn each_answer_is_as_it_says(rt: HostRuntime) {
-    expect(&rt, rt.alloc(), "its own", &ITS_OWN);
-    expect(&rt, rt.alloc(), "its first", &ITS_FIRST);
-    expect(&rt, rt.alloc(), "taken", &TAKEN);
-    expect(&rt, rt.alloc(), "none taken", &NONE_TAKEN);
-    expect(&rt, rt.alloc(), "lent", &LENT);
-    expect(&rt, rt.alloc(), "third", &THIRD);
-    expect(&rt, rt.alloc(), "its own again", &ITS_OWN_AGAIN);
-    expect(&rt, rt.alloc(), "no number", &NO_NUMBER);
-    expect(&rt, rt.alloc(), "unplugged", &UNPLUGGED);
-    expect(&rt, rt.alloc(), "faults", &FAULTS);
-    expect(&rt, rt.alloc(), "added", &ADDED);
-    expect(&rt, rt.alloc(), "storm", &STORM);
-    expect(&rt, rt.alloc(), "history", &HISTORY);
-}
-
-#[test]
-fn more_than_a_mebibyte_is_dropped(rt: HostRuntime) {
-    expect_released(&rt, rt.alloc(), 1_048_576, 1_048_576);
-    expect_released(&rt, rt.alloc(), 1_048_577, 0);
+    let all: [&[Row<'_>]; 13] = [
+        &ITS_OWN,
+        &ITS_FIRST,
+        &TAKEN,
+        &NONE_TAKEN,
+        &LENT,
+        &THIRD,
+        &ITS_OWN_AGAIN,
+        &NO_NUMBER,
+        &UNPLUGGED,
+        &FAULTS,
+        &ADDED,
+        &STORM,
+        &HISTORY,
+    ];
+    expect_none(&rt, first_unlike(rt.alloc(), &all));
+    // more than a mebibyte is dropped
+    let held = released_of(rt.alloc(), 1_048_576) == Ok(1_048_576);
+    assert!(rt; held && released_of(rt.alloc(), 1_048_577) == Ok(0));
 }

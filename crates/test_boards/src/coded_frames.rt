@@ -5,6 +5,16 @@ use arrayvec::ArrayVec;
 use dgt_frame::{BLANK, Decoder, Event, FaultKind, Message, encode};
 use std::process::Abort;
 
+/// The number of the first that doesn't hold.
+pub fn first_false(holds: &[bool]) -> Option<usize> {
+    for (i, holds) in holds.iter().enumerate() {
+        if !*holds {
+            return Some(i);
+        }
+    }
+    None
+}
+
 /// Fails with the number of the first row that isn't as it says, if there is one.
 pub fn expect_none(rt: &impl Abort, first: Option<usize>) {
     assert_eq!(rt; first, None);
@@ -142,12 +152,6 @@ fn first_not_pushed_into(streams: &[Stream<'_>]) -> Option<usize> {
     None
 }
 
-#[test]
-fn streams_show_their_events(rt: HostRuntime) {
-    expect_none(&rt, first_not_pushed(&STREAMS));
-    expect_none(&rt, first_not_pushed_into(&STREAMS));
-}
-
 /// Whether `push` and `push_into` show this message with the byte at this offset, which is the last, and nothing before
 /// it.
 fn is_message(bytes: &[u8], message: Message, last: u16) -> bool {
@@ -161,24 +165,6 @@ fn is_message(bytes: &[u8], message: Message, last: u16) -> bool {
     }
 }
 
-#[test]
-fn dumps_show_their_codes(rt: HostRuntime) {
-    assert!(rt; is_message(&INITIAL, Message::Dump(CODES), 66));
-}
-
-#[test]
-fn the_longest_frame_is_of_another_message(rt: HostRuntime) {
-    let mut bytes = [0u8; 16383];
-    bytes[0] = 0x93;
-    bytes[1] = 0x7F;
-    bytes[2] = 0x7F;
-    let longest = Message::Other {
-        id: 0x93,
-        size: 16383,
-    };
-    assert!(rt; is_message(&bytes, longest, 16382));
-}
-
 /// Whether `encode` replaces what `out` holds by this frame.
 fn encodes(message: &Message, frame: &[u8], out: &mut ArrayVec<u8, 67>) -> bool
     requires { IsEncodable message.now }
@@ -187,8 +173,24 @@ fn encodes(message: &Message, frame: &[u8], out: &mut ArrayVec<u8, 67>) -> bool
     out.as_slice() == frame
 }
 
-#[test]
-fn encode_writes_the_frame(rt: HostRuntime) {
+fn dumps_show_their_codes() -> bool {
+    is_message(&INITIAL, Message::Dump(CODES), 66)
+}
+
+/// The longest frame is of another message.
+fn the_longest_frame_is_shown() -> bool {
+    let mut bytes = [0u8; 16383];
+    bytes[0] = 0x93;
+    bytes[1] = 0x7F;
+    bytes[2] = 0x7F;
+    let longest = Message::Other {
+        id: 0x93,
+        size: 16383,
+    };
+    is_message(&bytes, longest, 16382)
+}
+
+fn frames_are_written() -> bool {
     let dump = Message::Dump(CODES);
     let update = Message::Update {
         field: 63,
@@ -196,7 +198,19 @@ fn encode_writes_the_frame(rt: HostRuntime) {
     };
     let time = Message::Time([0x01, 0x30, 0x00, 0x01, 0x29, 0x59, 0x7F]);
     let mut out: ArrayVec<u8, 67> = ArrayVec::new();
-    assert!(rt; encodes(&dump, &INITIAL, &mut out));
-    assert!(rt; encodes(&update, b"\x8E\x00\x05\x3F\x0F", &mut out));
-    assert!(rt; encodes(&time, b"\x8D\x00\x0A\x01\x30\x00\x01\x29\x59\x7F", &mut out));
+    encodes(&dump, &INITIAL, &mut out)
+        && encodes(&update, b"\x8E\x00\x05\x3F\x0F", &mut out)
+        && encodes(&time, b"\x8D\x00\x0A\x01\x30\x00\x01\x29\x59\x7F", &mut out)
+}
+
+#[test]
+fn frames_are_shown_and_written(rt: HostRuntime) {
+    let holds = [
+        first_not_pushed(&STREAMS).is_none(),
+        first_not_pushed_into(&STREAMS).is_none(),
+        dumps_show_their_codes(),
+        the_longest_frame_is_shown(),
+        frames_are_written(),
+    ];
+    expect_none(&rt, first_false(&holds));
 }

@@ -3,6 +3,7 @@
 ghost use Rattle.std.specs.Prelude.{OnOk};
 ghost use Rattle.board_game.specs.Games.{HasBegun};
 
+use crate::coded_frames::{expect_none, first_false};
 use board_captures::Method;
 use board_game::Game;
 use board_standing::Heard::{Begins, Plugs, Unplugs};
@@ -143,12 +144,6 @@ fn is_reported(alloc: Global, recovers: bool, came: &[Came<'_>], texts: &[&str])
     rest.is_empty()
 }
 
-#[test]
-fn what_comes_is_reported_with_the_offsets_of_the_capture(rt: HostRuntime) {
-    assert!(rt; is_reported(rt.alloc(), false, &HIDDEN, &[SHOWN]));
-    assert!(rt; is_reported(rt.alloc(), true, &HIDDEN, &[SHOWN, PUT_IN]));
-}
-
 /// Both kings on light squares of the centre: White wins.
 const KINGS: Came<'static> = Sent(Dump("rnbq1bnr/pppppppp/8/3k4/4K3/8/PPPP1PPP/RNBQ1BNR"));
 
@@ -259,32 +254,37 @@ fn stands(alloc: Global, row: &Row<'_>) -> bool {
     state_of(alloc, row.1, row.2) == Some(expected)
 }
 
-#[test]
-fn boards_stand(rt: HostRuntime) {
-    for row in &ROWS {
-        assert!(rt; stands(rt.alloc(), row), "{}", row.0);
+/// The number of the first row of which the board stands otherwise.
+fn first_unlike(alloc: Global) -> Option<usize> {
+    for (i, row) in ROWS.iter().enumerate() {
+        if !stands(alloc, row) {
+            return Some(i);
+        }
     }
-    assert!(rt; stands(rt.alloc(), &OTHER), "{}", OTHER.0);
+    None
 }
 
-/// The state of the put-in plies: with the pair the board agrees, and without it differs on six squares.
+/// With the pair that is put in the board agrees.
+fn pairs_are_heard(alloc: Global) -> bool {
+    let mut lines = Vec::new(alloc);
+    match follow(alloc, true, &HIDDEN, &mut lines) {
+        Ok(game) => game.state(10_000).kind == Kind::Agrees,
+        Err(_) => false,
+    }
+}
+
 #[test]
-fn pairs_are_heard(rt: HostRuntime) {
-    let mut lines = Vec::new(rt.alloc());
-    let kind = match follow(rt.alloc(), true, &HIDDEN, &mut lines) {
-        Ok(game) => Some(game.state(10_000).kind),
-        Err(_) => None,
-    };
-    assert!(rt; kind == Some(Kind::Agrees));
-    assert!(rt;
-        stands(
-            rt.alloc(),
-            &(
-                "hidden",
-                &HIDDEN,
-                10_000,
-                (Kind::InHand, Some(5_000), SIX, None)
-            )
-        )
-    );
+fn games_are_reported_and_boards_stand(rt: HostRuntime) {
+    let alloc = rt.alloc();
+    let alone = (Kind::InHand, Some(5_000), SIX, None);
+    let holds = [
+        is_reported(alloc, false, &HIDDEN, &[SHOWN]),
+        is_reported(alloc, true, &HIDDEN, &[SHOWN, PUT_IN]),
+        first_unlike(alloc).is_none(),
+        stands(alloc, &OTHER),
+        pairs_are_heard(alloc),
+        // without it the board differs on six squares
+        stands(alloc, &("hidden", &HIDDEN, 10_000, alone)),
+    ];
+    expect_none(&rt, first_false(&holds));
 }

@@ -1,5 +1,6 @@
 //! What may be wrong with a board that shows something else, worked by hand.
 
+use crate::coded_frames::{expect_none, first_false};
 use board_standing::Heard::{self, Moves, Plugs, Repeats, Shows, Unplugs};
 use board_standing::Hint::{OtherBoard, TurnedRound};
 use board_standing::{Event, Hint, Kind, Picture, Standing, State};
@@ -138,22 +139,33 @@ fn is_right(heard: &[Heard], hint: Option<Hint>) -> bool {
     state.hint == hint && state.is_alarm() == hint.is_some()
 }
 
-#[test]
-fn boards_that_may_be_wrong_are_named(rt: HostRuntime) {
-    for rows in [TURNED_ROUND.as_slice(), OTHER_BOARD.as_slice()] {
-        for row in rows {
-            assert!(rt; is_right(row.1, row.2), "{}", row.0);
+/// The number of the first row whose board is named otherwise.
+fn first_unlike(rows: &[Row<'_>]) -> Option<usize> {
+    for (i, row) in rows.iter().enumerate() {
+        if !is_right(row.1, row.2) {
+            return Some(i);
         }
     }
+    None
 }
 
-#[test]
-fn what_is_in_a_hand_before_a_game_is_being_set_up(rt: HostRuntime) {
+/// What is in a hand before a game is being set up.
+fn is_set_up_before_a_game() -> bool {
     let waits = state_of(&[]).before_game();
     let lifted = state_of(&[START, WITHOUT_FIVE]).before_game();
     let stands = state_of(&[START]).before_game();
-    assert!(rt;
-        waits.kind == Kind::SettingUp && lifted.kind == Kind::SettingUp && lifted.squares == 0
-    );
-    assert!(rt; stands.kind == Kind::Agrees);
+    waits.kind == Kind::SettingUp
+        && lifted.kind == Kind::SettingUp
+        && lifted.squares == 0
+        && stands.kind == Kind::Agrees
+}
+
+#[test]
+fn boards_that_may_be_wrong_are_named(rt: HostRuntime) {
+    let holds = [
+        first_unlike(&TURNED_ROUND).is_none(),
+        first_unlike(&OTHER_BOARD).is_none(),
+        is_set_up_before_a_game(),
+    ];
+    expect_none(&rt, first_false(&holds));
 }

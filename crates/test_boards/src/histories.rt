@@ -1,12 +1,12 @@
 //! What happens one after the other, and what is seen then: when a board is silent, what an addition changes, and whose board
 //! it is.
 
+use crate::coded_frames::expect_none;
 use board_asking::Happening::{
     Answers, Asks, Begins, Closes, Comes, Dumps, Faults, HangsUp, Interrupts, Numbers, Opens, Owns,
     Updates,
 };
 use board_asking::{Asking, Event, Handling, Happening, Request, serial_in};
-use std::process::Abort;
 
 const EMPTY: [u8; 64] = [0; 64];
 
@@ -306,33 +306,46 @@ fn is_serial(row: &(u8, &[u8], &str)) -> bool {
     }
 }
 
-fn expect(rt: &impl Abort, name: &str, steps: &[Step<'_>]) {
-    assert_eq!(rt; first_wrong(steps), 0, "{name}");
-}
-
-#[test]
-fn each_step_is_as_it_says(rt: HostRuntime) {
-    expect(&rt, "never answers", &NEVER_ANSWERS);
-    expect(&rt, "called again", &CALLED_AGAIN);
-    expect(&rt, "stopped", &STOPPED);
-    expect(&rt, "added", &ADDED);
-    expect(&rt, "added in a dump", &ADDED_IN_A_DUMP);
-    expect(&rt, "history", &HISTORY);
-    expect(&rt, "then its own", &THEN_ITS_OWN);
-    expect(&rt, "then none", &THEN_NONE);
-    expect(&rt, "behind two dumps", &BEHIND_TWO_DUMPS);
-    expect(&rt, "no number", &NO_NUMBER);
-    expect(&rt, "no answer", &NO_ANSWER);
-    expect(&rt, "its own", &ITS_OWN);
-    expect(&rt, "another board", &ANOTHER_BOARD);
-    expect(&rt, "taken", &TAKEN);
-    expect(&rt, "three dumps", &THREE_DUMPS);
-    expect(&rt, "server", &SERVER);
-}
-
-#[test]
-fn numbers_have_five_characters(rt: HostRuntime) {
-    for row in &SERIALS {
-        assert!(&rt; is_serial(row), "{}", row.2);
+/// The number of the first steps that aren't as they say.
+fn first_unlike(all: &[&[Step<'_>]]) -> Option<usize> {
+    for (i, steps) in all.iter().enumerate() {
+        if first_wrong(steps) != 0 {
+            return Some(i);
+        }
     }
+    None
+}
+
+/// The number of the first message whose number is another one.
+fn first_other_serial() -> Option<usize> {
+    for (i, row) in SERIALS.iter().enumerate() {
+        if !is_serial(row) {
+            return Some(i);
+        }
+    }
+    None
+}
+
+#[test]
+fn each_step_and_number_is_as_it_says(rt: HostRuntime) {
+    let all: [&[Step<'_>]; 16] = [
+        &NEVER_ANSWERS,
+        &CALLED_AGAIN,
+        &STOPPED,
+        &ADDED,
+        &ADDED_IN_A_DUMP,
+        &HISTORY,
+        &THEN_ITS_OWN,
+        &THEN_NONE,
+        &BEHIND_TWO_DUMPS,
+        &NO_NUMBER,
+        &NO_ANSWER,
+        &ITS_OWN,
+        &ANOTHER_BOARD,
+        &TAKEN,
+        &THREE_DUMPS,
+        &SERVER,
+    ];
+    expect_none(&rt, first_unlike(&all));
+    expect_none(&rt, first_other_serial());
 }

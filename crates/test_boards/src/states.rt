@@ -1,5 +1,6 @@
 //! What is heard of a board, and what is read of it at which time, worked by hand.
 
+use crate::coded_frames::{expect_none, first_false};
 use crate::words::Word::{
     Agrees, Answers, Begins, Differs, Ends, Moves, Plugs, Reopens, Repeats, Stops, Unplugs,
 };
@@ -312,37 +313,24 @@ fn is_read(heard: &[(u64, Word<'_>)], reading: &Reading<'_>) -> bool {
         && state.hint.is_none()
 }
 
-/// The first time at which something else is read.
-fn wrong_in(case: &Case<'_>) -> Option<u64> {
+/// Whether at each time that is read.
+fn are_read(case: &Case<'_>) -> bool {
     for reading in case.read {
         if !is_read(case.heard, reading) {
-            return Some(reading.0);
+            return false;
+        }
+    }
+    true
+}
+
+/// The number of the first case of which something else is read.
+fn first_wrong(cases: &[Case<'_>]) -> Option<usize> {
+    for (i, case) in cases.iter().enumerate() {
+        if !are_read(case) {
+            return Some(i);
         }
     }
     None
-}
-
-/// The name of the first case of which something else is read, and when.
-fn first_wrong<'a>(cases: &[Case<'a>]) -> Option<(&'a str, u64)> {
-    for case in cases {
-        if let Some(now) = wrong_in(case) {
-            return Some((case.name, now));
-        }
-    }
-    None
-}
-
-#[test]
-fn states_are_as_an_arbiter_reads_them(rt: HostRuntime) {
-    for cases in [
-        HANDS.as_slice(),
-        SET_UPS.as_slice(),
-        RESULTS.as_slice(),
-        LINES.as_slice(),
-    ] {
-        let wrong = first_wrong(cases);
-        assert!(rt; wrong.is_none(), "{wrong:?}");
-    }
 }
 
 /// A time, and when the state becomes another one if nothing is heard.
@@ -365,13 +353,6 @@ fn is_due(row: (u64, Option<u64>)) -> bool {
     standing_at(&LIFTED, now).due(now) == due
 }
 
-#[test]
-fn states_are_due(rt: HostRuntime) {
-    for row in &DUE {
-        assert!(rt; is_due(*row), "at {}", row.0);
-    }
-}
-
 /// A time and the one before it; whether the state is news then, and an alarm.
 static NEWS: [(u64, u64, bool, bool); 5] = [
     (7_000, 8_000, false, false),
@@ -388,9 +369,36 @@ fn is_told(row: (u64, u64, bool, bool)) -> bool {
     state.is_news(before) == is_news && state.is_alarm() == is_alarm
 }
 
-#[test]
-fn what_only_lasts_is_no_news(rt: HostRuntime) {
-    for row in &NEWS {
-        assert!(rt; is_told(*row), "at {}", row.1);
+/// The number of the first row at whose time the state becomes another one at another time.
+fn first_other_due() -> Option<usize> {
+    for (i, row) in DUE.iter().enumerate() {
+        if !is_due(*row) {
+            return Some(i);
+        }
     }
+    None
+}
+
+/// The number of the first row that is told otherwise.
+fn first_other_news() -> Option<usize> {
+    for (i, row) in NEWS.iter().enumerate() {
+        if !is_told(*row) {
+            return Some(i);
+        }
+    }
+    None
+}
+
+#[test]
+fn states_are_as_an_arbiter_reads_them(rt: HostRuntime) {
+    let holds = [
+        first_wrong(&HANDS).is_none(),
+        first_wrong(&SET_UPS).is_none(),
+        first_wrong(&RESULTS).is_none(),
+        first_wrong(&LINES).is_none(),
+        first_other_due().is_none(),
+        // what only lasts is no news
+        first_other_news().is_none(),
+    ];
+    expect_none(&rt, first_false(&holds));
 }

@@ -1,9 +1,9 @@
 //! Files of times: what is read of them, and whether they belong to a capture. The digest of no byte is the start of FNV-1a;
 //! those of `a` and `foobar` are in its authors' list.
 
+use crate::coded_frames::{expect_none, first_false};
 use board_times::{Fit, Found, Kept, digest, event_text, fit_of, heading_text, read_times};
 use std::alloc::{AllocError, Global};
-use std::process::Abort;
 
 static DIGESTS: [(&str, u64); 3] = [
     ("", 0xcbf2_9ce4_8422_2325),
@@ -174,24 +174,43 @@ fn does_fit(alloc: Global, row: &(&str, &str, &str, u64)) -> bool {
     }
 }
 
-fn expect(rt: &impl Abort, holds: bool, text: &str) {
-    assert!(rt; holds, "{text}");
+/// The number of the first file of which something else is read.
+fn first_unlike(alloc: Global) -> Option<usize> {
+    for (i, row) in FILES.iter().enumerate() {
+        if !is_found(alloc, row) {
+            return Some(i);
+        }
+    }
+    None
+}
+
+/// The number of the first file that fits otherwise.
+fn first_misfit(alloc: Global) -> Option<usize> {
+    for (i, row) in FITS.iter().enumerate() {
+        if !does_fit(alloc, row) {
+            return Some(i);
+        }
+    }
+    None
+}
+
+/// The number of the first text with another digest.
+fn first_other_digest() -> Option<usize> {
+    for (i, (text, value)) in DIGESTS.iter().enumerate() {
+        if digest(text.as_bytes()) != *value {
+            return Some(i);
+        }
+    }
+    None
 }
 
 #[test]
-fn files_are_read_whatever_they_have(rt: HostRuntime) {
-    for row in &FILES {
-        expect(&rt, is_found(rt.alloc(), row), row.0);
-    }
-    expect(&rt, is_written_again(rt.alloc(), FILES[14].0), "again");
-}
-
-#[test]
-fn files_fit_their_captures(rt: HostRuntime) {
-    for row in &FITS {
-        expect(&rt, does_fit(rt.alloc(), row), row.0);
-    }
-    for (text, value) in &DIGESTS {
-        expect(&rt, digest(text.as_bytes()) == *value, *text);
-    }
+fn files_are_read_and_fit_their_captures(rt: HostRuntime) {
+    let holds = [
+        first_unlike(rt.alloc()).is_none(),
+        is_written_again(rt.alloc(), FILES[14].0),
+        first_misfit(rt.alloc()).is_none(),
+        first_other_digest().is_none(),
+    ];
+    expect_none(&rt, first_false(&holds));
 }

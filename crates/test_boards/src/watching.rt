@@ -1,7 +1,7 @@
 //! Streams that fail as a script says: what a `Watch` tells of them, what is read of them and what is written.
 ghost use Rattle.std.specs.Prelude.{◌≤◌, IfOk};
 
-use crate::coded_frames::expect_none;
+use crate::coded_frames::{expect_none, first_false};
 use std::io::{self, ErrorKind, Read, Write};
 use watched_streams::{
     CHUNK, ReadChunk, Watch, WriteFault, flush_unless_failed, put, put_and_flush, read_chunk,
@@ -88,13 +88,6 @@ fn watched<'a>(answers: &'a [Result<usize, ErrorKind>]) -> Watch<Scripted<'a>> {
     Watch::new(Scripted { answers, calls: 0 })
 }
 
-#[test]
-fn reads_are_watched(rt: HostRuntime) {
-    let mut reader = watched(&READS);
-    assert!(rt; !reader.failed());
-    expect_none(&rt, first_unlike_read(&mut reader));
-}
-
 static WRITES: [Result<usize, ErrorKind>; 6] = [
     Ok(3),
     Ok(0),
@@ -137,15 +130,6 @@ fn first_unlike_flush(stream: &mut Watch<Scripted<'_>>) -> Option<usize> {
     None
 }
 
-#[test]
-fn writes_are_watched(rt: HostRuntime) {
-    let mut writer = watched(&WRITES);
-    assert!(rt; !writer.failed());
-    expect_none(&rt, first_unlike_write(&mut writer));
-    let mut flushed = watched(&FLUSHES);
-    expect_none(&rt, first_unlike_flush(&mut flushed));
-}
-
 static WRITTEN_AND_FLUSHED: [Result<usize, ErrorKind>; 6] = [
     Ok(0),
     Ok(1),
@@ -181,13 +165,6 @@ fn first_unlike_waiting(stream: &mut Watch<Scripted<'_>>) -> Option<usize> {
     None
 }
 
-#[test]
-fn what_waits_for_a_flush_is_known(rt: HostRuntime) {
-    let mut stream = watched(&WRITTEN_AND_FLUSHED);
-    assert!(rt; !stream.unflushed());
-    expect_none(&rt, first_unlike_waiting(&mut stream));
-}
-
 static TAKEN: [Result<usize, ErrorKind>; 4] = [Ok(3), Ok(3), Ok(3), Ok(3)];
 
 static CUT_OFF: [Result<usize, ErrorKind>; 2] = [Ok(3), Err(ErrorKind::BrokenPipe)];
@@ -202,34 +179,12 @@ fn puts_ten(
     put(&mut out, b"0123456789") == expected && is_after(&out, calls, expected.is_err())
 }
 
-#[test]
-fn texts_are_put_whole(rt: HostRuntime) {
-    assert!(rt; puts_ten(&TAKEN, 4, Ok(())));
-    assert!(rt; puts_ten(&CUT_OFF, 2, Err(WriteFault { written: 3 })));
-    assert!(rt; puts_ten(&[], 1, Err(WriteFault { written: 0 })));
-}
-
 static UNFLUSHED: [Result<usize, ErrorKind>; 2] = [Ok(10), Err(ErrorKind::BrokenPipe)];
 
 /// Ten bytes are put on this stream and flushed, by so many calls, or not.
 fn flushes_ten(answers: &[Result<usize, ErrorKind>], calls: usize, succeeds: bool) -> bool {
     let mut out = Watch::new(Scripted { answers, calls: 0 });
     put_and_flush(&mut out, b"0123456789") == succeeds && is_after(&out, calls, !succeeds)
-}
-
-#[test]
-fn texts_are_put_and_flushed(rt: HostRuntime) {
-    assert!(rt; flushes_ten(&TAKEN, 5, true));
-    assert!(rt; flushes_ten(&CUT_OFF, 2, false));
-    assert!(rt; flushes_ten(&UNFLUSHED, 2, false));
-}
-
-#[test]
-fn a_stream_that_failed_is_left_alone(rt: HostRuntime) {
-    let mut works = watched(&FLUSHES);
-    assert!(rt; flush_unless_failed(&mut works) && is_after(&works, 1, false));
-    assert!(rt; !flush_unless_failed(&mut works) && is_after(&works, 2, true));
-    assert!(rt; !flush_unless_failed(&mut works) && is_after(&works, 2, true));
 }
 
 static OFFERED: [Result<usize, ErrorKind>; 6] = [
@@ -278,8 +233,34 @@ fn first_unlike_chunk(reader: &mut Watch<Scripted<'_>>) -> Option<usize> {
     None
 }
 
+/// After a flush that fails the stream is left alone.
+fn is_left_alone(works: &mut Watch<Scripted<'_>>) -> bool {
+    let first = flush_unless_failed(works) && is_after(works, 1, false);
+    let second = !flush_unless_failed(works) && is_after(works, 2, true);
+    first && second && !flush_unless_failed(works) && is_after(works, 2, true)
+}
+
 #[test]
-fn chunks_end_at_the_limit(rt: HostRuntime) {
-    let mut reader = watched(&OFFERED);
-    expect_none(&rt, first_unlike_chunk(&mut reader));
+fn streams_are_watched(rt: HostRuntime) {
+    let holds = [
+        !watched(&READS).failed(),
+        first_unlike_read(&mut watched(&READS)).is_none(),
+        !watched(&WRITES).failed(),
+        first_unlike_write(&mut watched(&WRITES)).is_none(),
+        first_unlike_flush(&mut watched(&FLUSHES)).is_none(),
+        // what waits for a flush is known
+        !watched(&WRITTEN_AND_FLUSHED).unflushed(),
+        first_unlike_waiting(&mut watched(&WRITTEN_AND_FLUSHED)).is_none(),
+        // texts are put whole, and flushed
+        puts_ten(&TAKEN, 4, Ok(())),
+        puts_ten(&CUT_OFF, 2, Err(WriteFault { written: 3 })),
+        puts_ten(&[], 1, Err(WriteFault { written: 0 })),
+        flushes_ten(&TAKEN, 5, true),
+        flushes_ten(&CUT_OFF, 2, false),
+        flushes_ten(&UNFLUSHED, 2, false),
+        is_left_alone(&mut watched(&FLUSHES)),
+        // chunks end at the limit
+        first_unlike_chunk(&mut watched(&OFFERED)).is_none(),
+    ];
+    expect_none(&rt, first_false(&holds));
 }
