@@ -1,5 +1,5 @@
 #!/usr/bin/env bash
-# Compares what pgn_book writes with Debian's pgn-extract, which is installed where it is missing: a hundred games of random
+# Compares what `record` writes with Debian's pgn-extract, which is installed where it is missing: a hundred games of random
 # legal moves from five starts. pgn-extract reads each game without a complaint, writes the same SAN and results, and
 # finds the same squares for every move. Outside the gate, since it needs the network once.
 set -euo pipefail
@@ -10,11 +10,7 @@ trap 'rm -rf "$work"' EXIT
 
 tests/outside.py install pgn-extract
 extract=$(tests/outside.py path pgn-extract)
-(cd crates/bench_calls && rt run -- games texts 1 > "$work/build.log")
-program=crates/bench_calls/out/bench_calls
-
-"$program" games texts "$count" > "$work/games.pgn"
-"$program" games squares "$count" > "$work/squares"
+bench/random_games.py "$count" "$work"
 
 # silent but for complaints
 "$extract" -s "$work/games.pgn" -w1000000 -o "$work/san.pgn" 2> "$work/complaints"

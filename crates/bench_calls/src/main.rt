@@ -1,9 +1,8 @@
 //! Calls of the libraries, many times over, for the scripts in bench/: `bench_calls rules`; `bench_calls san write 100`
 //! or `read`, of the game on standard input; `bench_calls settling pictures 1000`, `updates` or `plies`, and as a
-//! yardstick `copy`; `bench_calls games texts 100` or `squares`. Without arguments what has a known answer.
+//! yardstick `copy`. Without arguments what has a known answer.
 #![tactic(auto)]
 
-mod games;
 mod rules;
 mod san;
 mod settling;
@@ -27,7 +26,6 @@ fn run(rt: &HostRuntime, what: &str, task: &str, count: u32) -> io::Result<bool>
         "rules" => rules::run(rt),
         "san" => san::run(rt, task, count),
         "settling" => settling::run(rt, task, count),
-        "games" => games::run(rt, task, count),
         _ => Ok(false),
     }
 }

@@ -6,8 +6,7 @@ use std::alloc::{AllocError, Global};
 use std::io;
 
 /// A middle game with every kind of move, known for its counts.
-pub const MIDDLE_GAME: &str =
-    "r3k2r/p1ppqpb1/bn2pnp1/3PN3/1p2P3/2N2Q1p/PPPBBPPP/R3K2R w KQkq - 0 1";
+const MIDDLE_GAME: &str = "r3k2r/p1ppqpb1/bn2pnp1/3PN3/1p2P3/2N2Q1p/PPPBBPPP/R3K2R w KQkq - 0 1";
 
 /// How many lines of `depth` legal moves there are, at least one move long. The last moves are counted and not played.
 fn lines(alloc: Global, position: &Position, depth: u8) -> Result<u64, AllocError> {

@@ -4,6 +4,7 @@
 use arrayvec::ArrayString;
 use chess_rules::{Move, Position};
 use chess_text::{read_san, write_san};
+use std::alloc::{AllocError, Global};
 use std::io;
 
 /// A move, the position before it and its text.
@@ -58,14 +59,11 @@ fn counted(plies: &[Ply], what: &str, rounds: u32) -> usize {
     count
 }
 
-/// Prints how many bytes were written, or texts read. False where a text is no legal move.
-pub fn run(rt: &HostRuntime, what: &str, rounds: u32) -> io::Result<bool> {
-    let game = io::read_to_string(rt.alloc(), rt.stdin())?;
-    let mut plies = Vec::new(rt.alloc());
+/// Adds the plies of a game. False where a text is no legal move.
+fn add_plies(game: &str, plies: &mut Vec<Ply>) -> Result<bool, AllocError> {
     let mut position = Position::initial();
     for text in game.split_whitespace() {
         let Ok(mv) = read_san(&position, text.as_bytes()) else {
-            println!(rt; "no legal move: {text}")?;
             return Ok(false);
         };
         if let Some(ply) = ply_of(&position, &mv, text) {
@@ -73,7 +71,25 @@ pub fn run(rt: &HostRuntime, what: &str, rounds: u32) -> io::Result<bool> {
         }
         position = position.play(mv);
     }
-    let count = counted(&plies, what, rounds);
-    println!(rt; "{} plies, {rounds} rounds, {what} {count}", plies.len())?;
+    Ok(true)
+}
+
+/// How many plies a game has, and how many bytes were written, or texts read, in so many rounds. None where a text is no legal
+/// move, or where there is no memory.
+fn done(alloc: Global, game: &str, what: &str, rounds: u32) -> Option<(usize, usize)> {
+    let mut plies = Vec::new(alloc);
+    if add_plies(game, &mut plies) != Ok(true) {
+        return None;
+    }
+    Some((plies.len(), counted(&plies, what, rounds)))
+}
+
+/// Prints how many bytes were written, or texts read. False where a text is no legal move.
+pub fn run(rt: &HostRuntime, what: &str, rounds: u32) -> io::Result<bool> {
+    let game = io::read_to_string(rt.alloc(), rt.stdin())?;
+    let Some((plies, count)) = done(rt.alloc(), &game, what, rounds) else {
+        return Ok(false);
+    };
+    println!(rt; "{plies} plies, {rounds} rounds, {what} {count}")?;
     Ok(true)
 }

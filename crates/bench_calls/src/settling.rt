@@ -1,4 +1,6 @@
 //! Work for settlers, in numbers of pictures.
+ghost use Rattle.std.specs.Prelude.{All, ◌<◌};
+
 use chess_rules::{Move, Position, Square};
 use settle_core::{Seen, Settler};
 use std::alloc::{AllocError, Global};
@@ -30,24 +32,37 @@ fn is_waiting(seen: &Seen) -> bool {
     matches!(seen, Seen::Waits)
 }
 
-/// Shows by turns the pictures after two moves and after two other moves; how many waited.
-fn waiting_pictures(alloc: Global, count: u32) -> Result<u32, AllocError> {
-    let start = Position::initial();
-    let one = after(&after(&start, 52, 36), 12, 28).picture();
-    let other = after(&after(&start, 51, 35), 11, 27).picture();
-    let mut settler = Settler::new(alloc, start);
+/// Shows these pictures by turns; how many waited.
+fn show_by_turns(
+    settler: &mut Settler,
+    one: &[u8; 64],
+    other: &[u8; 64],
+    count: u32,
+) -> Result<u32, AllocError>
+    requires one { All (λ code. code < 16) one.now }
+    requires other { All (λ code. code < 16) other.now }
+{
     let mut waiting = 0u32;
     for turn in 0..count {
         let seen = if turn % 2 == 0 {
-            settler.see(&one, None)?
+            settler.see(one, None)?
         } else {
-            settler.see(&other, None)?
+            settler.see(other, None)?
         };
         if is_waiting(&seen) {
             waiting = waiting.saturating_add(1);
         }
     }
     Ok(waiting)
+}
+
+/// Shows by turns the pictures after two moves and after two other moves; how many waited.
+fn waiting_pictures(alloc: Global, count: u32) -> Result<u32, AllocError> {
+    let start = Position::initial();
+    let one = after(&after(&start, 52, 36), 12, 28).picture();
+    let other = after(&after(&start, 51, 35), 11, 27).picture();
+    let mut settler = Settler::new(alloc, start);
+    show_by_turns(&mut settler, &one, &other, count)
 }
 
 /// Lifts a pawn and puts it back, by turns; how many updates waited.
