@@ -1,8 +1,9 @@
 #!/usr/bin/env python3
 """delayed_starts.py [COUNT [AT_ONCE [SEED]]]: starts and ends a round that goes out some seconds late, so many times, 1,000 without COUNT,
 in AT_ONCE halls of two boards: by Ctrl-C, TERM, a kill of the recorder or of all its processes, at any moment from its start to a few
-seconds later. Moves are played meanwhile; now and then the list of what is hidden is lost, or older, as after a power cut. What goes
-out is read all the time: the first ply that is too young ends it with status 1.
+seconds later. A further output goes out later than the round, and is left out now and then. Moves are played meanwhile; now and then
+the list of what is hidden is lost, or older, as after a power cut. What goes out is read all the time: the first ply that is too young
+ends it with status 1.
 
 Last it prints how many starts there were, by what they were ended, how many were not open by then, and how many texts were seen.
 """
@@ -16,7 +17,7 @@ import subprocess
 import sys
 import tempfile
 import time
-from typing import Counter, List, Optional
+from typing import Counter, Dict, List
 
 TOP = pathlib.Path(__file__).resolve().parents[1]
 sys.dont_write_bytecode = True
@@ -26,7 +27,8 @@ from played.stage import Stage, bytes_of, rest, until  # noqa: E402
 from rounds.hall import Hall, agrees, moves, text  # noqa: E402
 from rounds.witness import Witness  # noqa: E402
 
-DELAY = 0.1  # minutes
+DELAY, LATER = 0.1, 0.17  # minutes
+OUTPUT = "later"
 LONGEST = 3.0  # seconds of a call, from its start, or from when its boards agree
 PATIENCE = 600.0  # seconds in which a call agrees, or ends
 ENDS = ("Ctrl-C", "TERM", "the recorder killed", "all killed")
@@ -54,13 +56,16 @@ class Trial:
         place = self._folder / str(self._rounds)
         place.mkdir()
         self._hall, self._plies = Hall(place, 2), [0, 0]
-        self._witness = Witness(time.monotonic, DELAY * 60, self._hall.games / "broadcast.pgn")
-        self._witness.begin()
-        self._old: Optional[bytes] = None
+        places = ((DELAY, "broadcast.pgn"), (LATER, f"output-{OUTPUT}/broadcast.pgn"))
+        self._witnesses = [Witness(time.monotonic, delay * 60, self._hall.games / name) for delay, name in places]
+        for witness in self._witnesses:
+            witness.begin()
+        self._old: Dict[str, bytes] = {}
 
     def _end_round(self) -> None:
-        self._witness.end()
-        self.seen += len(self._witness.seen)
+        for witness in self._witnesses:
+            witness.end()
+            self.seen += len(witness.seen)
         for board in self._hall.boards:
             board.end()
             Stage.boards.remove(board)
@@ -70,24 +75,25 @@ class Trial:
         for number in (0, 1):
             plies = self._plies[number]
             if plies < len(moves(number)) and self._hall.text(number + 1) in (front(number, plies), "" if plies == 0 else "-"):
-                self._witness.plays(front(number, plies + 1))
+                for witness in self._witnesses:
+                    witness.plays(front(number, plies + 1))
                 self._hall.boards[number].play(moves(number)[plies])
                 self._plies[number] += 1
 
     def _spoil(self) -> None:
-        """The list of what is hidden is lost, or older."""
-        path = pathlib.Path(self._hall.name(1) + ".delayed")
-        chance = self._random.random()
-        if not path.parent.exists():
-            return  # it was killed before that
-        if chance < 0.05:
-            path.unlink(missing_ok=True)
-        elif chance < 0.1:
-            path.write_bytes(b"")
-        elif chance < 0.15 and self._old is not None:
-            path.write_bytes(self._old)
-        elif chance < 0.3:
-            self._old = bytes_of(path) or None
+        """The list of what is hidden is lost, or older, that of the round or of the other output."""
+        for name in ("01.delayed", f"output-{OUTPUT}/01.delayed"):
+            path, chance = self._hall.games / name, self._random.random()
+            if not path.parent.exists():
+                continue  # it was killed before that
+            if chance < 0.05:
+                path.unlink(missing_ok=True)
+            elif chance < 0.1:
+                path.write_bytes(b"")
+            elif chance < 0.15 and name in self._old:
+                path.write_bytes(self._old[name])
+            elif chance < 0.3 and bytes_of(path):
+                self._old[name] = bytes_of(path)
 
     def start(self) -> None:
         """One start, and its end. If it waits for too long, that names the recorder's lines."""
@@ -100,6 +106,7 @@ class Trial:
 
     def _start(self) -> None:
         options = ["--delay", str(DELAY)] if self._random.random() < 0.3 or self._rounds_are_new() else []
+        options += ["--output", f"{OUTPUT}={LATER}"] if self._random.random() < 0.9 else []
         live = self._hall.record(*options)
         if self._random.random() < 0.6:
             until(lambda: all(agrees(live, number) for number in (1, 2)), "that both boards agree")

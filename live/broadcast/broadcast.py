@@ -1,9 +1,12 @@
 """What goes out of a round or of a single board: the published text, the command that carries it away, and what the spectators'
-page shows. All of it is delayed as wanted. Nothing else that spectators are served knows the games as they are now.
+page shows. All of it is delayed as wanted. Nothing else that spectators are served knows the games as they are now. A round may have
+several of them, each with files of its own; none knows of another.
 """
 
 from __future__ import annotations
 
+import contextlib
+import os
 from typing import Callable, Dict, Iterable, List, Optional, Protocol, Set, Tuple
 
 from live.beside import Worker
@@ -12,7 +15,7 @@ from live.broadcast.going_out import GoingOut
 from live.broadcast.late import Late
 from live.broadcast.publishing import Publisher
 from live.broadcast.view import Player, SpectatorBoard
-from live.game.files import AnyPath, Paths
+from live.game.files import AnyPath, Paths, folder_of, sync_folder
 from live.game.forfeits import told_to_readers
 from live.game.tags import published
 from live.guard import Guard, traced
@@ -120,6 +123,7 @@ class Broadcast:
         self._file: Optional[Published] = None
         self._publisher: Optional[Publisher] = None
         self._syncs: Optional[Worker] = None
+        self._make_folder()
         if self._place:
             self._file = Published(guard, self._place, self.text, self._hears.say)
             guard.opened(self._file.stop)
@@ -129,6 +133,14 @@ class Broadcast:
             if self._file:
                 self._file.on_written = self._publisher.changed
         guard.after(TICK, self._each_second)
+
+    def _make_folder(self) -> None:
+        """A named output has a folder of its own. If it can't be made, that is said of the text."""
+        folder = folder_of(self._place) if self._place and self._out.name else ""
+        if folder and not os.path.isdir(folder):
+            with contextlib.suppress(OSError):
+                os.mkdir(folder)
+                sync_folder(folder_of(folder))
 
     def _broke(self, error: Exception) -> None:
         """An error has ended it: it is begun again."""
@@ -165,6 +177,7 @@ class Broadcast:
 
     def _each_second(self) -> None:
         self._guard.after(TICK, self._each_second)
+        self._make_folder()
         if self._is_known:
             self._look()
 
@@ -260,13 +273,19 @@ class Broadcast:
         if self._publisher:
             self._publisher.changed()
 
+    @property
+    def told_of_alarm(self) -> str:
+        """That the text can't be carried away, and why; empty if it can."""
+        name = f"output {self._out.name}: " if self._out.name else ""
+        return f"{NOT_PUBLISHED}: {name}{self.alarm}" if self.alarm else ""
+
     def published(self, trouble: str) -> None:
         """A run of the command has ended, with what went wrong, or nothing."""
         before, self.alarm = self.alarm, trouble
         if trouble and not before:
             self.alarm_since = self._loop.now()
         if trouble and trouble != before:
-            self._hears.say(f"{NOT_PUBLISHED}: {trouble}; it is tried again")
+            self._hears.say(f"{self.told_of_alarm}; it is tried again")
         elif before and not trouble:
             self._hears.say(f"{self._place} is published again")
         if trouble != before:

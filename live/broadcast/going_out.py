@@ -18,23 +18,30 @@ LONGEST_FILE = 40  # bytes of the file that keeps it
 
 @dataclass(frozen=True)
 class GoingOut:
-    """`delay` is in seconds."""
+    """`delay` is in seconds; the first output of a round, and the only one of a single board, has no name."""
 
     delay: float = 0.0
     command: Tuple[str, ...] = ()
+    name: str = ""
+
+
+def seconds_in(text: str) -> Optional[float]:
+    """`15` minutes in seconds; None if the text is not such a number."""
+    front, dot, rest = text.partition(".")
+    is_number = (front + rest).isdecimal() and text.isascii() and len(text) < 9
+    seconds = float(text) * MINUTE if is_number else LONGEST + 1
+    return seconds if seconds <= LONGEST else None
 
 
 def read_delay(text: str) -> float:
     """`15` minutes in seconds. Refused if the text is not such a number."""
-    front, dot, rest = text.partition(".")
-    is_number = (front + rest).isdecimal() and text.isascii() and len(text) < 9
-    seconds = float(text) * MINUTE if is_number else LONGEST + 1
-    if seconds > LONGEST:
+    seconds = seconds_in(text)
+    if seconds is None:
         raise Refused(ARGUMENTS, f"--delay {text!r}: it is a number of minutes, as 15; 0 is for no delay")
     return seconds
 
 
-def read_command(text: str) -> Tuple[str, ...]:
+def read_command(text: str, option: str = "--publish") -> Tuple[str, ...]:
     """The words of a command. Refused if it has none."""
     import shlex  # only a few calls need it
 
@@ -46,7 +53,7 @@ def read_command(text: str) -> Tuple[str, ...]:
     else:
         why = "it is a command, as /home/anna/copy.sh"
     if not words:
-        raise Refused(ARGUMENTS, f"--publish: {why}")
+        raise Refused(ARGUMENTS, f"{option}: {why}")
     return words
 
 

@@ -20,14 +20,19 @@ import time
 from typing import List, Optional, Sequence, Tuple
 
 LOOK = 0.05  # seconds
+OF_AN_OUTPUT = "output-"  # as in live/game/file_names.py: this file is run alone
 SUBREAPER = 36  # PR_SET_CHILD_SUBREAPER of Linux: who loses his parent becomes a child of this process
 
 
 def name_of(path: str) -> bytes:
-    """A socket's name for a file. It has no file itself, and is free again however its owner ends."""
-    folder = os.stat(os.path.dirname(path) or ".")
-    last = hashlib.blake2b(os.fsencode(os.path.basename(path)), digest_size=8).hexdigest()
-    return f"\0dgt_publish-{folder.st_dev:x}-{folder.st_ino:x}-{last}".encode()
+    """A socket's name for a file. It has no file itself, and is free again however its owner ends. The folder of an output may be
+    removed and made anew meanwhile, so the one above it counts."""
+    place, last = os.path.split(path)
+    if os.path.basename(place).startswith(OF_AN_OUTPUT):
+        place, last = os.path.dirname(place), f"{os.path.basename(place)}/{last}"
+    folder = os.stat(place or ".")
+    digest = hashlib.blake2b(os.fsencode(last), digest_size=8).hexdigest()
+    return f"\0dgt_publish-{folder.st_dev:x}-{folder.st_ino:x}-{digest}".encode()
 
 
 def owner_of(name: bytes) -> int:

@@ -8,11 +8,16 @@ import shlex
 from dataclasses import dataclass, replace
 from typing import Dict, List, Optional, Sequence, Tuple
 
+from live.broadcast.broadcast import Broadcast
 from live.broadcast.going_out import GoingOut, delay_of, minutes, read_command, read_delay
+from live.broadcast.named_output import OPTION as OUTPUT
+from live.broadcast.named_output import (
+    Output, left_in, name_in, read_outputs, refuse_links, refuse_same_site, refuse_unknown, removed, told_of, without_those,
+)  # fmt: skip
 from live.doors import calls
 from live.doors.calls import LINGER, QUOTES, linger_of, refuse_both, refuse_hosts
 from live.doors.door import Outcome, through
-from live.game.file_names import ROUND
+from live.game.file_names import ROUND, is_of_an_output
 from live.game.files import LOCK_PATIENCE, Paths, text_of
 from live.game.game import keep_options, kept_options
 from live.game.opening import recordable, turned, unknown
@@ -39,7 +44,7 @@ from live.web.round_page import ArbiterView
 SEE_HELP = "see dgt_round --help"
 TAGS = ("--event", "--site", "--date", "--round")
 NEW, EMBED, WEB = "--new", "--embed", "--web"
-VALUED = (*TAGS, TAG, "--linger", "--page", "--page-host", "--arbiter-page", EMBED, WEB, "--delay", "--publish", ENCODING)
+VALUED = (*TAGS, TAG, "--linger", "--page", "--page-host", "--arbiter-page", EMBED, WEB, "--delay", "--publish", OUTPUT, ENCODING)
 HELP = """\
 usage: dgt_round FILE [FOLDER] [OPTION..]     a round of its own
        dgt_round CUP ROUND [OPTION..]         a round of a tournament
@@ -61,8 +66,8 @@ OPTION, kept: --event, --site, --date, --round with TEXT; --tag NAME=VALUE
   --page [ADDRESS:]PORT     a page for spectators, as --page 8000
   --page-host NAME, --arbiter-page [ADDRESS:]PORT   its names; the arbiter's
   --embed https://SITE, --web FOLDER   who may frame it; a site of files
-  --delay MINUTES           how late spectators and broadcast.pgn have it
-  --publish COMMAND         run with broadcast.pgn whenever that has changed
+  --delay MINUTES, --publish COMMAND   how late it goes out, and by what
+  --output 'NAME = MINUTES, COMMAND'   a further output; for more, once more
   --linger SECONDS, --encoding NAME, --recover, --strict, --version   see man
 """
 
@@ -79,6 +84,8 @@ class Asked:
     delay: Optional[float] = None  # seconds; None leaves it as it was
     publish: Tuple[str, ...] = ()  # a command
     web: str = ""  # the folder of the static site
+    outputs: Tuple[Output, ...] = ()  # beside the first one
+    known: Tuple[str, ...] = ()  # the names of outputs that the tournament's settings have
     encoding: str = ""  # of tables that aren't Unicode; empty if none is given
     tournament: Optional[Tournament] = None  # the one whose round is played
     new: bool = False  # the files of a tournament are to be made
@@ -93,6 +100,7 @@ def parse(arguments: Sequence[str]) -> Asked:
     words: List[str] = []
     values: Dict[str, str] = {}
     hosts: List[str] = []
+    outputs: List[str] = []
     is_new = False
     while left:
         word = left.pop(0)
@@ -109,6 +117,8 @@ def parse(arguments: Sequence[str]) -> Asked:
             value = value if equals else typed_value(option, left, SEE_HELP)
             if option == "--page-host":
                 hosts.append(value)
+            elif option == OUTPUT:
+                outputs.append(value)
             elif option == TAG:
                 words.append(assigned(TAG, typed_tag(value, SEE_HELP)))
             else:
@@ -130,6 +140,8 @@ def parse(arguments: Sequence[str]) -> Asked:
         raise Refused(ARGUMENTS, f"{EMBED} lets a site show the page, and there is none without --page PORT: {SEE_HELP}")
     delay, publish, encoding = (values.pop(option, None) for option in ("--delay", "--publish", ENCODING))
     words += [assigned(option, value) for option, value in values.items()]
+    named = read_outputs(outputs)
+    refuse_same_site(web, named)
     return Asked(
         plain[0],
         "".join(plain[1:]),
@@ -139,13 +151,14 @@ def parse(arguments: Sequence[str]) -> Asked:
         None if delay is None else read_delay(delay),
         () if publish is None else read_command(publish),
         web,
-        known_encoding(encoding) if encoding else "",
+        named,
+        encoding=known_encoding(encoding) if encoding else "",
         new=is_new,
     )
 
 
-def of_tournament(arguments: Sequence[str], tournament: Tournament) -> Asked:
-    """The round of a tournament: what its settings say, and what is typed in addition."""
+def of_tournament(arguments: Sequence[str], tournament: Tournament, typed: Sequence[Output]) -> Asked:
+    """The round of a tournament: what its settings say, and what is typed in addition, with these outputs."""
     table = tournament.table()
     words = tournament.words(table, VALUED, encoding_in(arguments))
     if RECOVER in arguments or STRICT in arguments:
@@ -154,13 +167,17 @@ def of_tournament(arguments: Sequence[str], tournament: Tournament) -> Asked:
         parse([*words, str(table)])
     except Refused as refused:
         raise Refused(REFUSED, f"{tournament.settings}: {refused.lines[0].replace(f': {SEE_HELP}', '')}") from None
+    known = tuple(filter(None, map(name_in, words)))
+    words = without_those(words, [output.name for output in typed])
     asked = parse([assigned("--round", str(tournament.number)), *words, *arguments])
-    return replace(asked, file=str(table), folder=tournament.games, tournament=tournament)
+    return replace(asked, file=str(table), folder=tournament.games, known=known, tournament=tournament)
 
 
 def folder_of(asked: Asked) -> Tuple[pathlib.Path, int]:
-    """The folder, made if necessary, and locked."""
+    """The folder, made if necessary, and locked. Refused if what is asked of its outputs can't be."""
     folder = pathlib.Path(asked.folder) if asked.folder else pathlib.Path(asked.file).parent
+    if is_of_an_output(str(folder)):
+        raise Refused(REFUSED, f"{folder} is the folder of an output of a round: choose another FOLDER")
     try:
         folder.mkdir(exist_ok=True)
         lock = os.open(folder, os.O_RDONLY | os.O_DIRECTORY)
@@ -170,6 +187,8 @@ def folder_of(asked: Asked) -> Tuple[pathlib.Path, int]:
         raise Refused(FAILED, f"you may not write in the folder {folder}: get the right to, or choose another FOLDER")
     if not locked(lock, LOCK_PATIENCE):
         raise Refused(REFUSED, f"{folder} is another dgt_round's: end that one, or choose another FOLDER")
+    refuse_unknown([output.name for output in asked.outputs if not output.out], [*asked.known, *left_in(folder)])
+    refuse_links(folder, asked.outputs)
     return folder, lock
 
 
@@ -218,12 +237,16 @@ def play(asked: Asked, program: Program, signals: Signals) -> Outcome:
     shown = given.written("--event") or file.stem
     event = "" if given.event == UNKNOWN else given.written("--event")
     title = ", ".join(filter(None, (event, given.round and f"round {given.round}"))) or file.stem
-    games = Round(loop, source, read, title, replace(hall, out=GoingOut(delay, asked.publish)))
+    told_of_removed = [removed(folder, output) for output in asked.outputs if not output.out]
+    told_of_named = [*filter(None, told_of_removed), *told_of(folder, asked.outputs, left_in(folder))]
+    games = Round(loop, source, read, title, replace(hall, out=GoingOut(delay, asked.publish), outputs=asked.outputs))
     if told:
         games.say(told)
     if late:
         stays = " as before; --delay 0 ends that" if asked.delay is None else ""
         games.say(f"spectators see the round {late} late{stays}")
+    for line in told_of_named:
+        games.say(line)
     try:
         if given.only(TAGS) != kept:
             keep_options(files, given.only(TAGS))
@@ -232,7 +255,7 @@ def play(asked: Asked, program: Program, signals: Signals) -> Outcome:
     except Refused as refused:  # the boards are recorded anyway
         games.say(refused.lines[0])
     arbiter = ArbiterView(shown, games.boards, games.trouble)
-    arbiter.is_unpublished = lambda: bool(games.broadcast.alarm)
+    arbiter.is_unpublished = lambda: bool(games.outputs.alarms)
     pages.trouble = games.trouble
     pages.show(Title(shown, given.round or "", late), arbiter, games.broadcast)
     games.on_change = pages.changed
@@ -242,10 +265,10 @@ def play(asked: Asked, program: Program, signals: Signals) -> Outcome:
         games.say("type help to see what can be typed, and q to end")
     signals.tell(loop, games.end, games.hung_up)
     more = files_of(asked.tournament, loop, games) if asked.tournament else None
-    site = site_of(asked.web, loop, games, Title(shown, given.round or "", late)) if asked.web else None
+    sites = sites_of(asked, loop, games, Title(shown, given.round or "", late))
     loop.run()
     pages.close()
-    complaints = [*(more.close() if more else []), *(site.close() if site else [])]
+    complaints = [*(more.close() if more else []), *(line for site in sites for line in site.close())]
     status, others = games.close()
     return (FAILED if complaints else status), [*complaints, *others]
 
@@ -262,10 +285,17 @@ def files_of(tournament: Tournament, loop: Loop, games: Round) -> TournamentFile
     return kept
 
 
-def site_of(folder: str, loop: Loop, games: Round, title: Title) -> SiteFiles:
-    """The static site, which has what is broadcast."""
-    site = SiteFiles(loop, pathlib.Path(folder), title, lambda: games.broadcast.boards, games.say, games.trouble)
-    games.broadcast.take_along(site)
+def sites_of(asked: Asked, loop: Loop, games: Round, title: Title) -> List[SiteFiles]:
+    """The static sites. Each has what its output shows."""
+    wanted = [(asked.web, games.broadcast, title)]
+    wanted += [(output.web, games.outputs.named[output.name], replace(title, late=output.late)) for output in asked.outputs if output.out]
+    return [site_of(folder, broadcast, loop, games, of) for folder, broadcast, of in wanted if folder]
+
+
+def site_of(folder: str, broadcast: Broadcast, loop: Loop, games: Round, title: Title) -> SiteFiles:
+    """The static site of an output."""
+    site = SiteFiles(loop, pathlib.Path(folder), title, lambda: broadcast.boards, games.say, games.trouble)
+    broadcast.take_along(site)
     return site
 
 
@@ -285,7 +315,7 @@ def main(arguments: Sequence[str], here: str) -> int:
             return DONE, ()
         tournament = tournament_of(asked.file, asked.folder)
         if tournament:
-            asked = of_tournament(arguments, tournament)
+            asked = of_tournament(arguments, tournament, asked.outputs)
         return play(asked, Program.find(here), signals)
 
     return through("dgt_round", answered)

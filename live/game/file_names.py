@@ -17,6 +17,7 @@ ENDINGS = (
 )  # fmt: skip
 ROUND, BROADCAST = "round", "broadcast"
 OF_A_ROUND = (ROUND, BROADCAST)  # the names of a round's own files, in lower case
+OF_AN_OUTPUT = "output-"  # and with its name the folder of another output: no game's file is called so, as each has a full stop
 OF_A_GAME = re.compile(r"\.(?:(?:before|edited)(?:-[0-9]+)?|broadcast)$", re.IGNORECASE)  # a game's own files end so, before .dgt or .pgn
 DEVICES = ("/dev/tty", "/dev/serial/", "/dev/rfcomm", "tcp://")  # what a board's device begins with
 
@@ -41,6 +42,14 @@ def check_name(name: str) -> None:
     folder, _, last = plain(name).rpartition("/")
     if last.lower() in OF_A_ROUND and os.path.lexists(f"{folder or '.'}/{ROUND}.log"):
         raise Refused(REFUSED, f"{name} may be a file of the round in {folder or 'this folder'}: choose another name")
+    if is_of_an_output(folder):
+        raise Refused(REFUSED, f"{folder} is the folder of an output of a round: choose another one")
+
+
+def is_of_an_output(folder: str) -> bool:
+    """Whether this is the folder of an output of a round."""
+    above, last = os.path.split(os.path.abspath(folder))
+    return last.startswith(OF_AN_OUTPUT) and os.path.lexists(f"{above}/{ROUND}.log")
 
 
 def owners_of(paths: Paths) -> List[Paths]:

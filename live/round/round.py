@@ -13,14 +13,15 @@ from typing import Callable, Dict, List, Optional, Sequence, Set, Tuple, Union
 from live.beside import Worker
 from live.board.board import Board
 from live.board.finding import Finder
-from live.broadcast.broadcast import NOT_PUBLISHED, Broadcast
-from live.broadcast.games import Game, written_name
+from live.broadcast.broadcast import Broadcast
+from live.broadcast.games import written_name
 from live.broadcast.leaving import clock_in
+from live.broadcast.outputs import Outputs
 from live.device.line import same_line
 from live.game import answers
 from live.game.answers import ILLEGAL, MEANT, MOVES, RESULT, UNKNOWN, Said, moves_in
 from live.game.file_names import ROUND
-from live.game.files import Paths, text_of
+from live.game.files import text_of
 from live.game.forfeits import NO_RESULT, score_of, typed_forfeit
 from live.game.log import Log, logged_at
 from live.game.naming import IN_A_TABLE, is_naming
@@ -167,7 +168,7 @@ class Round:
         folder = pathlib.Path(hall.folder)
         self._log = Log(folder / "round.log")
         self._published = Published(loop, folder / f"{ROUND}.pgn", self._text, self.say)
-        self.broadcast = Broadcast(loop, hall.out, folder / "broadcast.pgn", self.boards, self._paths_of, self)
+        self.outputs = Outputs(loop, hall.out, hall.outputs, folder, self.boards, self)
         self._display = Display(loop, title, self.views, hall.terminal, self.trouble)
         self._opens_until = loop.now() + OPENS
         loop.after(OPENS, self.remade)
@@ -181,6 +182,11 @@ class Round:
         self._was_terminal = os.isatty(0)
         self._take(read)
         self._typed = Typed(loop, self.typed, self.refuses)
+
+    @property
+    def broadcast(self) -> Broadcast:
+        """What goes out first: the page, and the text in the round's own folder."""
+        return self.outputs.first
 
     def boards(self) -> List[Row]:
         """All boards, in order of their numbers."""
@@ -265,10 +271,7 @@ class Round:
         for wrong in self._wrong:
             state = f"line {wrong.line}{wrong.file and ' of '}{wrong.file} is wrong: {self._why(wrong)}"
             rows.append(RowView(wrong.board, state=state, alarm=True, is_board=False))
-        if self.broadcast.alarm:
-            why = f"{NOT_PUBLISHED}: {self.broadcast.alarm}"
-            rows.append(RowView(None, state=why, alarm=True, is_of_all=True))
-        return rows
+        return rows + [RowView(None, state=why, alarm=True, is_of_all=True) for why in self.outputs.alarms]
 
     def _view(self, row: Row) -> RowView:
         """What a row shows; if that raises an error, the error."""
@@ -287,7 +290,7 @@ class Round:
         """The row of this board has changed; without a number, what is shown of the round."""
         self.on_change()
         if self._is_opened:
-            self.broadcast.changed(number)
+            self.outputs.changed(number)
         if not self._ending:
             self._display.changed()
             self._look_for_end()
@@ -308,7 +311,7 @@ class Round:
         """The text of this board's game has changed; without a number, that of any."""
         if self._is_opened:
             self._published.changed()
-            self.broadcast.changed(number)
+            self.outputs.changed(number)
 
     def _text(self) -> bytes:
         """round.pgn: what was recorded."""
@@ -322,9 +325,6 @@ class Round:
             score, note = (score_of(result), FORFEIT) if score_of(result) else (result.replace(NO_RESULT, ""), "")
             found.append(Result(row.number, written_name(row, "White"), written_name(row, "Black"), score, note))
         return found
-
-    def _paths_of(self, row: Game) -> Paths:
-        return Paths(f"{self._hall.folder}/{row.name}")
 
     def owner(self, number: str) -> Optional[Board]:
         """The board that has this serial number, unless its game is over."""
@@ -416,8 +416,8 @@ class Round:
 
     def _may_end(self) -> bool:
         """Whether it may end now. If something is still hidden from spectators, says so, and refuses once."""
-        self.broadcast.look()
-        left = None if self._was_asked else self.broadcast.hidden_for
+        self.outputs.look()
+        left = None if self._was_asked else self.outputs.hidden_for
         if left is None:
             return True
         self._was_asked = True
@@ -445,7 +445,7 @@ class Round:
 
     def _all_ended(self) -> None:
         """Lets the last text go out."""
-        self.broadcast.finish(self._loop.stop)
+        self.outputs.finish(self._loop.stop)
 
     def close(self) -> Tuple[int, List[str]]:
         """Writes the last round.pgn and the last lines, after the loop has stopped. Returns a status and complaints."""
@@ -454,10 +454,10 @@ class Round:
             self._asker.close()
         complaints = [f"board {row.number}: {row.board.trouble}" for row in self.boards() if row.board.trouble]
         complaints += filter(None, [self._published.close()])
-        left = self.broadcast.hidden_for
+        left = self.outputs.hidden_for
         if left is not None:
             self.say(f"spectators haven't seen all moves. Start it again to show them, the last ones at {clock_in(left)}")
-        complaints += self.broadcast.close()
+        complaints += self.outputs.close()
         self._display.close(f"dgt_round: what was played is in {self._published.path}")
         try:
             self._log.close()

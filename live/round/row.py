@@ -13,6 +13,7 @@ from live.board.recording import Rules
 from live.board.state import OTHER_BOARD, Kind, State
 from live.broadcast.games import written_name
 from live.broadcast.going_out import GoingOut
+from live.broadcast.named_output import Output
 from live.device.line import check
 from live.device.protocol import SQUARES
 from live.game import files
@@ -51,6 +52,7 @@ class Hall:
     linger: int
     terminal: Optional[Terminal]
     out: GoingOut = GoingOut()
+    outputs: Tuple[Output, ...] = ()  # beside that
 
 
 class HearsRow(Protocol):

@@ -3,8 +3,9 @@
 from __future__ import annotations
 
 import re
-from typing import Dict, List, Sequence
+from typing import Dict, List, Sequence, Tuple
 
+from live.broadcast.named_output import OPTION, read_name, read_output
 from live.game.options import RECOVER, STRICT, TAG
 from live.game.tags import known_name
 from live.refused import REFUSED, Refused
@@ -15,6 +16,7 @@ from live.round.sheets import LARGEST
 
 ALSO = {"place": "site", "tournament": "event", "dates": "date"}  # other names that arbiters use for some
 FOR_A_ROUND = re.compile(r"(.*\D)\s+(\d{1,3})")  # `date 3`
+NAMED = re.compile(r"output(?:\s+(\S.*?))??(?:\s+(\d{1,3}))?", re.IGNORECASE)  # `output agency`, `output agency 3`
 TEMPLATE = """\
 # The settings of the tournament, for all its rounds. A line is NAME = VALUE; one that begins with # isn't read.
 # With the number of a round behind the name a line is for that round alone: date 2 = 01.06.2024
@@ -34,6 +36,7 @@ web =
 # Minutes by which what goes out is late, and the command that takes it there
 delay =
 publish =
+# More of these, each with a name, minutes and a command of its own: output agency = 3, /home/anna/agency.sh
 """
 
 
@@ -45,6 +48,7 @@ def words_of(content: bytes, round_number: int, options: Sequence[str], encoding
     known = {normal(option): option for option in options if option != TAG}
     for_all: Dict[str, str] = {}
     for_this: Dict[str, str] = {}
+    outputs: Dict[Tuple[str, str], int] = {}  # the lines of outputs, by name and round
     own = re.search(r"(?im)^[^\S\r\n]*encoding[^\S\r\n]*=[^\S\r\n]*(\S+)", loose_text(content))
     text = text_of(content, encoding or (known_encoding(own.group(1)) if own else ""))
     for number, line in enumerate(re.split("\r\n|\r|\n", text), 1):
@@ -53,11 +57,18 @@ def words_of(content: bytes, round_number: int, options: Sequence[str], encoding
         name, equals, value = (part.strip() for part in line.partition("="))
         if not equals:
             raise Refused(REFUSED, f"line {number} is {shown(line.strip())}: type NAME = VALUE, as event = Club cup")
-        of_round = FOR_A_ROUND.fullmatch(name)
-        word = normal(of_round.group(1) if of_round else name)
+        named = NAMED.fullmatch(name) if normal(OPTION) in known else None
+        of_round = named or FOR_A_ROUND.fullmatch(name)
+        word = normal(of_round.group(1) or "" if of_round else name)
         word = ALSO.get(word, word)
         tag = known_name(word)
-        if word == normal(RECOVER):
+        its_round = of_round.group(2) or "" if of_round else ""
+        if named:
+            word, typed = _output(number, named.group(1) or "", value)
+            other = outputs.setdefault((word, its_round), number)
+            if other != number:
+                raise Refused(REFUSED, f"line {number}: there is {word} in line {other} already: give it another name")
+        elif word == normal(RECOVER):
             if value.lower() not in YES + NO:
                 raise Refused(REFUSED, f"line {number}, {name}: {shown(value)}: type yes or no")
             typed, value = (RECOVER if value.lower() in YES else STRICT), value and "yes"
@@ -69,8 +80,19 @@ def words_of(content: bytes, round_number: int, options: Sequence[str], encoding
             names = ", ".join(sorted(option[2:].replace("-", " ") for option in known.values() if option != "--round"))
             there = f"there are {names}, recover, and tags as TimeControl"
             raise Refused(REFUSED, f"line {number}: there is no setting {shown(name)}: {there}")
-        if value and of_round and int(of_round.group(2)) == round_number:
+        if value and its_round and int(its_round) == round_number:
             for_this[word] = typed
-        elif value and not of_round:
+        elif value and not its_round:
             for_all[word] = typed
     return list({**for_all, **for_this}.values())
+
+
+def _output(line: int, name: str, value: str) -> Tuple[str, str]:
+    """The setting's name of an output, and what would be typed for it. Refused if it isn't understood, for whatever round it is."""
+    try:
+        name = read_name(name)
+        if value:
+            read_output(f"{name}={value}")
+    except Refused as refused:
+        raise Refused(REFUSED, f"line {line}: {refused.lines[0]}") from None
+    return f"output {name}", f"{OPTION}={name}={value}"

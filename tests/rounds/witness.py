@@ -66,6 +66,10 @@ class Witness:
         """A game has this movetext from now on."""
         self._came.setdefault(text, self._now())
 
+    def was_old(self, text: str, at: float) -> bool:
+        """Whether it could be shown then."""
+        return not self._is_young(text, at)
+
     def _is_young(self, text: str, now: float) -> bool:
         return text != "*" and not self._came.get(text, now) <= now - self._delay
 

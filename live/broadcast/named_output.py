@@ -1,0 +1,181 @@
+"""Outputs of a round beside its first one: each has a name, and a delay, a command, a static site and a folder of its own. Its delay
+is given whenever it goes out, so none is kept. Pure, but for what looks into the round's folder, and removes from it."""
+
+from __future__ import annotations
+
+import os
+import pathlib
+import re
+from dataclasses import dataclass
+from typing import List, Optional, Sequence, Tuple
+
+from live.broadcast.going_out import GoingOut, minutes, read_command, seconds_in
+from live.game.file_names import OF_AN_OUTPUT
+from live.game.files import new_of, remove, text_of
+from live.refused import ARGUMENTS, REFUSED, Refused
+
+OPTION = "--output"
+NAME = re.compile(r"[a-z][a-z0-9-]{0,29}", re.ASCII)
+MINUTES = re.compile(r"([0-9.]+)\s*(?:minutes?|min)?", re.ASCII)
+WEB = re.compile(r"web(?:\s+(.*))?", re.DOTALL)
+EXAMPLE = "agency = 3, /home/anna/agency.sh"
+LONG_EXAMPLE = "public = 15, web /home/anna/site, /home/anna/public.sh"
+NO = "no"
+MOST = 8  # outputs: each has some files open for each board, and boards come first
+TEXT, HIDDEN = "broadcast.pgn", "*.delayed"
+
+
+@dataclass(frozen=True)
+class Output:
+    """A named output. Without `out` nothing goes out there any more, and what is left of it is to be removed."""
+
+    name: str
+    out: Optional[GoingOut] = None
+    web: str = ""  # the folder of its static site
+
+    @property
+    def folder(self) -> str:
+        """The name of its folder."""
+        return f"{OF_AN_OUTPUT}{self.name}"
+
+    @property
+    def late(self) -> str:
+        """How late it is, in words; empty if it isn't."""
+        return minutes(self.out.delay) if self.out and self.out.delay else ""
+
+
+def read_name(text: str) -> str:
+    """A name in small letters. Refused if it isn't one."""
+    name = text.strip().lower()
+    if NAME.fullmatch(name):
+        return name
+    what = f"'{text.strip()}' is no name of an output" if name else "an output has a name"
+    raise Refused(ARGUMENTS, f"{what}: type letters, digits and -, a letter first, as output {EXAMPLE}")
+
+
+def read_output(text: str) -> Output:
+    """`agency = 3, web /home/anna/site, /home/anna/agency.sh`: how many minutes late, and if wanted the folder of a site and a
+    command; `agency = no` removes it. Refused if it isn't understood: what isn't might show moves too soon."""
+    before, _, value = text.partition("=")
+    name = read_name(before)
+    late, comma, rest = (part.strip() for part in value.partition(","))
+    if late.lower() == NO and not comma:
+        return Output(name)
+    found = MINUTES.fullmatch(late)
+    seconds = seconds_in(found.group(1)) if found else None
+    if seconds is None:
+        why = f"'{late}' is no number of minutes:" if late else "how late is it?"
+        raise _refused(name, f"{why} type minutes, 0 for at once, and behind a comma the command, as {EXAMPLE}")
+    if rest[:1].isdigit():
+        raise _refused(name, f"'{late},{rest[:1]}': a part of a minute is typed as 0.5, and a command that begins with a digit with its path")
+    site = WEB.fullmatch(rest)
+    web, _, command = (part.strip() for part in (site.group(1) or "").partition(",")) if site else ("", "", rest)
+    if site and not web:
+        raise _refused(name, f"in which folder is its site? Type it, as {LONG_EXAMPLE}")
+    words = read_command(command, f"{OPTION} {name}") if command else ()
+    if words and words[0].endswith(","):
+        raise _refused(name, f"a comma is behind the minutes and behind web FOLDER alone, as {LONG_EXAMPLE}")
+    return Output(name, GoingOut(seconds, words, name), web)
+
+
+def _refused(name: str, why: str) -> Refused:
+    return Refused(ARGUMENTS, f"{OPTION} {name}: {why}")
+
+
+def read_outputs(texts: Sequence[str]) -> Tuple[Output, ...]:
+    """All that are given, in their order. Refused if two have the same name, or there are too many."""
+    outputs = tuple(map(read_output, texts))
+    names = [output.name for output in outputs]
+    for name in names:
+        if names.count(name) > 1:
+            raise Refused(ARGUMENTS, f"{OPTION} {name} is given twice: give one of them another name, or leave it out")
+    if len(outputs) > MOST:
+        raise Refused(ARGUMENTS, f"{len(outputs)} outputs are given, and there can be {MOST}: let one command carry to several places")
+    return outputs
+
+
+def refuse_same_site(web: str, outputs: Sequence[Output]) -> None:
+    """Refuses two outputs with one site: it would be as late as the one that isn't late."""
+    sites = {os.path.realpath(web): "the round's own site"} if web else {}
+    for output in outputs:
+        place = os.path.realpath(output.web)
+        if output.web and place in sites:
+            raise _refused(output.name, f"{output.web} is the folder of {sites[place]}: give it another one")
+        if output.web:
+            sites[place] = f"the site of output {output.name}"
+
+
+# In the round's folder.
+
+
+def left_in(folder: pathlib.Path) -> List[str]:
+    """The names of the outputs of which something is there."""
+    try:
+        found = [path.name[len(OF_AN_OUTPUT) :] for path in folder.glob(f"{OF_AN_OUTPUT}*") if not path.is_symlink() and _own(path)]
+    except OSError:
+        return []  # what is wrong with the folder is said elsewhere
+    return sorted(name for name in found if NAME.fullmatch(name))
+
+
+def _own(place: pathlib.Path) -> List[pathlib.Path]:
+    """The files of an output in its folder: what it has hidden, then its text."""
+    return [path for name in (HIDDEN, new_of(HIDDEN), TEXT, new_of(TEXT)) for path in sorted(place.glob(name))]
+
+
+def refuse_unknown(removed: Sequence[str], known: Sequence[str]) -> None:
+    """Refuses to remove an output that isn't there."""
+    there = sorted(set(known))
+    for name in removed:
+        if name not in there:
+            others = f"there {'are' if there[1:] else 'is'} {', '.join(there) or 'none'}"
+            raise Refused(REFUSED, f"{OPTION} {name}={NO}: there is no output {name}: {others}")
+
+
+def refuse_links(folder: pathlib.Path, outputs: Sequence[Output]) -> None:
+    """Refuses an output whose folder is a link: nothing is written through one."""
+    for output in outputs:
+        place = folder / output.folder
+        if place.is_symlink():
+            raise Refused(REFUSED, f"{place} is a link, and the folder of output {output.name}: move it away")
+
+
+def removed(folder: pathlib.Path, output: Output) -> str:
+    """Removes what belongs to an output from the round's folder, and nothing else: what it has hidden, then its text. Returns a
+    message; empty if there was nothing."""
+    place = folder / output.folder
+    if not place.is_dir() or place.is_symlink():
+        return ""
+    own = _own(place)
+    try:
+        for path in own:
+            remove(path)
+        if not any(place.iterdir()):
+            place.rmdir()
+    except OSError as error:
+        return f"what is left of output {output.name} in {place} can't be removed ({text_of(error)})"
+    return f"output {output.name} is removed" if own else ""
+
+
+def told_of(folder: pathlib.Path, outputs: Sequence[Output], left: Sequence[str]) -> List[str]:
+    """Lines about what goes out beside the first output, and what is left of outputs that aren't given."""
+    lines = []
+    for output in outputs:
+        if output.out:
+            late = f"is {output.late} late" if output.late else "isn't late"
+            lines.append(f"output {output.name} {late}: {folder / output.folder / TEXT}")
+    given = [output.name for output in outputs]
+    for name in left:
+        if name not in given:
+            lines.append(f"output {name} isn't given: nothing goes out there. {OPTION} {name}={NO} removes what is left of it")
+    return lines
+
+
+def without_those(words: Sequence[str], names: Sequence[str]) -> List[str]:
+    """The words of a command line without the outputs that have these names."""
+    return [word for word in words if name_in(word) not in names]
+
+
+def name_in(word: str) -> Optional[str]:
+    """The name of the output in a word of a command line; None if it gives none."""
+    option, _, value = word.partition("=")
+    return value.partition("=")[0] if option == OPTION else None
