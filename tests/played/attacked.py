@@ -178,6 +178,11 @@ def links_not_followed(folder: pathlib.Path) -> None:
             pathlib.Path(f"{hall.name(number)}.{ending}").symlink_to(target)
     for name in ("round.pgn", "round.log", "broadcast.pgn", "round.pgn.new", "broadcast.pgn.new", "round.options.new", "round.delay.new"):
         (hall.games / name).symlink_to(precious)
+    output = hall.games / "output-late"
+    output.mkdir()
+    for name in ("broadcast.pgn", *(f"{number:02}.delayed" for number in (1, 2))):
+        for ending in ("", ".new"):
+            (output / f"{name}{ending}").symlink_to(precious)
     live = hall.record("--delay", "1", typed=True)
     for number in (1, 2):
         until_line(live, f"{number:02}.dgt is a link")
@@ -189,13 +194,17 @@ def links_not_followed(folder: pathlib.Path) -> None:
         for ending in ("dgt", "end", "options"):
             pathlib.Path(f"{hall.name(number)}.{ending}").unlink()
         pathlib.Path(f"{hall.name(number)}.pgn").unlink()
-    live = hall.record("--delay", "0", typed=True)
+    live = hall.record("--delay", "0", "--output", "late=1", typed=True)
     hall.begun(live)
     hall.play(0, 3)
     live.type("1 1-0")
     hall.until_text(1, "1. e4 e5 2. Nf3 1-0")
+    until(lambda: (output / "broadcast.pgn").is_file() and not (output / "broadcast.pgn").is_symlink(), "the text of the output", 0.05)
+    live.type("q")
+    until_line(live, "To end it now, type q again")
     live.type("q")
     ended(live)
+    same(sorted(path.name for path in output.iterdir() if path.is_symlink()), [])
     same((precious.read_bytes(), nowhere.exists()), (b"mine\n", False))
 
 
