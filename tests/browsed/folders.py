@@ -189,6 +189,29 @@ def folder_in_order(folder: pathlib.Path) -> None:
 
 
 @with_chromium
+def folder_renamed(folder: pathlib.Path) -> None:
+    """A game gets its players' names while the text under the last of them can't be written: the game stays under an earlier name, and
+    goes from there when all is written."""
+    with Hall(folder) as stage:
+        chosen = Chosen(stage)
+        page, port = begin_in(stage, chosen)
+        chosen.choose(stage, page)
+        play(stage, page, port, RUY[:2], RUY_SANS[:2])
+        stage.until(lambda: names_of(chosen, ".times"), "times in the folder")
+        page.value("folder.failing = 'Anna - Ben.pgn'; folder.fails = 'QuotaExceededError'")
+        page.type("Anna", "#white")
+        page.type("Ben", "#black")
+        stage.until(lambda: "Anna - Ben.pgn can't be written" in page_text(page), "a word on the text")
+        stage.rest(6)  # it is tried again each five seconds
+        earlier = [name for name in names_of(chosen, ".pgn") if b"1. e4" in chosen.files[name]]
+        same((bool(earlier), [name for name in earlier if name.replace(".pgn", ".dgt") not in chosen.files]), (True, []))
+        page.value("folder.fails = ''")
+        until_text(stage, chosen, "Anna - Ben.pgn", "1. e4 e5 *")
+        files = {f"Anna - Ben.{ending}" for ending in ("dgt", "pgn", "times")}
+        stage.until(lambda: set(chosen.files) == {*files, "round.pgn"}, "the earlier names to be gone")
+
+
+@with_chromium
 def texts_known_again(folder: pathlib.Path) -> None:
     """The tab is killed while the files have older texts than the page has made, with another event: opened again, the page knows its
     own texts, and keeps no copies of them. A text that somebody has edited is kept."""

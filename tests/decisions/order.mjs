@@ -1,12 +1,14 @@
 /** In which order the files of a folder are written. */
-import { nextFile } from "/web/kept/order.js";
+import { nextFile, renamedAgain } from "/web/kept/order.js";
 
 export function orders(counts, cases) {
-  for (const [name, waiting, fails, expected] of cases("orders")) {
+  for (const [name, waiting, fails, expected, renamed] of cases("orders")) {
     const left = new Map(waiting.map((word) => (word.startsWith("-") ? [word.slice(1), null] : [word, "content"])));
     const tried = new Map();
     const order = [];
-    for (let file = nextFile(left, tried); file; file = nextFile(left, tried)) {
+    const names = (renamed || []).reduce((found, [earlier, now]) => renamedAgain(found, earlier, now), new Map());
+    const next = () => nextFile(left, tried, names);
+    for (let file = next(); file; file = next()) {
       if (fails.includes(file)) {
         tried.set(file, "why");
       } else {

@@ -131,7 +131,7 @@ export class Folders {
     try {
       while (seat.wantsFiles) {
         seat.wantsFiles = false;
-        await this.nameFiles(seat, folder);
+        const earlier = await this.nameFiles(seat, folder);
         await this.lastBefore;
         const [name, text, times] = [`${seat.name}.pgn`, seat.pgn, seat.times()];
         folder.put(`${seat.name}.dgt`, seat.bytes());
@@ -139,24 +139,22 @@ export class Folders {
         folder.put(name, text);
         await seat.recorder.times.write(); // so that the folder never has lines that the browser lacks
         this.putTimes(folder, name, times);
+        if (earlier) folder.rename(earlier, seat.name);
       }
     } finally {
       seat.isFiling = false;
     }
   }
 
-  /** Files that aren't its own are left alone: the game gets another name. Its files under the old name are removed. */
+  /** Files that aren't its own are left alone: the game gets another name. Returns the name that its files have had, if it is another. */
   async nameFiles(seat, folder) {
     const { recorder } = seat;
     const { filed } = recorder.game;
-    if (filed && filed.folder === folder.name && filed.name === seat.name) return;
+    const earlier = filed && filed.folder === folder.name ? filed.name : '';
+    if (earlier === seat.name) return '';
     const name = await this.free(seat.name, folder);
     await recorder.edit({ name, filed: { folder: folder.name, name } });
-    if (filed && filed.folder === folder.name) {
-      folder.remove(`${filed.name}.pgn`);
-      folder.remove(`${filed.name}.dgt`);
-      folder.remove(`${filed.name}.times`);
-    }
+    return earlier;
   }
 
   /** Writes the times of a capture beside the file of this name, if there are any. */

@@ -3,7 +3,7 @@
 import { isEarlier as areEarlierTimes } from '../game/times.js';
 import { editedName, isEarlier } from './edited.js';
 import { otherName } from './file_names.js';
-import { nextFile } from './order.js';
+import { nextFile, renamedAgain } from './order.js';
 
 const AGAIN = 5.0; // seconds until a file that couldn't be written is tried again
 
@@ -16,6 +16,7 @@ export class Folder {
     this.written = new Map(); // the last content of each file
     this.waiting = new Map(); // the newest content of each file
     this.writing = null; // { name, content } of the file that is being written
+    this.renamed = new Map(); // the new names of games whose files under an earlier one are to be removed
     this.before = new Map(); // texts of this page that a file may have had when the page was closed
     this.isWriting = false;
     this.failed = '';
@@ -50,16 +51,18 @@ export class Folder {
     return [...now, ...soon.filter((text) => text)];
   }
 
-  /** Removes the file, after those that were put before have been written. */
-  remove(name) {
-    this.put(name, null);
+  /** Removes a game's files under an earlier name, once all are written that were put under its new one. */
+  rename(earlier, name) {
+    this.renamed = renamedAgain(this.renamed, earlier, name);
+    for (const ending of ['pgn', 'dgt', 'times']) this.put(`${earlier}.${ending}`, null);
   }
 
   async write() {
     if (this.isWriting) return;
     this.isWriting = true;
     const tried = new Map(); // what can't be written, and why
-    for (let name = nextFile(this.waiting, tried); name; name = nextFile(this.waiting, tried)) {
+    const next = () => nextFile(this.waiting, tried, this.renamed);
+    for (let name = next(); name; name = next()) {
       const content = this.waiting.get(name);
       this.waiting.delete(name);
       this.writing = { name, content };

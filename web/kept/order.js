@@ -13,10 +13,21 @@ function placeOf(name, content) {
   return { game, place: (content === null ? REMOVED : PLACES)[ending] };
 }
 
-/** The file that is written next, of those that wait, Map { name: content }, but for those that were tried; undefined if none may be. */
-export function nextFile(waiting, tried) {
-  const places = [...waiting].map(([name, content]) => ({ name, ...placeOf(name, content) }));
-  const isHeld = ({ game, place }) => game !== null && places.some((other) => other.game === game && other.place < place);
+/** The new names of games whose files under an earlier one are to be removed, Map { earlier: new }, after one more is renamed. */
+export function renamedAgain(renamed, earlier, name) {
+  return new Map([...[...renamed].map(([one, now]) => [one, now === earlier ? name : now]), [earlier, name]]);
+}
+
+/**
+ * The file that is written next, of those that wait, Map { name: content }, but for those that were tried; undefined if none may be.
+ * What a game had under an earlier name is removed behind all that is written under its new one, `renamed` Map { earlier: new }.
+ */
+export function nextFile(waiting, tried, renamed) {
+  const places = [...waiting].map(([name, content]) => ({ name, isRemoved: content === null, ...placeOf(name, content) }));
+  const isBefore = (one, other) => one.game === other.game && one.place < other.place;
+  const isWritten = (one, game) => one.game === game && !one.isRemoved;
+  const isHeld = (one) =>
+    one.game !== null && places.some((other) => isBefore(other, one) || (one.isRemoved && isWritten(other, renamed.get(one.game))));
   const next = places.find((one) => !tried.has(one.name) && !isHeld(one));
   return next && next.name;
 }
