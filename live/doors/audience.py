@@ -9,19 +9,18 @@ from typing import Sequence, Tuple
 from live.board.single import QUITS, Single
 from live.broadcast.broadcast import Broadcast
 from live.broadcast.going_out import GoingOut, delay_of, keep_delay, minutes
-from live.broadcast.late import is_hidden, is_unseen
+from live.broadcast.late import is_unseen
 from live.broadcast.leaving import Leaving, clock_in, hold
 from live.doors.calls import Call
-from live.game import files
 from live.game.file_names import has_delay
 from live.game.files import Paths
 from live.game.forfeiting import forfeit_of
 from live.game.forfeits import told_to_readers
-from live.game.game import end_mark, kept_options, kept_tags
+from live.game.game import end_mark, kept_tags
 from live.game.options import Options
 from live.game.tags import published
 from live.loop import Loop
-from live.refused import FAILED, Refused
+from live.refused import Refused
 from live.web.doors import Title, TwoPages
 from live.web.kept_pages import keep_pages, pages_of
 from live.web.round_page import ArbiterView
@@ -110,17 +109,3 @@ class Audience:
 def published_of(paths: Paths, text: bytes) -> bytes:
     """The published text of a game that has this text."""
     return round_pgn([published(text, kept_tags(paths), told_to_readers(forfeit_of(paths, text)))])
-
-
-def publish_anew(paths: Paths, given: Options) -> str:
-    """Writes the published text of a game that nobody records, unless a part of it is hidden. Returns a message about it."""
-    if is_hidden(paths):
-        return f"{paths.broadcast} gets its tags as the rest of it is shown"
-    kept = kept_options(paths)
-    try:
-        text = files.existing(paths.pgn)
-        says = told_to_readers(forfeit_of(paths, text))
-        files.put_in_place(paths.broadcast, published(text, dict(kept.tags) if kept else {}, says))
-    except OSError as error:
-        raise Refused(FAILED, files.not_written(paths.broadcast, error)) from None
-    return f"{paths.broadcast} has its tags"

@@ -125,9 +125,14 @@ def publish_anew(paths: Paths, given: Options = Options()) -> List[str]:
     """Publishes the text of a game that nobody records, if it was published before or gets tags. Returns messages about it."""
     if not (given.tags or os.path.lexists(paths.broadcast)):
         return []
-    from live.doors import audience
+    if has_delay(paths) or os.path.lexists(paths.delayed):
+        from live.broadcast.late import is_hidden
 
-    return [audience.publish_anew(paths, given)]
+        if is_hidden(paths):
+            return [f"{paths.broadcast} gets its tags as the rest of it is shown"]
+    from live.game import published_text
+
+    return [published_text.publish_anew(paths)]
 
 
 def existing_game(name: str, *more: str) -> Paths:

@@ -405,7 +405,7 @@ from live.later import keep_what_is_loaded_later
 import live.doors.{door}
 keep_what_is_loaded_later()
 print(*sys.modules)
-print(*sys.meta_path[0]._places)
+print(*sys.meta_path[0]._texts)
 """
 USES_LATER = """
 import sys; sys.path.insert(0, sys.argv[1])

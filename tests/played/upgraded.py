@@ -4,12 +4,13 @@ import contextlib
 import os
 import pathlib
 import shutil
-from typing import Callable
+from typing import Callable, Optional
 
 from play_board import BLACK, KING
 from played import TOP, words
 from played.back import answered
 from played.recorder import Live
+from played.renamed import has
 from played.series import play
 from played.stage import RUY, RUY_TEXT, a_board, begun, bytes_of, program, same, stop, until, until_game, until_line
 
@@ -41,11 +42,11 @@ def overwrite(place: pathlib.Path) -> None:
             os.truncate(path, 100)
 
 
-def goes_on(folder: pathlib.Path, change: Callable[[pathlib.Path], None]) -> None:
-    """A move, a way back and a result are typed to a recorder whose files have become others."""
+def goes_on(folder: pathlib.Path, change: Callable[[pathlib.Path], None], limit: Optional[int] = None) -> None:
+    """A move, a way back, a first tag and a result are typed to a recorder whose files have become others."""
     command = copied(folder / "program", "dgt_live")
     board = a_board(folder)
-    live = Live(board.device, folder / "game", program=command, typed=True)
+    live = Live(board.device, folder / "game", program=command, typed=True, limit=limit)
     begun(live)
     play(board, RUY[:4])
     until_game(live.name, "1. e4 e5 2. Nf3 Nc6 *")
@@ -54,9 +55,10 @@ def goes_on(folder: pathlib.Path, change: Callable[[pathlib.Path], None]) -> Non
     until_game(live.name, RUY_TEXT)
     answered(live, "back", "back to 2... Nc6; taken off: 3. Bb5")
     until_game(live.name, "1. e4 e5 2. Nf3 Nc6 *")
+    answered(live, "name WhiteElo=2000", "WhiteElo is now 2000")
     answered(live, "1-0", "1-0")
     until_game(live.name, "1. e4 e5 2. Nf3 Nc6 1-0")
-    same(stop(live), 0)
+    same((stop(live), has(f"{live.name}.broadcast.pgn", 'WhiteElo "2000"')), (0, True))
 
 
 def upgraded(folder: pathlib.Path) -> None:
@@ -67,6 +69,11 @@ def upgraded(folder: pathlib.Path) -> None:
 def overwritten(folder: pathlib.Path) -> None:
     """The files of the program are overwritten where they are, with their ends missing: what is typed then is put in."""
     goes_on(folder, overwrite)
+
+
+def upgraded_under_a_limit(folder: pathlib.Path) -> None:
+    """The same where the system lets no file have more than a MiB: no file in memory either."""
+    goes_on(folder, upgrade, 1 << 20)
 
 
 def upgraded_in_a_series(folder: pathlib.Path) -> None:
@@ -90,4 +97,4 @@ def upgraded_in_a_series(folder: pathlib.Path) -> None:
     same(stop(live), 0)
 
 
-CASES = [upgraded, overwritten, upgraded_in_a_series]
+CASES = [upgraded, overwritten, upgraded_under_a_limit, upgraded_in_a_series]
