@@ -45,9 +45,13 @@ class Guard:
             self._loop.forget(number)
             raise
 
+    def at(self, when: float, callback: Callback) -> Timer:
+        """Calls it once, at this time."""
+        return self._loop.at(when, lambda: self.call(callback))
+
     def after(self, seconds: float, callback: Callback) -> Timer:
         """Calls it once, after this many seconds."""
-        return self._loop.after(seconds, lambda: self.call(callback))
+        return self._loop.at(self.now() + seconds, lambda: self.call(callback))
 
     def soon(self, callback: Callback) -> None:
         """Calls it once, in the next turn. Any thread may call this."""

@@ -15,12 +15,14 @@ import time
 from dataclasses import dataclass
 from typing import Callable, Deque, Dict, List, Optional, Protocol, Tuple
 
-from live.time_away import LONGEST, Turn, time_away
+from live.time_away import LONGEST, time_away
 
 Callback = Callable[[], None]
 ENDING = (signal.SIGINT, signal.SIGTERM, signal.SIGHUP)
 PULSE = 1.0  # seconds after which the loop turns at the latest
-READS, WRITES = select.EPOLLIN, select.EPOLLOUT  # what else is reported, as that a line is gone, counts as both
+MOST_FOUND = 32  # descriptors that are found ready at once: others are found in the next turn
+READS, WRITES = select.EPOLLIN, select.EPOLLOUT
+MAY_READ, MAY_WRITE = ~WRITES, ~READS  # what else is reported, as that a line is gone, counts as both
 
 
 @dataclass
@@ -29,10 +31,21 @@ class Watch:
 
     readable: Optional[Callback]
     writable: Optional[Callback]
-    is_over: bool = False  # whether the descriptor is watched for something else now, or for nothing
 
     def events(self) -> int:
         return (READS if self.readable else 0) | (WRITES if self.writable else 0)
+
+    def end(self) -> None:
+        """The descriptor is watched for something else now, or for nothing."""
+        self.readable = self.writable = None
+
+
+@dataclass
+class Away:
+    """How long the recorder was stopped, or the computer slept, in all. A value and no call: it is looked at with all that a board
+    sends."""
+
+    seconds: float = 0.0
 
 
 @dataclass
@@ -53,14 +66,18 @@ class Turns(Protocol):
     def now(self) -> float:
         """The time of all timers; it never goes back."""
 
-    def away(self) -> float:
-        """The seconds of all times in which the recorder was stopped, or the computer slept."""
+    @property
+    def away(self) -> Away:
+        """The times in which the recorder was stopped, or the computer slept."""
 
     def watch(self, number: int, readable: Optional[Callback] = None, writable: Optional[Callback] = None) -> None:
         """Calls these from now on for the file descriptor; none if both are None."""
 
     def forget(self, number: int) -> None:
         """Call this before you close the file descriptor."""
+
+    def at(self, when: float, callback: Callback) -> Timer:
+        """Calls it once, at this time."""
 
     def after(self, seconds: float, callback: Callback) -> Timer:
         """Calls it once, after this many seconds."""
@@ -81,35 +98,30 @@ class Loop:
         self._timers: List[Tuple[float, int, Timer]] = []  # a heap: those for the same time are called in their order
         self._numbers = itertools.count()
         self._stopped = False
-        self._turn, self._away = (self.running(), self.counting()), 0.0
+        self._has_called = False  # in this turn
+        self._turn, self.away = self.counting(), Away()
         self._soon: Deque[Callback] = collections.deque()
         self._woken, self._wakes = socket.socketpair()
         self._woken.setblocking(False)
         self._wakes.setblocking(False)
         self.watch(self._woken.fileno(), self._call_soon)
 
-    now: Callable[[], float] = time.monotonic  # the time of all timers; it never goes back
-
-    # Two clocks that nobody can set: one stands still while the computer sleeps, the other counts on.
-    running = staticmethod(time.monotonic)
-    counting = staticmethod(functools.partial(time.clock_gettime, time.CLOCK_BOOTTIME))
-
-    def away(self) -> float:
-        """The seconds of all times in which the recorder was stopped, or the computer slept."""
-        return self._away
+    # Two clocks that nobody can set.
+    now: Callable[[], float] = time.monotonic  # the time of all timers, which stands still while the computer sleeps
+    counting = staticmethod(functools.partial(time.clock_gettime, time.CLOCK_BOOTTIME))  # which counts on
 
     def _turned(self, waited: float = 0.0) -> None:
-        """A wait of at most so many seconds is over, or a call. Each call counts as a turn, so many slow ones are no time away."""
-        before, now = self._turn, (self.running(), self.counting())
-        if now[0] - before[0] > LONGEST or now[1] - before[1] > LONGEST:
-            self._away += time_away(Turn(*before), Turn(*now), waited)
+        """A wait of at most so many seconds is over, or a call that another one follows: many slow ones are no time away."""
+        now = self.counting()
+        if now - self._turn > LONGEST:
+            self.away.seconds += time_away(now - self._turn, waited)
         self._turn = now
 
     def watch(self, number: int, readable: Optional[Callback] = None, writable: Optional[Callback] = None) -> None:
         """Calls these from now on for the file descriptor; none if both are None."""
         watch, before = Watch(readable, writable), self._watches.pop(number, None)
         if before:
-            before.is_over = True
+            before.end()
         if watch.events():
             if before:
                 self._epoll.modify(number, watch.events())
@@ -124,11 +136,15 @@ class Loop:
         """Call this before you close the file descriptor."""
         self.watch(number)
 
+    def at(self, when: float, callback: Callback) -> Timer:
+        """Calls it once, at this time."""
+        timer = Timer(when, callback)
+        heapq.heappush(self._timers, (when, next(self._numbers), timer))
+        return timer
+
     def after(self, seconds: float, callback: Callback) -> Timer:
         """Calls it once, after this many seconds."""
-        timer = Timer(self.now() + seconds, callback)
-        heapq.heappush(self._timers, (timer.when, next(self._numbers), timer))
-        return timer
+        return self.at(self.now() + seconds, callback)
 
     def soon(self, callback: Callback) -> None:
         """Calls it once, in the next turn. Any thread may call this."""
@@ -148,8 +164,7 @@ class Loop:
         with contextlib.suppress(BlockingIOError):
             self._woken.recv(4096)
         while self._soon and not self._stopped:
-            self._soon.popleft()()
-            self._turned()
+            self._call(self._soon.popleft())
 
     def stop(self) -> None:
         """The loop ends after the present call."""
@@ -160,27 +175,39 @@ class Loop:
         self._stopped = False
         while not self._stopped:
             for watch, events in self._ready():
-                if events & ~WRITES:
-                    self._call(watch, watch.readable)
-                if events & ~READS:
-                    self._call(watch, watch.writable)
-            self._call_timers()
+                if events & MAY_READ:
+                    self._call(watch.readable)
+                if events & MAY_WRITE:
+                    self._call(watch.writable)
+            if self._timers and self._timers[0][0] <= self.now():
+                self._call_timers()
             if self._soon:  # and the loop couldn't be woken for it
                 self._call_soon()
 
-    def _call(self, watch: Watch, callback: Optional[Callback]) -> None:
+    def _call(self, callback: Optional[Callback]) -> None:
         """Calls it, unless an earlier call has closed the descriptor or watched it for something else."""
-        if callback and not watch.is_over and not self._stopped:
+        if callback and not self._stopped:
+            if self._has_called:
+                self._turned()
+            self._has_called = True
             callback()
-            self._turned()
 
     def _ready(self) -> List[Tuple[Watch, int]]:
-        while self._timers and self._timers[0][2].cancelled:
-            heapq.heappop(self._timers)
-        wait = min(PULSE, max(0.0, self._timers[0][0] - self.now())) if self._timers else PULSE
-        found = self._epoll.poll(wait, len(self._watches))
-        ready = [(self._watches[number], events) for number, events in found if number in self._watches]
+        """Waits until a descriptor is ready, or a timer due. Returns those that are ready: what is called meanwhile may end a watch."""
+        timers, watches, wait = self._timers, self._watches, PULSE
+        while timers and timers[0][2].cancelled:
+            heapq.heappop(timers)
+        if timers:
+            left = timers[0][0] - self.now()
+            if left < wait:
+                wait = left if left > 0 else 0.0
+        ready = []
+        for number, events in self._epoll.poll(wait, MOST_FOUND):
+            watch = watches.get(number)
+            if watch:
+                ready.append((watch, events))
         self._turned(wait)
+        self._has_called = False
         return ready
 
     def _call_timers(self) -> None:
@@ -188,8 +215,7 @@ class Loop:
         while self._timers and self._timers[0][0] <= now and not self._stopped:
             _, _, timer = heapq.heappop(self._timers)
             if not timer.cancelled:
-                timer.callback()
-                self._turned()
+                self._call(timer.callback)
 
 
 class Signals:

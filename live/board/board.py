@@ -67,6 +67,9 @@ class HearsBoard(Protocol):
     def ended(self, why: Optional[Exception]) -> bool:
         """Its recording has ended, or couldn't begin. Returns whether to try again."""
 
+    def missing(self) -> None:
+        """Its board, whose serial number is known, isn't on its cable any more."""
+
     def owner(self, number: str) -> Optional["Board"]:
         """The other board that has this serial number."""
 
@@ -240,6 +243,10 @@ class Board:
         else:
             self._hears.ended(None)
         self._hears.changed()
+
+    def missing(self) -> None:
+        """Its board isn't on its cable any more."""
+        self._hears.missing()
 
     def owner(self, number: str) -> Optional[Owner]:
         """The other game that is recorded from the board with this serial number."""

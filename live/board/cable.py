@@ -41,6 +41,9 @@ class HearsCable(Protocol):
     def back(self, other: str) -> None:
         """The game's own board is on the cable again, instead of the one with this number."""
 
+    def missing(self) -> None:
+        """The game's board, whose number is known, isn't on the cable any more."""
+
     def lends(self, number: str, heard: Heard) -> bool:
         """The board with this number has sent this. Returns whether another game takes it."""
 
@@ -154,6 +157,7 @@ class Cable:
             self._foreign.clear()
             if self._other:
                 self._hears.another(self._other)
+                self._hears.missing()
             else:
                 self._hears.back(before)
 
@@ -202,6 +206,8 @@ class Cable:
             self._screen.say(self._gone())
         if self._hears.standing:
             self._hears.standing.unplugged()
+        if self._whose.own:
+            self._hears.missing()
         if self._once:
             self._hears.gone(self._gone_for_good(), self._was_plugged)
 

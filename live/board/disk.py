@@ -31,14 +31,16 @@ class Disk:
         self._not_restored = ""
         self._told = ""  # why the capture can't be written, as it was reported
 
-    def append(self, sent: bytes) -> None:
-        """Appends what the board has sent or somebody has added."""
+    def append(self, sent: bytes) -> int:
+        """Appends what the board has sent or somebody has added. Returns how many bytes of it are kept."""
         lost = self._capture.lost
-        self._capture.append(sent)
-        self.look()
+        kept = self._capture.append(sent)
+        if self._capture.trouble or self._told:
+            self.look()
         if self._capture.lost and not lost and not self._capture.at_limit:
             path = self._capture.path
             self._screen.say(f"{path} couldn't be written for too long: what comes now is lost, up to a dump after it can be")
+        return kept
 
     def try_again(self) -> None:
         """Tries again what has failed. Call this each second."""
@@ -48,7 +50,7 @@ class Disk:
         self.look()
 
     def look(self) -> None:
-        """Reports changes."""
+        """Reports changes, also those of the text."""
         before, why, full = self._standing.trouble, self._capture.trouble, self._capture.full
         trouble = trouble_of(full) if self._capture.waits else self._hears.text_trouble()
         if trouble == before and why == self._told:

@@ -15,6 +15,7 @@ from live.game.looks import Look
 from live.game.options import Options
 from live.game.program import Listing, Task
 from live.game.report import Picture, line_of
+from live.game.times import HEARD
 from live.guard import Guard
 from live.terminal.screen import Screen
 
@@ -74,9 +75,9 @@ class Listening:
 
     def came(self, sent: bytes) -> None:
         """The board has sent this."""
-        before = self._game.capture.total
-        self._game.capture.append(sent)
-        self._game.times.grew(before)
+        kept = self._game.capture.append(sent)
+        if kept:
+            self._game.times.happened(HEARD, kept)
         self._source.append(sent)
         self._watch.feed()
         if self._source.size > MOST:

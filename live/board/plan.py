@@ -64,6 +64,9 @@ class HearsRecorder(Protocol):
     def stopped(self, refused: Optional[Refused]) -> None:
         """The recording has ended; with the reason if that was an error."""
 
+    def missing(self) -> None:
+        """Its board, whose serial number is known, isn't on its cable any more."""
+
     def owner(self, number: str) -> Optional[Owner]:
         """The other game that is recorded from the board with this serial number."""
 

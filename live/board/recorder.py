@@ -309,9 +309,9 @@ class Recorder:
         sent, ended = heard
         if self.now:
             self.now.came(sent)
-        if self.now and ended.dumped:
+        if ended.dumped and self.now:
             self.now.dumped()
-        if isinstance(self.now, Recording) and ended.time:
+        if ended.time and isinstance(self.now, Recording):
             self.now.timed(ended.time)
 
     def happened(self, what: str, count: Optional[int] = None) -> None:
@@ -338,6 +338,10 @@ class Recorder:
             self._screen.say(f"{self.cable} has the board of {owner.name}, serial number {number}: it goes to that game")
         else:
             self._look(another(self.number, number, owner, bool(self.course.plies)))
+
+    def missing(self) -> None:
+        """Its own board isn't on its cable any more."""
+        self._hears.missing()
 
     def back(self, other: str) -> None:
         """Its own board is on its cable again."""

@@ -115,7 +115,7 @@ class Recording:
         self._arrivals = Arrivals()
         self._heard_at = guard.now()  # when the board was heard last
         self._came_at = 0  # the capture's size before what came last
-        self._away = guard.away()  # the seconds that this recorder was away by then
+        self._away = guard.away.seconds  # for how long this recorder was away by then
         self._gap = opened.old.gap  # for how long it wasn't heard before this call
         self._was_away = False  # and no dump has come since
         self._is_large = False  # and that was said
@@ -149,17 +149,19 @@ class Recording:
 
     def came(self, sent: bytes) -> None:
         """The board has sent this."""
-        now, away = self._guard.now(), self._guard.away()
-        unheard = away - self._away
-        silence = max(now - self._heard_at, unheard) + self._gap
-        self._heard_at, self._away = now, away
+        now, unheard = self._guard.now(), self._guard.away.seconds - self._away
+        if self.standing.was_away or unheard:
+            self._comes_back(max(now - self._heard_at, unheard) + self._gap, unheard)
+        self._heard_at, self._gap, self._came_at = now, 0.0, self.game.capture.size
+        self._append(sent, now)
+
+    def _comes_back(self, silence: float, unheard: float) -> None:
+        """The board is heard again after such a silence. Nobody listened for the last part of it."""
+        self._away = self._guard.away.seconds
         if unheard:
             self._screen.say(f"this computer slept, or the recorder was stopped, for {lasting(unheard)}: the board wasn't heard")
-        if self.standing.was_away or unheard:
-            self._alarms.away(silence, self._gap > 0)
-            self._was_away = True
-        self.standing.was_away, self._gap, self._came_at = False, 0.0, self.game.capture.size
-        self._append(sent, now)
+        self._alarms.away(silence, self._gap > 0)
+        self._was_away, self.standing.was_away = True, False
 
     def timed(self, data: bytes) -> None:
         """The last bytes end a time message. These are its seven bytes."""
@@ -167,19 +169,19 @@ class Recording:
 
     def _append(self, sent: bytes, now: float, what: str = HEARD) -> None:
         """Appends what the board has sent or somebody has added."""
-        before = self.game.capture.total
-        self._disk.append(sent)
-        self._arrivals.came(now, self.game.capture.size)
-        if self.game.capture.size >= LARGE and not self._is_large:
+        kept, capture = self._disk.append(sent), self.game.capture
+        self._arrivals.came(now, capture.size)
+        if capture.size >= LARGE and not self._is_large:
             self._is_large = True
             most = mebibytes(self.game.options)
             self._screen.say(
-                f"{self.game.paths.capture} has 48 MiB, and none may have more than {most}: does a piece stand badly, and its square chatter?",
+                f"{capture.path} has 48 MiB, and none may have more than {most}: does a piece stand badly, and its square chatter?",
                 f"At {most} MiB the recording ends; the game can go on under another name, with --fen",
             )
         self._watching.feed()
-        self.game.times.grew(before, what)  # while the program reads
-        if self.game.capture.at_limit:
+        if kept:
+            self.game.times.happened(what, kept)  # while the program reads
+        if capture.size >= LARGE and capture.at_limit:
             self._end(Reason.LIMIT)
 
     def dumped(self) -> None:
@@ -240,8 +242,9 @@ class Recording:
         may have changed."""
         if self._begins_anew:
             return False
-        lines = [line for line in lines if self.end is None or line.offset < self.end or line.is_picture]  # else the game is over
-        is_changed = False
+        came, is_changed = self._arrivals.at(lines[0].offset, self._guard.now()), False
+        if self.end is not None:  # the game is over with this many bytes
+            lines = [line for line in lines if line.offset < self.end or line.is_picture]
         for line in lines:
             if isinstance(line.event, (Move, Result, Recovered)):
                 self._screen.told(line.event.shown, line.offset < self._old)
@@ -249,11 +252,12 @@ class Recording:
         if is_changed:
             self._maker.want()
             os.sched_yield()  # whoever reads these lines need not wait for what follows
-        is_news, means, now = False, None, self._guard.now()
+        is_news, means = False, None
         for line in lines:
-            is_news = self._take(line, now) or is_news
-            if self._rules.series or line.offset >= self._old:  # a single game that goes on hasn't ended where it seemed to
-                means = means or self.course.stands_again
+            is_news = self._take(line, came) or is_news
+            again = self.course.stands_again
+            if again and (self._rules.series or line.offset >= self._old):  # a single game that goes on hasn't ended where it seemed to
+                means = means or again
         if means:
             self._is_at_start(means)
         if self._by_hand and self._is_put is None and any(line.offset in self._by_hand for line in lines):
@@ -270,17 +274,16 @@ class Recording:
             self._begins_anew = True
             self._hears.anew()
 
-    def _take(self, line: Line, now: float) -> bool:
-        """Takes a line that is reported now. Returns whether the state may have changed."""
-        is_old = line.offset < self._old
-        event = line.event
+    def _take(self, line: Line, came: float) -> bool:
+        """Takes a line of a byte that came then. Returns whether the state may have changed."""
+        offset, event = line
+        is_old = offset < self._old
         if isinstance(event, Fault):
             if not is_old:
-                self._faults.append(f"{event.words} at {line.offset}")
+                self._faults.append(f"{event.words} at {offset}")
             return False
-        came = self._arrivals.at(line.offset, now)
         self.course.take(line, came)
-        look = None if is_old else self._alarms.take(came, line, line.offset in self._by_hand)
+        look = None if is_old else self._alarms.take(came, line, offset in self._by_hand)
         if isinstance(event, (Position, Clock)):
             return False
         is_news = True
@@ -293,7 +296,8 @@ class Recording:
             if isinstance(event, Result):
                 self._hear_result(event.outcome)
         self.course.news.clear()
-        self._tell_look(look)
+        if look:
+            self._tell_look(look)
         return is_news
 
     def _tell_look(self, look: Optional[Look]) -> None:

@@ -15,6 +15,7 @@ from live.game.game import Game
 from live.game.looks import Looks
 from live.game.program import Listing, Task
 from live.game.report import Picture, line_of
+from live.game.times import HEARD
 from live.guard import Guard
 from live.loop import Timer
 from live.terminal.screen import Screen
@@ -70,10 +71,10 @@ class SettingUp:
 
     def came(self, sent: bytes) -> None:
         """The board has sent this."""
-        before = self._game.capture.total
-        self._disk.append(sent)
+        kept = self._disk.append(sent)
         self._feed()
-        self._game.times.grew(before)
+        if kept:
+            self._game.times.happened(HEARD, kept)
 
     def dumped(self) -> None:
         """What came ends a complete dump."""

@@ -19,7 +19,7 @@ from live.game.program import Program
 from live.game.reply import Answer, reason_of, refusal
 from live.game.tags import Tags
 from live.guard import traced
-from live.loop import Loop
+from live.loop import Callback, Loop
 from live.refused import DONE, FAILED, REFUSED, Broken, Refused
 from live.terminal.screen import Screen
 
@@ -49,11 +49,11 @@ class Single:
         screen.on_change = self.changed
         self.board = Board(loop, program, self._screen, plan.paths, self)
         self.refused: Optional[Refused] = None
-        self.on_change: Callable[[], None] = lambda: None
-        self.over: Callable[[], None] = loop.stop  # called when its recording has ended
-        self.asked: Callable[[], None] = loop.stop  # and when somebody ends it
-        self.goes_on: Callable[[], None] = lambda: None  # and when it is recorded again
-        self.opened: Callable[[], None] = lambda: None  # called once, when its game has been opened
+        self.on_change: Optional[Callback] = None
+        self.over: Callback = loop.stop  # called when its recording has ended
+        self.asked: Callback = loop.stop  # and when somebody ends it
+        self.goes_on: Optional[Callback] = None  # and when it is recorded again
+        self.opened: Optional[Callback] = None  # called once, when its game has been opened
         self.greeting: Tuple[str, ...] = ()  # what to print once it is recorded
         self.secret = ""  # a line with a password, to print after that
         self.is_open = False  # whether its game has been opened
@@ -97,14 +97,20 @@ class Single:
     def changed(self) -> None:
         """What it shows has changed."""
         if self.board.is_recorded:
-            self._opened()
+            if not self.is_open or self.secret:
+                self._opened()
             self._is_faulty = False
-            self.goes_on()
-        if self.board.lacks and self._finder is None:
+            if self.goes_on:
+                self.goes_on()
+        if self.on_change:
+            self.on_change()
+
+    def missing(self) -> None:
+        """Its board, whose serial number is known, isn't on its cable: it is looked for from now on."""
+        if self._finder is None:
             from live.board.finding import Finder
 
             self._finder = Finder(self._loop, lambda: [self.board], self.trouble)
-        self.on_change()
 
     def close(self) -> None:
         """The loop has ended: the board isn't looked for any more."""
@@ -113,7 +119,7 @@ class Single:
 
     def _opened(self) -> None:
         """Its game is open."""
-        if not self.is_open:
+        if self.opened and not self.is_open:
             self.opened()
         self.is_open = True
         self._choice = Choice(Options(), (), self._choice.is_unseen)  # what was given is kept beside the game by now
@@ -126,7 +132,8 @@ class Single:
 
     def remade(self) -> None:
         """The text of its game has changed."""
-        self.on_change()
+        if self.on_change:
+            self.on_change()
 
     def ended(self, why: Optional[Exception]) -> bool:
         """Its recording has ended, or couldn't begin. Returns whether to try again."""

@@ -42,7 +42,7 @@ class Standing:
             self._timer.cancel()
             self._timer = None
         if self._timer is None and due < math.inf:  # a timer that comes too soon shows nothing new, and sets another
-            self._timer = self._loop.after(max(0.0, due - now), self._due)
+            self._timer = self._loop.at(due, self._due)
 
     def lasts(self) -> None:
         """Call this each second: a terminal shows how long it has lasted."""

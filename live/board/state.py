@@ -160,16 +160,16 @@ class BoardState:
         """The picture differs from the game's position on these squares. If there are none, it agrees."""
         before = self._squares
         self._squares = {square: before.get(square, now) for square in squares}
-        if len(self._squares) <= MOST_IN_HAND < len(before):  # what is left of a set-up
+        count = len(self._squares)
+        if count <= MOST_IN_HAND < len(before):  # what is left of a set-up
             self._squares = dict.fromkeys(self._squares, now)
         self._changed_at = now
-        if self._squares:
-            self._agreement.differs(now, len(self._squares))
+        if count:
+            self._agreement.differs(now, count)
         else:
             self._agreement.agrees()
-        if not self._squares:
             self._setting_up, self._hint = False, ""
-        elif len(self._squares) > MOST_IN_HAND:
+        if count > MOST_IN_HAND:
             self._setting_up = True
         if not self._result and not (self._seen and before and self._squares):
             self._since = now
@@ -223,14 +223,15 @@ class BoardState:
             return State(Kind.SILENT, self._silent_since, disk=self._disk, look=self.look)
         if self._goes_on:
             return State(Kind.WAITS, self._since, disk=self._disk, look=self.look)
-        kind, squares = self._shown(now)
-        since = min((self._squares[square] for square in squares), default=self._since)
-        if squares and self._agreement.is_overdue(now):
-            since = self._agreement.since
+        is_overdue = bool(self._squares) and self._agreement.is_overdue(now)
+        kind, squares = self._shown(now, is_overdue)
+        since = self._since
+        if squares:
+            since = self._agreement.since if is_overdue else min([self._squares[square] for square in squares])
         return State(kind, since, squares, self._result, self._hint, self._disk, self.look)
 
-    def _shown(self, now: float) -> Tuple[Kind, Tuple[str, ...]]:
-        """What the pictures say, and the squares that are shown with it."""
+    def _shown(self, now: float, is_overdue: bool) -> Tuple[Kind, Tuple[str, ...]]:
+        """What the pictures say, and the squares that are shown with it. The board `is_overdue` if it has differed for too long."""
         if not self._seen:
             return Kind.WAITS, ()
         if self._result:
@@ -239,8 +240,8 @@ class BoardState:
             return Kind.AGREES, ()
         moving = now < self._changed_at + HAND
         many = len(self._squares) > MOST_IN_HAND
-        old = tuple(square for square, since in self._squares.items() if now >= since + HAND)
-        if self._agreement.is_overdue(now):
+        old = tuple([square for square, since in self._squares.items() if now >= since + HAND])
+        if is_overdue:
             is_wrong = self._played or self._agreement.has_agreed
             return (Kind.WRONG if is_wrong else Kind.NO_START), old or tuple(self._squares)
         if self._setting_up and (moving or (many and not self._played)):
@@ -249,8 +250,10 @@ class BoardState:
 
     def due(self, now: float) -> float:
         """When the state changes if nothing happens."""
+        if not self._squares:
+            return math.inf
         times = [since + HAND for since in self._squares.values()] + [self._changed_at + HAND, self._agreement.due()]
-        return min((time for time in times if time > now), default=math.inf) if self._squares else math.inf
+        return min([time for time in times if time > now], default=math.inf)
 
 
 def turned_round(picture: Picture, start: Picture) -> bool:

@@ -30,6 +30,8 @@ class Came(NamedTuple):
     serial: str = ""
 
 
+NONE_OF_THESE = Came()
+
 @dataclass
 class Asking:
     """What one board is sent, and when.
@@ -83,31 +85,31 @@ class Asking:
     def came(self, now: float, sent: bytes) -> Came:
         """The board has sent this. Returns what has ended in it."""
         self._byte_at, dumped, time, serial = now, False, b"", ""
-        at = 0
-        while at < len(sent):
+        at, size = 0, len(sent)
+        while at < size:
             kind = self._frames.take_whole(sent, at)
             if kind:
                 at += len(self._frames.whole)
             else:
                 at += self._frames.take_squares(sent[at : at + LONGEST])
-                if at == len(sent):
+                if at == size:
                     break
                 kind = self._frames.take(sent[at])
                 at += 1
-            if kind is FrameKind.FAULT:
-                self._wanted = True
-            elif kind is FrameKind.UPDATE:
+            if kind is FrameKind.UPDATE:
                 self._updated, self._update_at = True, now
             elif kind is FrameKind.DUMP:
                 self._take_dump(now)
                 dumped = True
             elif kind is FrameKind.TIME:
                 time = self._frames.whole[HEADER:]
+            elif kind is FrameKind.FAULT:
+                self._wanted = True
             elif kind is FrameKind.OTHER:
                 serial = serial_of(self._frames.whole) or serial
         if serial:
             self.has_number, self._number_asked = True, 0
-        return Came(dumped, time, serial)
+        return Came(dumped, time, serial) if dumped or time or serial else NONE_OF_THESE
 
     def _take_dump(self, now: float) -> None:
         """A complete dump has come: it settles everything that came before it."""
@@ -128,11 +130,11 @@ class Asking:
         """When to call `request`, if nothing comes before."""
         if not self._open_line:
             return math.inf
-        wish = min(
-            -math.inf if self._wanted else math.inf,
-            self._byte_at + UNFINISHED if self._frames.unfinished else math.inf,
-            min(max(self._dump_at + POLL, self._update_at + self.quiet), self._dump_at + RESTLESS),
-        )
+        wish = -math.inf
+        if not self._wanted:
+            wish = min(max(self._dump_at + POLL, self._update_at + self.quiet), self._dump_at + RESTLESS)
+            if self._frames.under_way:
+                wish = min(wish, self._byte_at + UNFINISHED)
         return max(wish, self._asked_at + (PATIENCE if self._asked_open else BETWEEN))
 
     def request(self, now: float) -> bytes:

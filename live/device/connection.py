@@ -145,17 +145,24 @@ class Connection:
         elif sent and self._trial and self._trial.is_flood(now, len(sent)):
             self._lost(FLOOD)
         elif sent:
-            heard = sent, self._asking.came(now, sent)
-            had_answered = self._trial is None or self._trial.has_answered
-            passed = self._trial.passes(heard) if self._trial else [heard]
-            if passed and not had_answered:
-                self._hears.happened(ANSWERED)
-            if passed and not self._is_plugged:
-                self._plugged()
-            for one in passed:
-                self._hears.came(*one)
-            self._tell_silence()
+            ended = self._asking.came(now, sent)
+            if self._trial:
+                self._tries(self._trial, sent, ended)
+            else:
+                self._hears.came(sent, ended)
+            if self._silent != self._asking.silent:
+                self._tell_silence()
             self._ask()
+
+    def _tries(self, trial: Trial, sent: bytes, ended: Came) -> None:
+        """A serial server has sent this: perhaps a board behind it."""
+        had_answered, passed = trial.has_answered, trial.passes((sent, ended))
+        if passed and not had_answered:
+            self._hears.happened(ANSWERED)
+        if passed and not self._is_plugged:
+            self._plugged()
+        for one in passed:
+            self._hears.came(*one)
 
     def _lost(self, why: str) -> None:
         said = self._trial.said if self._trial and not self._trial.has_answered else ""
@@ -208,17 +215,14 @@ class Connection:
             self._hears.happened(GONE)
         self._silent = self._is_plugged = False
 
-    def _ask_after_time_away(self) -> None:
-        """Asks anew if the recorder was away: a dump that has waited since before that isn't what the board shows now."""
-        before, self._away = self._away, self._guard.away()
-        if self._away > before:
-            self._asking.added(b"")
-
     def _ask(self) -> None:
         """Sends the request that is due, and calls itself again when the next one is."""
         if self._line.number is None:
             return
-        self._ask_after_time_away()
+        away = self._guard.away.seconds
+        if away > self._away:  # a dump that has waited since before that isn't what the board shows now
+            self._away = away
+            self._asking.added(b"")
         now, due = self._guard.now(), self._asking.due()
         if now >= due:
             request = self._asking.request(now)
@@ -226,24 +230,25 @@ class Connection:
             self._hears.happened(ASKED, len(request))
             if START_REQUEST in request and self._is_plugged:
                 self._hears.asked_whose()
-            self._tell_silence()
+            if self._silent != self._asking.silent:
+                self._tell_silence()
             due = self._asking.due()
         if self._timer and (self._timer.when > due or self._timer.when <= now):
             self._timer.cancel()
             self._timer = None
         if self._timer is None and due < math.inf:
-            self._timer = self._guard.after(max(0.0, due - now), self._due)
+            self._timer = self._guard.at(due, self._due)
 
     def _due(self) -> None:
         self._timer = None
         self._ask()
 
     def _tell_silence(self) -> None:
-        if self._silent != self._asking.silent:
-            self._silent = self._asking.silent
-            self._plugged()
-            self._hears.silence(self._silent)
-            self._call_again_later()
+        """The board is silent, or answers again."""
+        self._silent = self._asking.silent
+        self._plugged()
+        self._hears.silence(self._silent)
+        self._call_again_later()
 
     def has_number(self) -> None:
         """The board is known to have a number: it is asked for until it comes."""

@@ -60,20 +60,15 @@ class Frames:
 
     def __init__(self) -> None:
         self.whole = b""  # the last whole frame
-        self._frame = bytearray()
+        self.under_way = bytearray()  # the bytes of a frame that isn't whole yet
         self._dropping = False
-
-    @property
-    def unfinished(self) -> bool:
-        """Whether the bytes so far end inside a frame."""
-        return bool(self._frame)
 
     def take(self, byte: int) -> Optional[FrameKind]:
         """What ends with this byte, if anything does."""
-        frame = self._frame
+        frame = self.under_way
         if byte >= 0x80:
             cut = bool(frame)
-            self._frame = bytearray((byte,))
+            self.under_way = bytearray((byte,))
             self._dropping = False
             return FrameKind.FAULT if cut else None
         if not frame:
@@ -92,7 +87,7 @@ class Frames:
 
     def take_whole(self, sent: bytes, at: int) -> Optional[FrameKind]:
         """Takes the dump, update or time message that begins there at once, if it is whole and no other frame is under way."""
-        found = None if self._frame else WHOLE.match(sent, at)
+        found = None if self.under_way else WHOLE.match(sent, at)
         if found is None:
             return None
         self.whole, self._dropping = found.group(), False
@@ -101,7 +96,7 @@ class Frames:
     def take_squares(self, sent: bytes) -> int:
         """Takes at once the bytes that are squares of the dump under way, except its last square, which ends it. Returns how
         many they are: 0 if one of them is no piece code."""
-        frame = self._frame
+        frame = self.under_way
         if len(frame) < HEADER or frame[0] != DUMP_ID:
             return 0
         squares = sent[: SIZES[DUMP_ID] - 1 - len(frame)]

@@ -76,7 +76,8 @@ class Alarms:
 
     def stands(self, now: float) -> Optional[Look]:
         """The board's first dump since then is fully reported. Returns what somebody must look at, if anything."""
-        return self._open(self._doubts.stands(now))
+        look = self._doubts.stands(now)
+        return self._open(look) if look else None
 
     def time(self, now: float, data: bytes, size: int) -> None:
         """A time message has come, with these seven bytes, when the capture had this size. A move that came before it may be reported
@@ -86,17 +87,19 @@ class Alarms:
 
     def take(self, now: float, line: Line, by_hand: bool) -> Optional[Look]:
         """Takes the next line of the game. Returns what somebody must look at, if anything; nothing that was added by hand."""
-        event = line.event
-        while self._times and self._times[0][0] <= line.offset:
+        offset, event = line
+        while self._times and self._times[0][0] <= offset:
             _, came_at, data = self._times.popleft()
             self._clock.time(came_at, data)
         look = self._doubts.take(now, event)
-        if isinstance(event, Move) and by_hand:
-            self._clock.added(event)
-        elif isinstance(event, Move):
-            look = self._clock.moved(now, event) or look
-        if look:
-            self._since[look.what] = line.offset
+        if isinstance(event, Move):
+            if by_hand:
+                self._clock.added(event)
+            else:
+                look = self._clock.moved(now, event) or look
+        if look is None:
+            return None
+        self._since[look.what] = offset
         return None if by_hand else self._open(look)
 
     def add(self, look: Look) -> Look:
@@ -104,9 +107,9 @@ class Alarms:
         self._open(look)
         return look
 
-    def _open(self, look: Optional[Look]) -> Optional[Look]:
-        """Adds this alarm, if there is one. Returns it if it is new."""
-        if look is None or look in self.looks.open:
+    def _open(self, look: Look) -> Optional[Look]:
+        """Adds this alarm. Returns it if it is new."""
+        if look in self.looks.open:
             return None
         self.looks = self.looks.with_one_more(look)
         self.keep()

@@ -10,7 +10,7 @@ from live.device import protocol
 from live.game import ending
 from live.game.doubts import PACE_OF
 from live.game.ending import StartAgain
-from live.game.report import Agrees, Change, Clock, Differs, Event, Line, Move, News, Picture, Position, Recovered, Result
+from live.game.report import Agrees, Change, Clock, Differs, Event, Fault, Line, Move, News, Picture, Position, Recovered, Result
 
 NO_PICTURE: protocol.Picture = ()
 
@@ -49,7 +49,7 @@ class Course:
 
     def take(self, line: Line, at: float) -> None:
         """Takes the next line, which came at this time."""
-        event = line.event
+        offset, event = line
         self.stands_again = None
         if isinstance(event, Picture):
             self.placement = event.placement
@@ -62,16 +62,13 @@ class Course:
         elif isinstance(event, Recovered):
             self.recovered.append(event.text)
             self.news.append(event)
-        elif isinstance(event, (Move, Result, Differs, Agrees)):
-            self._lines.take(ending.Line(line.offset, at, event))
+        elif not isinstance(event, Fault):
+            self._lines.take(ending.Line(offset, at, event))
             self._stands = event
-            self.has_agreed = self.has_agreed or isinstance(event, Agrees)
-            if isinstance(event, Move) and not event.corrects:
-                self.moved_at.append(at)
-            if isinstance(event, (Move, Result)):
-                self._take_change(event)
-                self.changed_at = line.offset
-                self._ends_at(line.offset)
+            if isinstance(event, Agrees):
+                self.has_agreed = True
+            elif not isinstance(event, Differs):
+                self._take_change(event, offset, at)
         if self._is_at_start and isinstance(event, (Position, Differs, Agrees)):
             self._is_at_start = False
             self._judge_start()
@@ -83,22 +80,21 @@ class Course:
             self.stands_again = Start.ENDS if self.has_agreed or len(self.plies) > 1 else Start.BEGINS
             self.stood_again = self.stands_again
 
-    def _ends_at(self, offset: int) -> None:
-        """The last ply, if it is a new one, is given by the line at this offset."""
-        if isinstance(self.news[-1], Move):
-            del self.ends[len(self.plies) - 1 :]
-            self.ends.append(offset)
-            self.began = self.began or offset
-
-    def _take_change(self, change: Change) -> None:
+    def _take_change(self, change: Change, offset: int, at: float) -> None:
         self.news.append(change)
+        self.changed_at = offset
         if isinstance(change, Result):
             self.result = change.outcome
             return
-        if change.corrects and self.plies:
+        if not change.corrects:
+            self.moved_at.append(at)
+        elif self.plies:
             self.plies.pop()
             del self.fens[len(self.plies) + 1 :]
         self.plies.append(change)
+        del self.ends[len(self.plies) - 1 :]
+        self.ends.append(offset)
+        self.began = self.began or offset
 
     @property
     def board(self) -> Optional[protocol.Picture]:

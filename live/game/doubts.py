@@ -193,10 +193,11 @@ class Doubts:
     def take(self, now: float, event: report.Event) -> Optional[Look]:
         """Takes the next event. Returns what somebody must look at, if anything."""
         if isinstance(event, report.Picture):
-            look = self._passes(now, event.codes)
-            self._shows(now, event.codes)
+            codes = event.codes
+            look = self._passes(now, codes) if self._passing else None
+            self._shows(now, codes)
             return look
-        elif isinstance(event, report.Position):
+        if isinstance(event, report.Position):
             self._reaches(event.fen)
         elif isinstance(event, (report.Result, report.Recovered)):
             self._is_over = isinstance(event, report.Result) and event.outcome != "*"
@@ -222,7 +223,8 @@ class Doubts:
         self._taken_back_at = now if picture == self._before else None
         mine, theirs = SIDES[self._side], SIDES[1 - self._side]
         places = places_differing(self._position, picture)
-        own, others = of_side(picture, places, mine), of_side(picture, places, theirs)
+        pieces = [at for at in places if picture[at]]
+        own, others = (of_side(picture, pieces, mine), of_side(picture, pieces, theirs)) if pieces else (NOWHERE, NOWHERE)
         if self._before is not None and own:
             own &= elsewhere(self._before, picture, mine)  # a piece that was taken may be put back
         is_off = not self._moved.isdisjoint(places)

@@ -70,7 +70,7 @@ class Lines:
         """Takes the next line."""
         self._count += 1
         numbered = self._count, line
-        if line.move:
+        if isinstance(line.event, Move):
             self._before += self._since()
             self._first, self._agreed, self._results = [numbered], [], []
         elif len(self._first) < 3:

@@ -9,7 +9,7 @@ import functools
 import os
 import stat
 from dataclasses import dataclass
-from typing import Optional, Union
+from typing import List, Optional, Union
 
 from live.lock import locked
 from live.refused import ANOTHER_CALL, FAILED, REFUSED, Refused
@@ -137,6 +137,28 @@ def folder_of(path: AnyPath) -> str:
     return os.path.dirname(os.fspath(path)) or "."
 
 
+class Opened:
+    """Descriptors that are closed together, the last one first."""
+
+    def __init__(self) -> None:
+        self._numbers: List[int] = []
+
+    def __enter__(self) -> Opened:
+        return self
+
+    def keep(self, number: int) -> int:
+        """This one too."""
+        self._numbers.append(number)
+        return number
+
+    def __exit__(self, *_: object) -> None:
+        if self._numbers:
+            try:
+                os.close(self._numbers.pop())
+            finally:
+                self.__exit__()
+
+
 def new_of(path: AnyPath) -> str:
     """Where a file is made before it is moved into place."""
     return f"{os.fspath(path)}.new"
@@ -242,7 +264,8 @@ class Capture:
         self.path = path
         self.number = number
         self.size = os.fstat(number).st_size
-        self.pending = bytearray()
+        self.pending = b""
+        self._written, self._written_at = b"", -1  # what was written last, and where it begins
         self.lost = 0  # bytes that were dropped because the memory for them was full
         self.limit: Optional[int] = LARGEST
         self.trouble = ""  # why something waits, in the system's words
@@ -291,7 +314,7 @@ class Capture:
         """Replaces the file's content at once. On an OSError the file stays as it was."""
         new = Capture.begin(self.path, content)
         os.close(self.number)
-        self.number, self.size = new.number, new.size
+        self.number, self.size, self._written_at = new.number, new.size, -1
 
     @property
     def waits(self) -> bool:
@@ -311,28 +334,34 @@ class Capture:
         """Whether so many bytes more are within the limit."""
         return self.limit is None or self.size + count < self.limit
 
-    def append(self, sent: bytes) -> None:
-        """Appends to the file, or keeps this for the next try if that fails. What is past the limit is dropped."""
-        room = MEMORY - len(self.pending)
-        if self.limit is not None:
-            room = min(room, self.limit - self.size - len(self.pending))
-        kept = sent[: max(0, room)]
-        self.lost += len(sent) - len(kept)
-        self.pending += kept
+    def append(self, sent: bytes) -> int:
+        """Appends to the file, or keeps this for the next try if that fails. What is past the limit is dropped. Returns how many bytes
+        aren't."""
+        room = (MEMORY if self.limit is None else min(MEMORY, self.limit - self.size)) - len(self.pending)
+        count = len(sent)
+        if count > room:
+            kept = max(0, room)
+            self.lost += count - kept
+            sent, count = sent[:kept], kept
+        self.pending += sent
         self.write()
+        return count
 
     def write(self) -> None:
         """Writes what waits, as far as possible."""
         try:
             while self.pending:
                 count = os.write(self.number, self.pending)
-                self.size += count
-                del self.pending[:count]
+                self._written, self._written_at = self.pending[:count], self.size
+                self.size, self.pending = self.size + count, self.pending[count:]
             self.trouble, self.full = "", False
         except OSError as error:
             self.trouble, self.full = text_of(error), error.errno in NO_ROOM
 
     def read(self, offset: int, count: int) -> bytes:
+        """At most this many bytes, from an offset on. What was just written is still in memory."""
+        if offset == self._written_at and count >= len(self._written):
+            return self._written
         return os.pread(self.number, count, offset)
 
     def bytes(self, start: int = 0, end: Optional[int] = None) -> bytes:

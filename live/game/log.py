@@ -10,6 +10,7 @@ from typing import Dict, Optional
 from live.game.files import AnyPath, Paths, open_regular, text_of
 
 MOST_TROUBLES = 8  # messages about a log
+DATE = len("2024-05-31 ")
 
 
 def logged_at(now: float) -> str:
@@ -17,14 +18,14 @@ def logged_at(now: float) -> str:
     return _in_second(int(now))
 
 
-@functools.lru_cache(maxsize=1)
-def _in_second(second: int) -> str:
-    return time.strftime("%Y-%m-%d %H:%M:%S", time.localtime(second))
-
-
 def time_of(now: float) -> str:
     """The time of day, as `14:02:59`."""
-    return logged_at(now)[-len("14:02:59") :]
+    return _in_second(int(now))[DATE:]
+
+
+@functools.lru_cache(maxsize=1)
+def _in_second(second: int) -> str:
+    return "%04d-%02d-%02d %02d:%02d:%02d" % time.localtime(second)[:6]
 
 
 class Log:

@@ -12,7 +12,7 @@ from typing import Callable, List, Optional, Protocol, Sequence, Tuple
 
 from live.beside import Worker
 from live.game.edited import is_recorded, keep
-from live.game.files import LARGEST, NO_ROOM, AnyPath
+from live.game.files import LARGEST, NO_ROOM, AnyPath, Opened
 from live.game.files import content_of, existing, new_of, open_new, open_regular, sync_folder, text_of, unwritten
 from live.game.game import Game
 from live.game.options import Options
@@ -126,40 +126,42 @@ class Text:
     def _record(self, limit: Optional[int], target: int) -> Made:
         """Calls `record`, which writes its text to `target`. Its requests to a board and its report are dropped. If this process
         dies, it can't write them, and ends."""
-        with contextlib.ExitStack() as ends:
-            ends.callback(self._forget_children)
-            report = self._start_children(limit, target)
-            ends.callback(os.close, report)
-            if self._closed:
-                self.kill()
-            while os.read(report, 65536):
-                pass
-            child, *before = self._children
-            status = child.wait()
-            if status in (WRITE_FAULT, -signal.SIGXFSZ):
-                os.write(target, b"\n")  # what stopped `record` stops this too, and says why
-                return Made("no room" if status < 0 else f"record {ending_of(status)}", status < 0)
-            if status != 0:
-                return Made(f"record {ending_of(status)}")
-            for recover in before:
-                if recover.wait() != 0:
-                    return Made(f"recover {ending_of(recover.returncode)}")
+        try:
+            with Opened() as opened:
+                report = opened.keep(self._start_children(limit, target))
+                if self._closed:
+                    self.kill()
+                while os.read(report, 65536):
+                    pass
+                return self._outcome(target)
+        finally:
+            self._forget_children()
+
+    def _outcome(self, target: int) -> Made:
+        """Waits for the end of `record`, which has told all, and of `recover`."""
+        child, *before = self._children
+        status = child.wait()
+        if status in (WRITE_FAULT, -signal.SIGXFSZ):
+            os.write(target, b"\n")  # what stopped `record` stops this too, and says why
+            return Made("no room" if status < 0 else f"record {ending_of(status)}", status < 0)
+        if status != 0:
+            return Made(f"record {ending_of(status)}")
+        for recover in before:
+            if recover.wait() != 0:
+                return Made(f"recover {ending_of(recover.returncode)}")
         return Made()
 
     def _start_children(self, limit: Optional[int], target: int) -> int:
         """Starts them. Returns where the report of `record` is read."""
         program, options = self._game.program, self._game.options
-        with contextlib.ExitStack() as opened:
-            source = source_of(self._game, limit)
-            opened.callback(os.close, source)
+        with Opened() as opened:
+            source = opened.keep(source_of(self._game, limit))
             if options.recover:
-                result, into = os.pipe()
-                opened.callback(os.close, result)
-                opened.callback(os.close, into)
+                result, into = map(opened.keep, os.pipe())
                 self._children = (program.start(("recover", *options.of_board()), source, into, subprocess.DEVNULL),)
                 source = result
             report, told = os.pipe()
-            opened.callback(os.close, told)
+            opened.keep(told)
             try:
                 self._children = (program.start(self._words, source, target, told), *self._children)
             except OSError:
@@ -171,15 +173,15 @@ class Text:
         """Ends those that still run."""
         children, self._children = self._children, ()
         for child in children:
-            child.kill()
-            child.wait()
+            if child.returncode is None:
+                child.kill()
+                child.wait()
 
     def _put_in_place(self, target: int) -> Optional[str]:
         """Puts the new text, open as `target`, in its place. Returns where the old text is kept, if somebody had edited it."""
         paths, edited = self._game.paths, None
-        with contextlib.ExitStack() as opened:
-            capture = os.open(paths.capture, os.O_RDONLY)
-            opened.callback(os.close, capture)
+        with Opened() as opened:
+            capture = opened.keep(os.open(paths.capture, os.O_RDONLY))
             os.fsync(capture)
             os.fsync(target)
             text, before = content_of(target, LARGEST), self._before(opened)  # read last: somebody may save it meanwhile
@@ -190,13 +192,11 @@ class Text:
             sync_folder(paths.folder)
         return edited
 
-    def _before(self, opened: contextlib.ExitStack) -> bytes:
+    def _before(self, opened: Opened) -> bytes:
         """The text that is there; empty if it can't be read. Its file stays open until it is replaced: the system takes a
         millisecond to remove a file that nobody has open, and readers would wait for the new one."""
         with contextlib.suppress(OSError):
-            number = open_regular(self._game.paths.pgn, os.O_RDONLY)
-            opened.callback(os.close, number)
-            return content_of(number, LARGEST)
+            return content_of(opened.keep(open_regular(self._game.paths.pgn, os.O_RDONLY)), LARGEST)
         return b""
 
 

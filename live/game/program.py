@@ -8,8 +8,9 @@ import functools
 import os
 import signal
 import subprocess
+import threading
 from dataclasses import dataclass
-from typing import Callable, Iterator, List, Optional, Protocol, Sequence, Tuple
+from typing import Callable, List, Optional, Protocol, Sequence, Tuple
 
 from live.game.options import FEN, Options
 from live.guard import Guard
@@ -22,20 +23,23 @@ BINARY = b"\x7fELF"  # how a program begins that isn't a script
 FRESH = 60.0  # seconds after which earlier failures no longer count
 
 
-@contextlib.contextmanager
-def _deaf_children() -> Iterator[None]:
-    """A child that is started inside keeps these signals blocked; a signal that comes meanwhile waits for this process."""
-    before = signal.pthread_sigmask(signal.SIG_BLOCK, ENDING)
-    try:
-        yield
-    finally:
-        signal.pthread_sigmask(signal.SIG_SETMASK, before)
+class _DeafChildren:
+    """A child that is started inside keeps these signals blocked; a signal that comes meanwhile waits for this process. In a worker
+    they are blocked anyway."""
+
+    def __enter__(self) -> None:
+        is_worker = threading.current_thread() is not threading.main_thread()
+        self._before = None if is_worker else signal.pthread_sigmask(signal.SIG_BLOCK, ENDING)
+
+    def __exit__(self, *_: object) -> None:
+        if self._before is not None:
+            signal.pthread_sigmask(signal.SIG_SETMASK, self._before)
 
 
 def _runs(path: str, held: str) -> bool:
     """Whether the program runs, started by this name of its file."""
     try:
-        with _deaf_children():
+        with _DeafChildren():
             words = [path, "--help"]
             return subprocess.run(words, executable=held, stdin=subprocess.DEVNULL, stdout=subprocess.DEVNULL).returncode == 0
     except OSError:
@@ -69,7 +73,7 @@ class Program:
         if not os.path.exists(path):
             path = os.path.join(beside, "dgt_replay")
         if os.path.exists(finder):
-            with _deaf_children():
+            with _DeafChildren():
                 found = subprocess.run([finder], stdin=subprocess.DEVNULL, stdout=subprocess.PIPE)
             if found.returncode != 0:
                 raise Refused(NO_PROGRAM, f"there is no program to record with. Type {finder}: it says what to do")
@@ -90,7 +94,7 @@ class Program:
 
     def run(self, *words: str, given: bytes = b"", patience: Optional[float] = None) -> subprocess.CompletedProcess[bytes]:
         """Calls it and waits: for calls of a few milliseconds. After so many seconds it is killed."""
-        with _deaf_children():
+        with _DeafChildren():
             child = subprocess.Popen(
                 [self.path, *words],
                 executable=self.held or None,
@@ -130,7 +134,7 @@ class Program:
 
     def start(self, words: Sequence[str], stdin: int, stdout: int, stderr: int) -> subprocess.Popen[bytes]:
         """Starts it without waiting."""
-        with _deaf_children():
+        with _DeafChildren():
             named = self.held or None
             return subprocess.Popen([self.path, *words], executable=named, stdin=stdin, stdout=stdout, stderr=stderr, bufsize=0)
 
@@ -181,6 +185,7 @@ class Reader:
         self._finished: Optional[Callable[[], None]] = None
         self._timer: Optional[Timer] = None
         self._child: Optional[subprocess.Popen[bytes]] = None
+        self._input: Optional[int] = None  # its standard input, while it may get more
         self._let_go: Callable[[], None] = lambda: None
         self._begin()
 
@@ -188,7 +193,7 @@ class Reader:
         self._given = self._task.start
         self._begins_anew()
         self._blocked = False
-        self._child = None
+        self._child = self._input = None
         try:
             self._child = self._task.program.start(self._task.words, subprocess.PIPE, subprocess.PIPE, self._task.errors)
         except OSError as error:
@@ -196,26 +201,26 @@ class Reader:
             return
         self._let_go = self._guard.opened(functools.partial(_end, self._child))
         assert self._child.stdin and self._child.stdout
-        os.set_blocking(self._child.stdin.fileno(), False)
-        os.set_blocking(self._child.stdout.fileno(), False)
-        self._guard.watch(self._child.stdout.fileno(), self._readable)
+        self._input, output = self._child.stdin.fileno(), self._child.stdout.fileno()
+        os.set_blocking(self._input, False)
+        os.set_blocking(output, False)
+        self._guard.watch(output, self._readable)
         self.feed()
 
     def feed(self) -> None:
         """Call this when the source has grown."""
-        if self._child is None or self._child.stdin is None or self._child.stdin.closed or self._blocked:
+        if self._input is None or self._blocked:
             return
-        number = self._child.stdin.fileno()
         source = self._task.source
         try:
             while self._given < source.size:
                 part = source.read(self._given, min(CHUNK, source.size - self._given))
                 if not part:
                     break
-                self._given += os.write(number, part)
+                self._given += os.write(self._input, part)
         except BlockingIOError:
             self._blocked = True
-            self._guard.watch(number, None, self._writable)
+            self._guard.watch(self._input, None, self._writable)
             return
         except OSError:
             return  # it has ended, as its output shows
@@ -223,15 +228,16 @@ class Reader:
             self._close_input()
 
     def _writable(self) -> None:
-        assert self._child and self._child.stdin
-        self._guard.forget(self._child.stdin.fileno())
+        assert self._input is not None
+        self._guard.forget(self._input)
         self._blocked = False
         self.feed()
 
     def _close_input(self) -> None:
         assert self._child and self._child.stdin
-        if not self._child.stdin.closed:
-            self._guard.forget(self._child.stdin.fileno())
+        if self._input is not None:
+            self._guard.forget(self._input)
+            self._input = None
             self._child.stdin.close()
 
     def _readable(self) -> None:
@@ -295,8 +301,9 @@ class Reader:
         child, self._child = self._child, None
         assert child and child.stdin and child.stdout
         self._guard.forget(child.stdout.fileno())
-        if not child.stdin.closed:
-            self._guard.forget(child.stdin.fileno())
+        if self._input is not None:
+            self._guard.forget(self._input)
+            self._input = None
         _let_go(child)
         self._let_go()
         return child.returncode
@@ -320,16 +327,16 @@ class Listing(Reader):
         return self._came >= self._known
 
     def _begins_anew(self) -> None:
-        self._part = b""
+        self._part = ""
         self._came = 0
 
     def _takes(self, part: bytes) -> None:
-        *lines, self._part = (self._part + part).split(b"\n")
-        new = lines[max(0, self._known - self._came) :]
+        *lines, self._part = (self._part + part.decode("ascii", "replace")).split("\n")
+        new = lines if self._came == self._known else lines[max(0, self._known - self._came) :]
         self._came += len(lines)
         self._known += len(new)
         if new:
-            self._heard([line.decode("ascii", "replace") for line in new])
+            self._heard(new)
 
 
 def _end(child: subprocess.Popen[bytes]) -> None:

@@ -144,21 +144,21 @@ def line_of(text: str) -> Optional[Line]:
 def event_of(words: str) -> Optional[Event]:
     """The event of a line, from its words after the offset. The same words are the same event."""
     kind, _, rest = words.partition(" ")
-    parts = rest.split(" ")
-    if kind in ("move", "correction") and len(parts) in (2, 3):
-        return Move(parts[0], parts[1], "".join(parts[2:]), kind == "correction")
-    if kind == "result" and rest:
-        return Result(rest)
-    if kind == "differs" and rest:
-        return Differs(tuple(parts))
-    if kind == "agrees":
-        return Agrees()
-    if kind == "fault":
-        return Fault(rest)
     if kind == "picture" and rest:
         return Picture(rest)
     if kind == "position" and rest:
         return Position(rest)
+    if kind == "agrees":
+        return Agrees()
+    parts = rest.split(" ")
+    if kind == "differs" and rest:
+        return Differs(tuple(parts))
+    if kind in ("move", "correction") and len(parts) in (2, 3):
+        return Move(parts[0], parts[1], "".join(parts[2:]), kind == "correction")
+    if kind == "result" and rest:
+        return Result(rest)
+    if kind == "fault":
+        return Fault(rest)
     if kind == "clock" and len(parts) == 2:
         return Clock(parts[0], parts[1])
     return Recovered(words) if kind == "recovered" else None

@@ -6,17 +6,16 @@ recorded the loop doesn't wait for it.
 
 from __future__ import annotations
 
-import collections
 import errno
 import math
 import os
 import threading
 import time
-from typing import Callable, Deque, List, Optional, Protocol, Tuple
+from typing import Callable, List, Optional, Protocol, Tuple
 
 from live.game import times
 from live.game.files import LARGEST, Capture, Paths, existing, open_regular, part_of, put_in_place, sync_folder, text_of
-from live.loop import Callback, Loop
+from live.loop import Away, Callback, Loop
 
 TRIES_AGAIN = 1.0  # seconds after a write has failed
 MOST_WAIT = 1000  # events that wait for the first bytes of a capture
@@ -28,8 +27,9 @@ NOTHING = "Nothing is to be done"
 class Turns(Protocol):
     """What it needs of a guard."""
 
-    def away(self) -> float:
-        """The seconds of all times in which the recorder was stopped, or the computer slept."""
+    @property
+    def away(self) -> Away:
+        """The times in which the recorder was stopped, or the computer slept."""
 
     def opened(self, close: Callback) -> Callback:
         """Something was opened, and this closes it. The returned function closes it too."""
@@ -50,7 +50,7 @@ class Times:
         self._says: Callable[[str], None] = lambda text: None
         self._told: List[str] = []  # to be said
         self.unexpected: Tuple[str, ...] = ()  # errors that aren't the system's
-        self._events: Deque[times.Happened] = collections.deque()  # to be written, by the clock's own time
+        self._events: List[times.Happened] = []  # to be written, by the clock's own time
         self._began: Optional[int] = None  # when the call began, by the clock; nothing is noted before
         self._was_away = 0.0
         self._line: Tuple[str, ...] = ()  # what was last noted of the line
@@ -142,7 +142,7 @@ class Times:
     def attend(self, turns: Turns, says: Callable[[str], None]) -> None:
         """A call begins. What fails is said."""
         self._turns, self._says = turns, says
-        self._was_away = turns.away()
+        self._was_away = turns.away.seconds
         self.leave = turns.opened(self.close)
         self.begin()
 
@@ -159,25 +159,24 @@ class Times:
             begun.append((times.AWAY, away))
         begun += [(what, None) for what in self._line]
         self._began, self._is_aside = now, False
-        self._events.extendleft((now, what, count) for what, count in reversed(begun))
+        self._events[:0] = [(now, what, count) for what, count in begun]
 
     def note(self, what: str, count: Optional[int] = None) -> None:
         """This has happened."""
         if self._began is None:
             return
-        now, turns = milliseconds(), self._turns
-        away = turns.away() if turns else 0.0
-        if away > self._was_away:
-            self._events.append((now, times.STOPPED, int((away - self._was_away) * 1000)))
-            self._was_away = away
-        if what in times.ALONE:
+        now = milliseconds()
+        if self._turns and self._turns.away.seconds > self._was_away:
+            before, self._was_away = self._was_away, self._turns.away.seconds
+            self._events.append((now, times.STOPPED, int((self._was_away - before) * 1000)))
+        if count is None:
             self._line = _line_after(self._line, what)
         self._events.append((now, what, count))
 
     def happened(self, what: str, count: Optional[int] = None) -> None:
         """The same, in the loop: it is written at once; what comes often, within a second."""
         self.note(what, count)
-        if what not in OFTEN or self._number is None:
+        if self._number is None or what not in OFTEN:
             self.wake()
 
     def wake(self) -> None:
@@ -185,12 +184,6 @@ class Times:
         self.write()
         if self._told:
             self._tell()
-
-    def grew(self, before: int, what: str = times.HEARD) -> None:
-        """The capture had this many bytes, those in memory with them; it has more now."""
-        more = self._capture.total - before
-        if more > 0:
-            self.happened(what, more)
 
     def over(self, size: int) -> None:
         """The game is over: it is this many bytes of the capture."""
@@ -245,7 +238,7 @@ class Times:
         number = self._open() if self._number is None or self._is_lost else self._number
         if self._is_lost:
             self._begin_again()
-        events = list(self._events)
+        events = self._events[:]
         content = times.lines(events, self._began or 0)
         if not self._size:
             content = times.heading(self.generation, self._capture.bytes(0, min(times.HEADED, self._capture.size))) + content
@@ -254,8 +247,7 @@ class Times:
         if os.write(number, content) < len(content):
             raise OSError(errno.ENOSPC, os.strerror(errno.ENOSPC))
         self._size += len(content)
-        for _ in events:
-            self._events.popleft()
+        del self._events[: len(events)]
         if self._is_lost:
             self._told.append(f"{self._path} is written again")
         self._trouble, self._is_lost = "", False

@@ -7,7 +7,7 @@ from __future__ import annotations
 
 import re
 from dataclasses import dataclass
-from typing import Iterator, List, Optional, Sequence, Tuple, Union
+from typing import Iterator, Optional, Sequence, Tuple, Union
 
 VERSION = 1
 HEADED = 4096  # bytes of a capture that a new heading has the digest of, at most
@@ -42,23 +42,24 @@ def heading(generation: int, first: Content) -> bytes:
 
 def line(event: Happened) -> bytes:
     """The line of an event."""
-    at, what, count = event
-    return f"{at} {what}\n".encode() if count is None else f"{at} {what} {count}\n".encode()
+    return lines([event])
 
 
 def lines(events: Sequence[Happened], began: int = 0) -> bytes:
     """The lines of some events, of a call that began then. What came within a millisecond came at once."""
-    if len(events) == 1:
-        at, what, count = events[0]
-        return line((max(0, at - began), what, count))
-    joined: List[Happened] = []
+    text, heard, heard_at = "", 0, 0  # what was heard then, and has no line yet
     for at, what, count in events:
-        at = max(0, at - began)
-        before = joined[-1] if joined else (0, "", None)
-        if what == HEARD == before[1] and at == before[0]:
-            count = (joined.pop()[2] or 0) + (count or 0)
-        joined.append((at, what, count))
-    return b"".join(map(line, joined))
+        at = at - began if at > began else 0
+        if heard and (what != HEARD or at != heard_at):
+            text += f"{heard_at} {HEARD} {heard}\n"
+            heard = 0
+        if what == HEARD:
+            heard, heard_at = heard + (count or 0), at
+        else:
+            text += f"{at} {what}\n" if count is None else f"{at} {what} {count}\n"
+    if heard:
+        text += f"{heard_at} {HEARD} {heard}\n"
+    return text.encode()
 
 
 @dataclass(frozen=True)

@@ -37,6 +37,7 @@ class Watching:
         watch = Task(game.program, ("watch", *options.of_board()), self._whole or capture)
         self._watch: Optional[Listing] = None
         self._watch = Listing(guard, watch, self._heard, hears, known)
+        self._children: List[Reader] = [self._whole, self._watch] if self._whole else [self._watch]
 
     def _with_pairs(self, guard: Guard, recover: Task) -> Whole:
         from live.game.whole import Whole  # few games need it
@@ -51,10 +52,6 @@ class Watching:
         lines = [line for line in map(line_of, texts) if line]
         places = self._places
         self._hears.heard([one for line in lines for one in places.of(line)] if places else lines)
-
-    @property
-    def _children(self) -> List[Reader]:
-        return [child for child in (self._whole, self._watch) if child]
 
     @property
     def caught_up(self) -> bool:

@@ -243,6 +243,9 @@ class Row:
             self._loop.after(0, self._apply_result)
         return True
 
+    def missing(self) -> None:
+        """The round looks for all boards anyway."""
+
     def owner(self, number: str) -> Optional[Board]:
         """The other board that has this serial number."""
         board = self._hears.owner(number)

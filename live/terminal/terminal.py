@@ -60,7 +60,8 @@ class Terminal:
         if len(self._waiting) + len(line) > WAITING:
             self._dropped += 1
             return
-        self._erase()
+        if self._shown:
+            self._erase()
         self._waiting += line
         self._write()
 
@@ -78,7 +79,7 @@ class Terminal:
             self._shown = False
 
     def _show_state(self) -> None:
-        if self._state and not self._shown:
+        if not self._shown:
             shown, _ = columns_of.split_at(columns_of.seen(self._state), self._width() - 1)
             self._waiting += shown.encode("utf-8", "backslashreplace")
             self._shown = True
@@ -94,7 +95,7 @@ class Terminal:
         if self._number is None:
             self._waiting.clear()
             return
-        if not self._stuck:
+        if self._state and not self._stuck:
             self._show_state()
         try:
             while self._waiting:

@@ -24,7 +24,7 @@ def streams() -> None:
         frames = Frames()
         seen = [(at, frames.take(byte)) for at, byte in enumerate(bytes_of(text))]
         same(text, [[at, kind.value] for at, kind in seen if kind], expected)
-        same(text + ", unfinished", frames.unfinished, unfinished)
+        same(text + ", unfinished", bool(frames.under_way), unfinished)
 
 
 def whole_frames() -> None:
@@ -38,7 +38,7 @@ def whole_frames() -> None:
             kind = kind or frames.take(sent[at - 1])
             seen += [[at - 1, kind.value]] if kind else []
         same(text + ", at once", seen, expected)
-        same(text + ", at once, unfinished", frames.unfinished, unfinished)
+        same(text + ", at once, unfinished", bool(frames.under_way), unfinished)
 
 
 def pictures() -> None:

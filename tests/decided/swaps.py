@@ -112,6 +112,9 @@ class Hears:
     def back(self, other: str) -> None:
         self.told.append(f"back {other}")
 
+    def missing(self) -> None:
+        self.told.append("missing")
+
     def lends(self, number: str, heard: Heard) -> bool:
         return False
 
@@ -125,7 +128,7 @@ def told_at_once() -> None:
     hears = Hears()
     cable = Cable(guard, Screen(None), "/dev/none", False, ITS_OWN, hears)
     cable.plugged()
-    for number, told in ((ITS_OWN, ["heard"]), (THE_OTHER, [f"another {THE_OTHER}"]), (ITS_OWN, [f"back {THE_OTHER}", "heard"])):
+    for number, told in ((ITS_OWN, ["heard"]), (THE_OTHER, [f"another {THE_OTHER}", "missing"]), (ITS_OWN, [f"back {THE_OTHER}", "heard"])):
         hears.told.clear()
         cable.came(b"\x91", Came(serial=number))
         same(f"the number {number}", hears.told, told)

@@ -1,15 +1,17 @@
 """Which gaps between two turns of the loop are a time away."""
 
-from live.time_away import Turn, time_away
+from live.time_away import time_away
 
 from decided.cases import cases
 from decided.table import same
 
 
 def turns() -> None:
-    """Stopped, asleep by either clock, held up for a moment; a clock that is put back or forward."""
+    """Stopped, asleep, held up for a moment. The cases have two clocks, as a page does: one stands still while the computer sleeps,
+    the other may be put back. The recorder's clock does neither, so it shows the longer of both times."""
     for name, before, now, waited, seconds in cases("time_away", "turns"):
-        same(name, time_away(Turn(*before), Turn(*now), waited), seconds)
+        longer = max(later - earlier for earlier, later in zip(before, now))
+        same(name, time_away(longer, waited), seconds)
 
 
 TABLES = [turns]

@@ -1,5 +1,5 @@
 """The computer sleeps, or the recorder is stopped: what was played meanwhile is in the game, or somebody must look. The case
-controls the clocks by which a recorder sees that."""
+controls the clock by which a recorder sees that."""
 
 import pathlib
 import signal
@@ -12,15 +12,14 @@ from played.boards import Board
 from played.recorder import Live
 from played.stage import begin_game, rest, same, stop, until_dumped, until_game, until_line
 
-# Starts the recorder with two clocks of the case's: their seconds are in a file.
-CLOCKS = """
+# Starts the recorder with a clock of the case's: its seconds are in a file.
+CLOCK = """
 import pathlib, runpy, sys
 sys.dont_write_bytecode = True
 file, sys.argv = pathlib.Path(sys.argv[1]), sys.argv[2:]
 sys.path.insert(0, {top!r})
 from live import loop
-for number, clock in enumerate(("running", "counting")):
-    setattr(loop.Loop, clock, staticmethod(lambda number=number: float(file.read_text().split()[number])))
+loop.Loop.counting = staticmethod(lambda: float(file.read_text()))
 runpy.run_path(sys.argv[0], run_name="__main__")
 """
 THERE_AND_BACK = ["g1f3", "g8f6", "f3g1", "f6g8"]  # four plies after which the pieces stand as before
@@ -29,21 +28,21 @@ SLEPT = "this computer slept, or the recorder was stopped, for"
 NOTHING_HAPPENED, LOOK = "LOOK after 1... e5", "LOOK"
 
 
-class Clocks:
-    """The clocks by which a recorder sees that it was away: one that may stand still while the computer sleeps, and one that counts
-    on. They stand still until they are put forward."""
+class Clock:
+    """The clock by which a recorder sees that it was away: it counts on while the computer sleeps, and that of all timers doesn't.
+    It stands still until it is put forward."""
 
     def __init__(self, folder: pathlib.Path) -> None:
-        self._file, script = folder / "clocks", folder / "clocks.py"
-        script.write_text(CLOCKS.format(top=str(TOP)))
+        self._file, script = folder / "clock", folder / "clock.py"
+        script.write_text(CLOCK.format(top=str(TOP)))
         self.start: List[object] = [sys.executable, script, self._file]
-        self._running = self._counting = 1000.0
-        self.go_on(0, 0)
+        self._seconds = 1000.0
+        self.go_on(0)
 
-    def go_on(self, running: float, counting: float) -> None:
-        self._running, self._counting = self._running + running, self._counting + counting
+    def go_on(self, seconds: float) -> None:
+        self._seconds += seconds
         new = self._file.with_suffix(".new")  # the recorder may be reading it
-        new.write_text(f"{self._running} {self._counting}")
+        new.write_text(str(self._seconds))
         new.replace(self._file)
 
 
@@ -54,39 +53,38 @@ def unheard(board: Board, moves: List[str]) -> None:
     board.asked_for_updates = True
 
 
-def game_asleep(folder: pathlib.Path, moves: List[str], clocks: Tuple[float, float]) -> Tuple[Board, Live]:
-    """A game of two plies, and a time in which the clocks go on so far while others are played."""
+def game_asleep(folder: pathlib.Path, moves: List[str]) -> Tuple[Board, Live]:
+    """A game of two plies, and 35 s in which others are played while the computer sleeps."""
     folder.mkdir()
-    own = Clocks(folder)
-    board, live = begin_game(folder, typed=True, start=own.start)
+    clock = Clock(folder)
+    board, live = begin_game(folder, typed=True, start=clock.start)
     until_dumped(board, live.name)
     unheard(board, moves)
-    own.go_on(*clocks)
+    clock.go_on(35)
     return board, live
 
 
 def asleep(folder: pathlib.Path) -> None:
-    """The computer sleeps for 35 s by a clock that counts on, and by one that stands still. Four plies that lead back, and none at
-    all, are something to look at; after two the board is wrong, and they are typed."""
-    for name, clocks in (("counts", (35.0, 35.0)), ("stands", (0.0, 35.0))):
-        for moves in MEANWHILE:
-            board, live = game_asleep(folder / f"{name}_{len(moves)}", moves, clocks)
-            until_line(live, f"{SLEPT} 35 s")
-            until_line(live, NOTHING_HAPPENED)
-            same(stop(live), 0)
-        board, live = game_asleep(folder / f"{name}_2", ["g1f3", "b8c6"], clocks)
-        until_line(live, words.WRONG)
-        live.type("Nf3 Nc6")
-        until_game(live.name, "1. e4 e5 2. Nf3 Nc6 *")
+    """The computer sleeps for 35 s. Four plies that lead back, and none at all, are something to look at; after two the board is
+    wrong, and they are typed."""
+    for moves in MEANWHILE:
+        board, live = game_asleep(folder / str(len(moves)), moves)
+        until_line(live, f"{SLEPT} 35 s")
+        until_line(live, NOTHING_HAPPENED)
         same(stop(live), 0)
+    board, live = game_asleep(folder / "2", ["g1f3", "b8c6"])
+    until_line(live, words.WRONG)
+    live.type("Nf3 Nc6")
+    until_game(live.name, "1. e4 e5 2. Nf3 Nc6 *")
+    same(stop(live), 0)
 
 
 def short_pause(folder: pathlib.Path) -> None:
     """The recorder is held up for less than five seconds, again and again: nobody need look at anything, and the game goes on."""
-    clocks = Clocks(folder)
-    board, live = begin_game(folder, start=clocks.start)
+    clock = Clock(folder)
+    board, live = begin_game(folder, start=clock.start)
     for _ in range(4):
-        clocks.go_on(4.9, 4.9)
+        clock.go_on(4.9)
         until_dumped(board, live.name)
         rest(1.5)  # the loop turns each second
     board.play("g1f3")
@@ -117,14 +115,14 @@ def stopped(folder: pathlib.Path) -> None:
 
 
 def while_unplugged(folder: pathlib.Path) -> None:
-    """The computer sleeps while the cable is out, and one clock stands still: the time counts all the same."""
-    clocks = Clocks(folder)
-    board, live = begin_game(folder, start=clocks.start)
+    """The computer sleeps while the cable is out, and the clock of all timers stands still: the time counts all the same."""
+    clock = Clock(folder)
+    board, live = begin_game(folder, start=clock.start)
     until_dumped(board, live.name)
     board.pull()
     until_line(live, words.UNPLUGGED)
     board.play(*THERE_AND_BACK)
-    clocks.go_on(0, 35)
+    clock.go_on(35)
     rest(1.5)  # the loop turns each second
     board.plug()
     until_line(live, NOTHING_HAPPENED)

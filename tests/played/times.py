@@ -9,7 +9,7 @@ from typing import List, Optional, Tuple
 from play_board import BLACK, KING
 from played import words
 from played.across import ser2net
-from played.asleep import Clocks
+from played.asleep import Clock
 from played.recorder import Live
 from played.stage import (
     a_board,
@@ -233,10 +233,10 @@ def times_of_a_set_up(folder: pathlib.Path) -> None:
 
 def times_asleep(folder: pathlib.Path) -> None:
     """The computer sleeps for 35 s, by a clock that counts on: it is written so, and later times count on."""
-    clocks = Clocks(folder)
-    board, live = begin_game(folder, start=clocks.start)
+    clock = Clock(folder)
+    board, live = begin_game(folder, start=clock.start)
     until_dumped(board, live.name)
-    clocks.go_on(0, 35)
+    clock.go_on(35)
     rest(1.5)  # the loop turns each second
     board.play("g1f3")
     until_game(live.name, "1. e4 e5 2. Nf3 *")
