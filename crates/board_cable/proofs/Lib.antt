@@ -1,4 +1,4 @@
-mod Once
+pub mod Once
 mod Fives
 mod Shown
 mod Kept

@@ -1,0 +1,42 @@
+-- What comes to the game. Lists have the latest first; bytes are in the order in which they came.
+use Rattle.std.specs.Prelude.{◌≤◌, ◌||◌, ℕ, Bool, true, false, if◌then◌else◌, List, [], ◌∷◌, Option, Some, None, length, take}
+use Rattle.board_asking.specs.Silence.{is_silent}
+use Rattle.board_cable.specs.Keeping.{kept}
+use Rattle.board_cable.specs.Turns.{Turn, told}
+use Rattle.board_standing.specs.declared.heard.Heard.{Heard}
+use Rattle.board_standing.specs.declared.heard.Heard.TheVariants.{Stops, Answers}
+use Rattle.board_game.specs.History.{Came, Bytes, News, room_of}
+use Rattle.board_live.specs.declared.happened.What.{What}
+use Rattle.board_live.specs.Moments.{Moment, already, begins, news_of}
+
+-- bytes, as far as the capture has room for them; no bytes are nothing
+abbrev pub with_bytes : ℕ → List ℕ → List Came → List Came
+with_bytes at [] before = before
+with_bytes at (byte ∷ bytes) before = Bytes at (take (room_of before) (byte ∷ bytes)) ∷ before
+
+-- news of the line, if there are any
+abbrev pub with_news : ℕ → Option Heard → List Came → List Came
+with_news at None before = before
+with_news at (Some heard) before = News at heard ∷ before
+
+-- While the board is silent, whatever happens tells so; and then that it answers. Of a call that begins this isn't known: it
+-- counts as answering.
+abbrev pub silence : What → Bool → Bool → Option Heard
+silence what before true = Some Stops
+silence what before false = if before || begins what then Some Answers else None
+
+-- One thing after the other: news of the line, the bytes that the capture has already, those that it gets now, and the silence.
+abbrev pub came_with : ℕ → Option Heard → List ℕ → List ℕ → Option Heard → List Came → List Came
+came_with at news already kept silence before = with_news at silence (with_bytes at kept (with_bytes at already (with_news at news before)))
+
+-- What has come to the game, if these are the turns of the cable.
+abbrev pub came : List Moment → List Turn → List Came
+came [] turns = []
+came (moment ∷ past) [] = []
+came (moment ∷ past) (turn ∷ turns) = came_with moment.at (news_of moment.what) (already moment.what moment.bytes) (kept (turn ∷ turns))
+    (silence moment.what (is_silent (told turns)) (is_silent (told (turn ∷ turns)))) (came past turns)
+
+-- The capture has room for the bytes.
+abbrev pub HasRoom : ℕ → Option Heard → List ℕ → List ℕ → List Came → Type 0
+HasRoom at news already kept before = (length already ≤ room_of (with_news at news before))
+    × (length kept ≤ room_of (with_bytes at already (with_news at news before)))

@@ -1,0 +1,52 @@
+-- What happens at a board that is recorded. Lists have the latest first; bytes are in the order in which they came.
+use Rattle.std.specs.Prelude.{ℕ, Bool, true, false, List, [], ◌∷◌, Option, Some, None}
+use Rattle.board_cable.specs.declared.happened.What.{What as AtCable}
+use Rattle.board_cable.specs.declared.happened.What.TheVariants.{Begins, Opens, Closes, Interrupts, Wakes}
+use Rattle.board_cable.specs.Moments.{Moment as CableMoment}
+use Rattle.board_standing.specs.declared.heard.Heard.{Heard}
+use Rattle.board_standing.specs.declared.heard.Heard.TheVariants.{Begins as RecorderBegins, Plugs, Unplugs}
+use Rattle.board_live.specs.declared.happened.Happened.{Happened}
+use Rattle.board_live.specs.declared.happened.What.{What}
+use Rattle.board_live.specs.declared.happened.What.TheVariants.{Cable, Adds, Keeps, Tells}
+
+-- what happens at a time, with its bytes
+pub record Moment : Type 0 where
+  pub at : ℕ
+  pub what : What
+  pub bytes : List ℕ
+
+abbrev pub moment_of : Happened → List ℕ → Moment
+moment_of happened bytes = record { at = happened.at; what = happened.what; bytes = bytes }
+
+-- What it is at the cable: bytes that were added may have cut a frame; what was kept of a call before happens elsewhere.
+abbrev pub at_cable : What → AtCable
+at_cable (Cable what) = what
+at_cable Adds = Interrupts
+at_cable Keeps = Wakes
+at_cable (Tells heard) = Wakes
+
+abbrev pub cable_moment : Moment → CableMoment
+cable_moment moment = record { at = moment.at; what = at_cable moment.what; bytes = moment.bytes }
+
+abbrev pub cabled : List Moment → List CableMoment
+cabled [] = []
+cabled (moment ∷ past) = cable_moment moment ∷ cabled past
+
+-- the bytes that the capture has already
+abbrev pub already : What → List ℕ → List ℕ
+already Adds bytes = bytes
+already Keeps bytes = bytes
+already _ bytes = []
+
+-- What it tells of the line. A serial server that is called again tells nothing: its line is opened anew.
+abbrev pub news_of : What → Option Heard
+news_of (Cable Begins) = Some RecorderBegins
+news_of (Cable Opens) = Some Plugs
+news_of (Cable Closes) = Some Unplugs
+news_of (Tells heard) = Some heard
+news_of _ = None
+
+-- A call begins.
+abbrev pub begins : What → Bool
+begins (Cable Begins) = true
+begins _ = false

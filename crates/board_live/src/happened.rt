@@ -1,0 +1,114 @@
+//! What happens at a board that is recorded.
+ghost use Rattle.std.specs.Prelude.{◌≡◌};
+ghost use Rattle.board_cable.specs.Moments.{sent};
+ghost use Rattle.board_live.specs.Coming.{silence};
+ghost use Rattle.board_live.specs.Moments.{already, at_cable, begins, cable_moment, moment_of, news_of};
+ghost use Rattle.board_live.specs.Saying.{live_by};
+
+use board_cable::{Happened as Cabled, What as AtCable};
+use board_standing::Heard;
+
+/// What happens.
+#[derive(Clone, Copy)]
+pub enum What {
+    /// This happens at the cable.
+    Cable(AtCable),
+    /// Bytes were added by hand: they are in the capture already.
+    Adds,
+    /// Of a call before this one: the capture got these bytes.
+    Keeps,
+    /// Of a call before this one: this was told of the line.
+    Tells(Heard),
+}
+
+/// What happens at a time, in milliseconds.
+#[derive(Clone, Copy)]
+pub struct Happened {
+    pub at: u64,
+    pub what: What,
+}
+
+/// What this is at the cable. What was kept of a call before happens elsewhere: the cable only wakes.
+fn at_cable(what: What) -> AtCable
+    ensures { result ≡ at_cable what }
+{
+    match what {
+        What::Cable(what) => what,
+        What::Adds => AtCable::Interrupts,
+        What::Keeps | What::Tells(_) => AtCable::Wakes,
+    }
+}
+
+pub fn cabled(happened: Happened) -> Cabled
+    ensures { result ≡ record { at = happened.at; what = at_cable happened.what } }
+{
+    Cabled {
+        at: happened.at,
+        what: at_cable(happened.what),
+    }
+}
+
+/// The bytes that the board has sent.
+pub fn sent(happened: Happened, bytes: &[u8]) -> &[u8]
+    ensures { result.now ≡ sent (cable_moment (moment_of happened bytes.now)) }
+{
+    match happened.what {
+        What::Cable(AtCable::Hears) => bytes,
+        _ => &[],
+    }
+}
+
+/// The bytes that the capture has already.
+pub fn already(what: What, bytes: &[u8]) -> &[u8]
+    ensures { result.now ≡ already what bytes.now }
+{
+    match what {
+        What::Adds | What::Keeps => bytes,
+        _ => &[],
+    }
+}
+
+/// What this tells of the line.
+pub fn news_of(what: What) -> Option<Heard>
+    ensures { result ≡ news_of what }
+{
+    match what {
+        What::Cable(AtCable::Begins) => Some(Heard::Begins),
+        What::Cable(AtCable::Opens) => Some(Heard::Plugs),
+        What::Cable(AtCable::Closes) => Some(Heard::Unplugs),
+        What::Tells(heard) => Some(heard),
+        _ => None,
+    }
+}
+
+/// Whether a call begins.
+pub fn begins(what: What) -> bool
+    ensures { result ≡ begins what }
+{
+    matches!(what, What::Cable(AtCable::Begins))
+}
+
+/// Whether this call has begun.
+pub fn live_after(what: What, before: bool) -> bool
+    ensures { result ≡ live_by what before }
+{
+    match what {
+        What::Cable(AtCable::Begins) => true,
+        What::Keeps | What::Tells(_) => false,
+        _ => before,
+    }
+}
+
+/// What the board's silence tells, before and after something has happened.
+pub fn silence(what: What, before: bool, now: bool) -> Option<Heard>
+    ensures { result ≡ silence what before now }
+{
+    if now {
+        return Some(Heard::Stops);
+    }
+    if before || begins(what) {
+        Some(Heard::Answers)
+    } else {
+        None
+    }
+}

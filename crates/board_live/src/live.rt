@@ -1,0 +1,195 @@
+//! The machine: it takes what happens at a board, and says what it comes to.
+ghost use Rattle.std.specs.Prelude.{◌≡◌, ◌<◌, ◌^◌, ◌∷◌, [], ◌++◌, ℕ, Bool, List, IfOk, OnOk};
+ghost use Rattle.board_asking.specs.Pace.{AsksAlike};
+ghost use Rattle.board_asking.specs.Silence.{is_silent};
+ghost use Rattle.board_asking.specs.Whose.{HandledAlike, own_number};
+ghost use Rattle.board_cable.specs.Keeping.{aside, kept};
+ghost use Rattle.board_cable.specs.Turns.{Told, Turn, told};
+ghost use Rattle.board_captures.specs.Reading.{setting_of};
+ghost use Rattle.board_events.specs.Settings.{Setting};
+ghost use Rattle.board_game.specs.Games.{IsStateOf};
+ghost use Rattle.board_game.specs.Report.{IsReport, first_line};
+ghost use Rattle.board_live.specs.Coming.{came};
+ghost use Rattle.square_runs.specs.Lasting.{earlier};
+ghost use Rattle.board_live.specs.Due.{StaysAlike};
+ghost use Rattle.board_live.specs.Live.{Answers, HasBegun, StandsFor};
+ghost use Rattle.board_live.specs.Moments.{Moment, cabled, moment_of};
+
+use crate::attending::Attending;
+use crate::happened::Happened;
+use crate::hearing::hear;
+use crate::saying::Saying;
+use board_asking::{Handling, Request};
+use board_captures::Method;
+use board_game::Game;
+use board_standing::State;
+use board_standing::laws::stays_until_due;
+use std::alloc::{AllocError, Global};
+
+/// A board that is recorded.
+#[derive(Drop)]
+pub struct Live {
+    attending: Attending,
+    game: Game,
+    saying: Saying,
+}
+
+/// What is answered to what happens. In this order it is written: what is done with the bytes, the request, the lines of the
+/// report, the state.
+#[derive(Clone, Copy)]
+pub struct Answer {
+    /// What is done with what the board has sent. If it is kept, `Live::kept` has what the capture gets now.
+    pub handling: Handling,
+    /// What the board is sent now. It counts as sent.
+    pub request: Option<Request>,
+    /// How the board stands, if that is to be said: first when a call begins, and then whenever it is news.
+    pub state: Option<State>,
+    /// Whether the capture had room for all bytes.
+    pub is_whole: bool,
+}
+
+/// The sooner of two times.
+fn sooner(one: Option<u64>, other: Option<u64>) -> Option<u64>
+    ensures { result ≡ earlier one other }
+{
+    match (one, other) {
+        (None, other) => other,
+        (Some(one), None) => Some(one),
+        (Some(one), Some(other)) => Some(one.min(other)),
+    }
+}
+
+/// For its clause: a mask has 64 bits.
+fn count_bits(squares: u64)
+    ensures { squares < 2 ^ 64 }
+{}
+
+impl Live {
+    /// Nothing has happened. Takes no memory.
+    pub fn new(alloc: Global, method: &Method) -> Live
+        ensures stands { StandsFor result (setting_of method.now) method.now.recovers [] (first_line (setting_of method.now)) }
+        ensures begun { HasBegun result }
+    {
+        let attending = Attending::new(alloc);
+        let game = Game::new(alloc, method);
+        let saying = Saying::new();
+        Live {
+            attending,
+            game,
+            saying,
+        }
+    }
+
+    /// Takes what happens, with its bytes: those that the board has sent, that were added, or that were kept in a call before.
+    /// Appends the lines of the report to `lines`.
+    ///
+    /// # Errors
+    ///
+    /// Where there is no memory. Then nothing more may be taken.
+    pub fn take(
+        &mut self,
+        happened: Happened,
+        bytes: &[u8],
+        lines: &mut Vec<u8>,
+    ) -> Result<Answer, AllocError>
+        requires begun { HasBegun self.old }
+        ensures stands { (setting : Setting) (recovers : Bool) (past : List Moment) (text : List ℕ) → StandsFor self.old setting recovers past text
+            → OnOk result ((more : List ℕ) × (lines.new.items ≡ lines.old.items ++ more)
+            × StandsFor self.new setting recovers (moment_of happened bytes.now ∷ past) (text ++ more)) }
+        ensures answers { (setting : Setting) (recovers : Bool) (past : List Moment) (text : List ℕ) (turn : Turn) (turns : List Turn)
+            → StandsFor self.old setting recovers past text → Told (cabled (moment_of happened bytes.now ∷ past)) (turn ∷ turns)
+            → IfOk result (Answers setting recovers (moment_of happened bytes.now) past turn turns) }
+        ensures begun { OnOk result (HasBegun self.new) }
+    {
+        let comes = self.attending.take(happened, bytes)?;
+        let is_whole = hear(
+            &mut self.game,
+            happened,
+            bytes,
+            self.attending.kept(),
+            comes.silence,
+            lines,
+        )?;
+        let now = self.game.state(happened.at);
+        // For its clause: a mask has 64 bits.
+        count_bits(now.squares);
+        let state = self.saying.say(happened.what, now);
+        Ok(Answer {
+            handling: comes.handling,
+            request: comes.request,
+            state,
+            is_whole,
+        })
+    }
+
+    /// What the capture gets now of what the board has sent. It is there until more happens.
+    pub fn kept(&self) -> &[u8]
+        ensures { (setting : Setting) (recovers : Bool) (past : List Moment) (text : List ℕ) (turns : List Turn)
+            → StandsFor self.now setting recovers past text → Told (cabled past) turns → result.now ≡ kept turns }
+    {
+        self.attending.kept()
+    }
+
+    /// How the board stands at this time, which is none before the last at which something happened.
+    pub fn state(&self, now: u64) -> State
+        ensures { (setting : Setting) (recovers : Bool) (past : List Moment) (text : List ℕ) (turns : List Turn)
+            → StandsFor self.now setting recovers past text → Told (cabled past) turns → IsStateOf setting recovers (came past turns) now result }
+    {
+        self.game.state(now)
+    }
+
+    /// When to wake, if nothing happens: none of what is said here changes before. None: never.
+    pub fn due(&self, now: u64) -> Option<u64>
+        ensures asks { (setting : Setting) (recovers : Bool) (past : List Moment) (text : List ℕ) (turns : List Turn)
+            → StandsFor self.now setting recovers past text → Told (cabled past) turns → AsksAlike now (told turns) result }
+        ensures handling { (setting : Setting) (recovers : Bool) (past : List Moment) (text : List ℕ) (turns : List Turn)
+            → StandsFor self.now setting recovers past text → Told (cabled past) turns → HandledAlike now (told turns) result }
+        ensures state { (setting : Setting) (recovers : Bool) (past : List Moment) (text : List ℕ) (turns : List Turn)
+            → StandsFor self.now setting recovers past text → Told (cabled past) turns → StaysAlike setting recovers (came past turns) now result }
+    {
+        // For its clause: if nothing is heard, the state stays until it is due.
+        stays_until_due();
+        let cable = self.attending.cable.due(now);
+        let game = self.game.due(now);
+        sooner(cable, game)
+    }
+
+    /// Whether the board sends no dump, though it was asked for 5 s.
+    pub fn is_silent(&self) -> bool
+        ensures { (setting : Setting) (recovers : Bool) (past : List Moment) (text : List ℕ) (turns : List Turn)
+            → StandsFor self.now setting recovers past text → Told (cabled past) turns → result ≡ is_silent (told turns) }
+    {
+        self.attending.cable.is_silent()
+    }
+
+    /// The serial number of the game's board, if it is known.
+    pub fn serial(&self) -> Option<[u8; 5]>
+        ensures { (setting : Setting) (recovers : Bool) (past : List Moment) (text : List ℕ) (turns : List Turn)
+            → StandsFor self.now setting recovers past text → Told (cabled past) turns → result ≡ own_number (told turns) }
+    {
+        self.attending.cable.serial()
+    }
+
+    /// What is kept aside of another board, until the arbiter takes that board or another game takes what it has sent.
+    pub fn aside(&self) -> &[u8]
+        ensures { (setting : Setting) (recovers : Bool) (past : List Moment) (text : List ℕ) (turns : List Turn)
+            → StandsFor self.now setting recovers past text → Told (cabled past) turns → result.now ≡ aside turns }
+    {
+        self.attending.cable.aside()
+    }
+
+    /// The board's game.
+    pub fn game(&self) -> &Game
+        ensures { result.now ≡ self.now.game }
+    {
+        &self.game
+    }
+
+    /// For its clause: what was appended so far is the report of what came to the game, behind its first line.
+    pub fn conclude(&self)
+        ensures { (setting : Setting) (recovers : Bool) (past : List Moment) (text : List ℕ) (turns : List Turn)
+            → StandsFor self.now setting recovers past text → Told (cabled past) turns → IsReport setting recovers (came past turns) text }
+    {
+        self.game.conclude();
+    }
+}
