@@ -35,7 +35,7 @@ REALM = 'Basic realm="The arbiter\'s page", charset="UTF-8"'
 MORE = {
     401: "The recorder's screen has the password",
     421: "Type the address of the recorder's computer in numbers, or start the recorder with --page-host NAME",
-    503: "As many readers as there is room for are here already: try again in some seconds",
+    503: "As many readers as there is room for are here already: this page asks again each five seconds",
 }
 POLICY = "Content-Security-Policy"
 ALLOWED = "default-src 'self'; img-src 'self' data:; base-uri 'none'; form-action 'none'; frame-ancestors "
@@ -168,8 +168,8 @@ def for_a_site(site: str) -> Dict[str, str]:
     return {POLICY: f"{ALLOWED}{site}", "Cross-Origin-Resource-Policy": "cross-origin", "Access-Control-Allow-Origin": site}
 
 
-def complaint(status: int, now: float, keeps: bool, with_body: bool = True) -> Tuple[bytes, bytes]:
-    """The head and the content of an error answer."""
+def complaint(status: int, now: float, keeps: bool, more: Mapping[str, str], with_body: bool = True) -> Tuple[bytes, bytes]:
+    """The head, with the server's own fields, and the content of an error answer."""
     content = "".join(f"{line}\n" for line in (f"{status} {REASONS[status]}", MORE.get(status, "")) if line).encode("ascii")
     fields = {"Content-Type": "text/plain; charset=utf-8", "Content-Length": str(len(content))}
     if status == 405:
@@ -177,6 +177,6 @@ def complaint(status: int, now: float, keeps: bool, with_body: bool = True) -> T
     if status == 401:
         fields["WWW-Authenticate"] = REALM
     if status == 503:
-        fields["Retry-After"] = "5"
+        fields["Retry-After"] = fields["Refresh"] = "5"  # for programs, for browsers
     fields["Connection"] = "keep-alive" if keeps else "close"
-    return answer(status, fields, now), content if with_body else b""
+    return answer(status, {**fields, **more}, now), content if with_body else b""

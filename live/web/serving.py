@@ -15,7 +15,7 @@ import socket
 import time
 import traceback
 from dataclasses import dataclass
-from typing import Callable, Deque, Dict, Iterable, List, Optional, Protocol, Tuple
+from typing import Callable, Deque, Dict, Iterable, List, Mapping, Optional, Protocol, Tuple
 
 from live import descriptors
 from live.loop import Turns
@@ -153,11 +153,11 @@ class Reader:
     def _answer(self, request: http.Request) -> None:
         if not self._server.names.allow(request.host):
             self._keeps = request.keeps
-            self._send(*http.complaint(421, time.time(), self._keeps, request.with_body))
+            self._send(*http.complaint(421, time.time(), self._keeps, self._server.fields, request.with_body))
             return
         if self._server.password and not http.has_password(request, self._server.password):
             self._keeps = request.keeps
-            self._send(*http.complaint(401, time.time(), self._keeps, request.with_body))
+            self._send(*http.complaint(401, time.time(), self._keeps, self._server.fields, request.with_body))
             return
         self.is_known = bool(self._server.password)
         stream = self._server.site.stream(request.path, request.fields.get("last-event-id", ""))
@@ -170,7 +170,7 @@ class Reader:
             fields["Content-Type"] = "text/event-stream; charset=utf-8"
             self._send(http.answer(200, fields, time.time()))
         elif content is None:
-            self._send(*http.complaint(404, time.time(), self._keeps, request.with_body))
+            self._send(*http.complaint(404, time.time(), self._keeps, self._server.fields, request.with_body))
         elif http.has_tag(request, content.tag):
             self._send(http.answer(304, {"ETag": content.tag, **fields}, time.time()))
         else:
@@ -181,7 +181,7 @@ class Reader:
         """Says what is wrong, and ends the connection."""
         self._keeps = False
         self._received.clear()
-        self._send(*http.complaint(status, time.time(), False))
+        self._send(*http.complaint(status, time.time(), False, self._server.fields))
 
     def _send(self, *parts: bytes) -> None:
         self._answers = True
@@ -324,7 +324,7 @@ class Server:
             self._make_place(self._served())
         has_room = len(self._served()) < room.readers and len(self._served(host)) < places
         if not has_room and len(self.readers) - len(self._served()) >= room.turned_away:
-            turn_away(line)
+            turn_away(line, self.fields)
             return
         reader = Reader(self, line, host)
         self.readers[reader] = None
@@ -411,10 +411,10 @@ def share(readers: int) -> int:
     return max(1, readers * 15 // 16)
 
 
-def turn_away(line: socket.socket) -> None:
+def turn_away(line: socket.socket, fields: Mapping[str, str]) -> None:
     """Answers that there are too many readers, and hangs up at once."""
     try:
-        line.send(b"".join(http.complaint(503, time.time(), False)))
+        line.send(b"".join(http.complaint(503, time.time(), False, fields)))
         line.shutdown(socket.SHUT_WR)
     finally:
         line.close()

@@ -32,7 +32,7 @@ NOTHING = [
 def embedded() -> None:
     """A page that a site may embed says so, of that site alone, on each path; any other says that nobody may."""
     with Site(spectators=1, embedded=1) as site:
-        for path in ("/", "/spectators.js", "/state.json", "/round.pgn"):
+        for path in ("/", "/spectators.js", "/state.json", "/round.pgn", "/nothing"):
             _, fields, _ = site.get(path)
             policy = fields["Content-Security-Policy"].split("; ")
             same(path, [part for part in policy if part.startswith("frame-ancestors")], [f"frame-ancestors {EMBEDDED}"])

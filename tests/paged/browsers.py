@@ -1,5 +1,6 @@
 """The page in a browser without a screen: it follows the games, is read by keys alone, and asks nobody else for anything."""
 
+import contextlib
 import json
 import signal
 import time
@@ -9,7 +10,7 @@ import outside
 from decided.table import same, skip
 
 from paged.devtools import Shared, Tab
-from paged.web import MOVES, PATIENCE, Site, a_board
+from paged.web import MOVES, PATIENCE, Events, Site, a_board
 
 NAME = "</title><img src=x onerror=alert(1)><b>Jörg & \"Ann\" 'O</b>"
 
@@ -238,6 +239,25 @@ def connected_again() -> None:
     page.tab.close()
 
 
+def comes_in() -> None:
+    """All places are taken. Whoever comes reads so, and has the page by itself when there is a place."""
+    if skipped("comes_in"):
+        return
+    with Site(spectators=1, MOST_READERS=20) as site:
+        site.show(a_board(1, 2))
+        taken = [Events(site) for _ in range(20)]
+        for reader in taken:
+            with contextlib.suppress(OSError):  # the last ones find no place
+                reader.until(lambda: 1 in reader.boards)
+        page = Page(Shared.tab())
+        page.tab.open(site.url)
+        page.says("full", "document.body.innerText.includes('As many readers as there is room for')", True)
+        for reader in taken:
+            reader.line.close()
+        page.reads("with a place", ".tile[href='#1'] .last", "1... e5")
+        page.tab.close()
+
+
 def standing_still() -> None:
     """The recorder stands still, and its connections are there: the page says that nothing comes. A tab in the background never
     says that it is live."""
@@ -432,4 +452,4 @@ def score_sheet(site: Site, page: Page) -> None:
     page.tab.call("Emulation.setEmulatedMedia", media="")
 
 
-TABLES = [score_sheet, followed, by_keys, one_board, connected_again, standing_still, pieces, many_tabs, without_locks, left_and_back]
+TABLES = [score_sheet, followed, by_keys, one_board, connected_again, comes_in, standing_still, pieces, many_tabs, without_locks, left_and_back]

@@ -164,7 +164,7 @@ def all_are_answered() -> None:
             with contextlib.suppress(OSError):  # it may have been answered already
                 line.sendall(b"GET / HTTP/1.1\r\nHost: localhost\r\n\r\n")
         answers = [rest(line) for line in lines]
-        wanted = (b"HTTP/1.1 503 ", b"Retry-After: 5", b"As many readers as there is room for are here already: try again in some seconds")
+        wanted = (b"HTTP/1.1 503 ", b"Refresh: 5", b"As many readers as there is room for are here already: this page asks again")
         same("all", [number for number, answer in enumerate(answers) if not all(part in answer for part in wanted)], [])
         site.show(a_board(1, 3))
         for reader in readers:

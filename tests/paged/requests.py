@@ -101,13 +101,13 @@ def tags() -> None:
 
 
 def answers() -> None:
-    head, content = http.complaint(405, 784111777, False)
+    head, content = http.complaint(405, 784111777, False, {})
     # The date is the example of RFC 9110, section 5.6.7.
     same("a complaint", head.split(b"\r\n")[:2], [b"HTTP/1.1 405 Method Not Allowed", b"Date: Sun, 06 Nov 1994 08:49:37 GMT"])
     same("says what is allowed", b"\r\nAllow: GET, HEAD\r\n" in head, True)
     same("its content", content, b"405 Method Not Allowed\n")
     same("its length", b"\r\nContent-Length: 23\r\n" in head, True)
-    same("no content for HEAD", http.complaint(404, 0, True, False)[1], b"")
+    same("no content for HEAD", http.complaint(404, 0, True, {}, False)[1], b"")
 
 
 TABLES = [read, limits, tags, answers]
