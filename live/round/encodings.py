@@ -1,4 +1,4 @@
-"""The text of a table: Unicode, or one of Windows' older encodings. Those give one byte other letters in Western Europe, Central
+"""The text of a table: Unicode, or an older encoding of Windows or DOS. Those give one byte other letters in Western Europe, Central
 Europe and Russia, so a table in them is taken for Western only if its words look so; else its reader is asked. Pure."""
 
 from __future__ import annotations
@@ -12,15 +12,22 @@ from live.refused import ARGUMENTS, REFUSED, Refused
 
 ENCODING = "--encoding"  # the option
 WESTERN = "cp1252"
+UNDEFINED = "\ufffd"  # for a byte that an encoding gives nothing
 READINGS = (  # what is typed, Python's name, where it is used
     ("windows-1252", WESTERN, "Western Europe"),
     ("windows-1250", "cp1250", "Central Europe"),
     ("windows-1251", "cp1251", "Cyrillic"),
+    ("cp437", "cp437", "DOS"),
+    ("cp850", "cp850", "DOS, Western Europe"),
+    ("cp852", "cp852", "DOS, Central Europe"),
 )
 MOST_SHOWN = 3  # names
 LONGEST_NAME = 30  # characters of one
 VOWELS = frozenset("aeiouy" + "áâäéíîóôöúüýë")  # accented ones that are the same in both of Europe's encodings
 BESIDE_MARKS = frozenset("çðñþß")  # letters that stand beside accented vowels: Conceição, Þór, Großöhme
+NO_LETTERS = "ªºµƒˆ"  # what Unicode takes for letters, and no name has
+JOINS = "\xa0\xad´·°’‘–—"  # signs that stand between a name's letters: O’Neill
+NOT_FIRST, NOT_LAST = "™µ", "‚„‰"  # signs that begin no word, and that end none
 WORD = re.compile(r"[A-Za-z\x80-\xff]+")  # of bytes, read as Latin-1
 
 
@@ -127,21 +134,26 @@ def look_of(word: str) -> Optional[Looks]:
 
 def _look_at(word: str, place: int) -> Optional[Looks]:
     byte = word[place].encode("latin-1")
-    western, central = byte.decode(WESTERN, "replace"), byte.decode("cp1250", "replace")
-    if byte < b"\x80" or western == central:
+    if byte < b"\x80":
         return None
+    western, central = byte.decode(WESTERN, "replace"), byte.decode("cp1250", "replace")
     before, after = (part.encode("latin-1").decode(WESTERN, "replace").lower() for part in (word[:place][-1:], word[place + 1 :][:1]))
-    if not western.isalpha() or western in "ªº":
-        return _look_of_sign(western, word, place)
+    if not western.isalpha() or western in NO_LETTERS:
+        within = (before.isalpha() or western in NOT_FIRST) and (after.isalpha() or western in NOT_LAST)
+        return _look_of_sign(western, word, place) if within or western != central or western == UNDEFINED else None
+    if western == central:
+        return None
     if _beside_another(western.lower(), before) or _beside_another(western.lower(), after):
         return Looks.OTHER
     return _look_of_letter(western, before, after)
 
 
 def _look_of_sign(sign: str, word: str, place: int) -> Optional[Looks]:
-    """A sign within a word is a letter of another encoding: £ukasz, Wa³êsa. Not so Mª and Nº, and signs that stand alone."""
+    """A sign within a word is a letter of another encoding: £ukasz, Wa³êsa, J”rg. Not so Mª and Nº, and signs that stand alone."""
+    if sign == UNDEFINED:
+        return Looks.OTHER
     letters = re.findall(r"[A-Za-z\xc0-\xff]", word)
-    if not letters or (sign in "ªº" and place == len(word) - 1 and len(word) < 4) or sign in "\xa0«»·–—’‘“”…°":
+    if not letters or (sign in "ªº" and place == len(word) - 1 and len(word) < 4) or sign in JOINS:
         return None
     return Looks.OTHER
 

@@ -16,6 +16,7 @@ from live.round.sheets import LARGEST
 
 ALSO = {"place": "site", "tournament": "event", "dates": "date"}  # other names that arbiters use for some
 FOR_A_ROUND = re.compile(r"(.*\D)\s+(\d{1,3})")  # `date 3`
+PATH = re.compile(r"~|\.{0,2}/")  # how a folder begins
 NAMED = re.compile(r"output(?:\s+(\S.*?))??(?:\s+(\d{1,3}))?", re.IGNORECASE)  # `output agency`, `output agency 3`
 TEMPLATE = """\
 # The settings of the tournament, for all its rounds. A line is NAME = VALUE; one that begins with # isn't read.
@@ -72,6 +73,8 @@ def words_of(content: bytes, round_number: int, options: Sequence[str], encoding
             if value.lower() not in YES + NO:
                 raise Refused(REFUSED, f"line {number}, {name}: {shown(value)}: type yes or no")
             typed, value = (RECOVER if value.lower() in YES else STRICT), value and "yes"
+        elif word == "site" and PATH.match(value):
+            raise Refused(REFUSED, f"line {number}, {name}: {shown(value)} is a folder, not a place: for a site of files type web = FOLDER")
         elif word in known and known[word] != "--round":
             typed = f"{known[word]}={value}"
         elif tag and normal(tag) not in ("round", "board", "white", "black"):

@@ -253,11 +253,19 @@ def reports_of_teams() -> None:
 WESTERN_NAMES = (
     *("Müller", "Åse Lund", "Muñoz", "Conceição", "João", "Magalhães", "Jørgensen", "Øystein", "Næss", "Hélène", "Lecœur"),
     *("Lefèvre", "Loïc", "Forlì", "Niccolò", "Väänänen", "Großöhme", "Noël", "Mª Carmen", "D’Angelo", "½ - ½"),
+    *("O’Neill", "O´Neill", "Sa‘id", "Müller–Lüdenscheidt", "Müller—Voss", "Gal·la", "Anna\xa0Ley", "Jörg “Max” Müller", "„Max“ Müller"),
+    *("Jörg ‚Max‘ Müller", "Jörg «Max» Müller", "(“Max”) Müller", "“Max”, Jörg", "Müller…", "…Müller", "Müller †", "Müller†", "• Jörg"),
+    *("Brett N° 5", "Chess® Cup", "Chess™", "50 € Müller", "25 ‰", "Bär & Söhne – Köln"),
 )
 CENTRAL_NAMES = (
     *("Świercz", "Dvořák", "Kučera", "Čech", "Němec", "Růžička", "Kamiński", "Wałęsa", "Łukasz", "Jiří", "Ćirić", "Petrović"),
     *("Đorđević", "Szőke", "Erdős", "Brăila", "Mureş", "Węgrzyn", "Žák, Jiří", "Vaněk", "Hodaň"),
 )
+DOS_NAMES = {
+    "cp437": ("Jörg Müller", "Müller", "Jörg", "Größ", "René", "Zoë", "Özil", "É. Voss", "Åse", "García", "López", "Muñoz", "Benoît", "Bräuer"),
+    "cp850": ("Jörg Müller", "Müller", "Jörg", "José", "Øystein", "Jørgensen", "Françoise", "Ágnes", "Bråten", "Hélène"),
+    "cp852": ("Jörg Müller", "Wałęsa", "Łukasz", "Božena", "Kaźmierczak", "Růžička", "Jiří", "Szőke"),
+}
 CYRILLIC_NAMES = ("Петров", "Ли", "Каспаров", "Юдасин")
 
 
@@ -265,12 +273,14 @@ def encodings() -> None:
     """A text that isn't Unicode is read as Western where its names look so, and else asked about; an encoding that is given is used."""
     for name in WESTERN_NAMES:
         same(name, text_of(name.encode("cp1252")), name)
-    for codec, names in (("cp1250", CENTRAL_NAMES), ("cp1251", CYRILLIC_NAMES)):
+    for codec, names in (("cp1250", CENTRAL_NAMES), ("cp1251", CYRILLIC_NAMES), *DOS_NAMES.items()):
         for name in names:
             content = f"board;white;black\n1;{name};Müller\n".encode(codec, "replace")
             asked = refused(name, Refused, text_of, content)
             same(f"{name} is asked about", asked, "it isn't Unicode, and its names can be read in more than one way:")
             same(f"{name}, as it is said to be", name in text_of(content, codec), True)
+            if codec in DOS_NAMES:
+                refused(f"{name} alone", Refused, text_of, name.encode(codec))
     try:
         text_of("1;Świercz, Jan;Dvořák".encode("cp1250"))
     except Refused as asked:
@@ -279,6 +289,9 @@ def encodings() -> None:
             "windows-1252 (Western Europe): Œwiercz, Dvoøák",
             "windows-1250 (Central Europe): Świercz, Dvořák",
             "windows-1251 (Cyrillic): Њwiercz, Dvoшбk",
+            "cp437 (DOS): îwiercz, Dvo°ßk",
+            "cp850 (DOS, Western Europe): îwiercz, Dvo°ßk",
+            "cp852 (DOS, Central Europe): îwiercz, Dvo°ßk",
             "say which is right, as --encoding windows-1250 (in tournament.txt: encoding = windows-1250),",
             "or save it as UTF-8",
         ))  # fmt: skip
@@ -287,6 +300,10 @@ def encodings() -> None:
         "--encoding=Windows-1250", "--event=Wałęsa",
     ])  # fmt: skip
     same("typed", encoding_in(["--page", "1", ENCODING, "latin2", "--encoding=cp1250"]), "cp1250")
+    same("of DOS", [known_encoding(name) for name in DOS_NAMES], list(DOS_NAMES))
+    same("settings of DOS", words_of("encoding = cp850\nplace = Köln".encode("cp850"), 1, ("--site", ENCODING)), [
+        "--encoding=cp850", "--site=Köln",
+    ])  # fmt: skip
     told = refused("no encoding", Refused, known_encoding, "windows-9")
     same("no encoding", told, "there is no encoding 'windows-9': type one as windows-1250, iso-8859-2 or utf-8")
     same("no text", refused("no text", Refused, known_encoding, "hex").partition(":")[0], "there is no encoding 'hex'")
@@ -315,6 +332,10 @@ NO_SETTINGS = {
     "\ndelay 15": "line 2 is 'delay 15': type NAME = VALUE, as event = Club cup",
     "round = 3": "line 1: there is no setting 'round': there are date, delay, event, linger, page, publish, site, recover, and tags as TimeControl",
     "recover = perhaps": "line 1, recover: 'perhaps': type yes or no",
+    **{
+        f"site = {folder}": f"line 1, site: '{folder}' is a folder, not a place: for a site of files type web = FOLDER"
+        for folder in ("/srv/www/cup", "./cup", "../cup", "~/cup", "~anna")
+    },
 }
 
 

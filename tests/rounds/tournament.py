@@ -331,12 +331,16 @@ def what_is_missing(folder: pathlib.Path) -> None:
         ("dealy = 15", "cup/tournament.txt: line 1: there is no setting 'dealy'"),
         ("delay = soon", "cup/tournament.txt: --delay 'soon'"),
         ("date = 31.02.2024", "isn't in the calendar"),
+        ("site = ./www", "cup/tournament.txt: line 1, site: './www' is a folder, not a place: for a site of files type web = FOLDER"),
     ):
         (cup / "tournament.txt").write_text(line + "\n")
         refuses(call("cup", 2), 1, part)
     (cup / "tournament.txt").unlink()
     (cup / "round2.csv").write_bytes("Board;White;Black\n1;Świercz;Dvořák\n".encode("cp1250"))
     refuses(call("cup", 2), 1, "windows-1250 (Central Europe): Świercz, Dvořák")
+    for codec in ("cp437", "cp850", "cp852"):
+        (cup / "round2.csv").write_bytes("Board;White;Black\n1;Jörg Müller;Anna\n".encode(codec))
+        refuses(call("cup", 2), 1, "cp850 (DOS, Western Europe): Jörg Müller")
     refuses(call("cup", 2, "--encoding", "windows"), 2, "there is no encoding 'windows'")
     (cup / "report.trf").write_text(REPORT, encoding="utf-8")
     (cup / "round2.csv").write_text("Board;White;Black\n")  # no pair: the report has them
