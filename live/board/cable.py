@@ -222,7 +222,7 @@ class Cable:
             what = "plug it in again; the recording then goes on"
         else:
             what = f"plug it in. Is it another device? {screen.other_device()}"
-        return f"{self.name} isn't there{f' ({printable(why)})' if why else ''}: {what}"
+        return f"{self.name or 'its board'} isn't there{f' ({printable(why)})' if why else ''}: {what}"
 
     def _gone_for_good(self) -> str:
         """Why it isn't there, if it isn't waited for; and what to do if it never was."""

@@ -102,7 +102,7 @@ class Recorder:
         ends = "" if self._plan.board else "; Ctrl-C ends it"  # an error there would end all boards
         paths = self.game.paths
         if says:
-            self._screen.say(f"records {self._plan.device} in {paths.capture} and {paths.pgn}{ends}")
+            self._screen.say(f"records {self._plan.device or 'no board'} in {paths.capture} and {paths.pgn}{ends}")
         recording = Recording(self._guard, self._worker, self._screen, opened, self._plan.rules, self)
         self.course = recording.course
         self._look_at(recording)

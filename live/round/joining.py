@@ -10,11 +10,12 @@ from live.round.table import boards_are
 
 
 def joined(hall: Pairings, hall_name: str, pairs: Pairings, pairs_name: str) -> Pairings:
-    """The pairs with the devices of their boards. Messages name the table that they are about."""
+    """The pairs with the devices of their boards; a forfeited one needs none. Messages name the table that they are about."""
     places = {place.board: place for place in hall.boards}
     wrong = {line.board for line in hall.wrong}
-    boards = [_at(places[pair.board], pair) for pair in pairs.boards if pair.board in places]
-    lacking = [pair.board for pair in pairs.boards if pair.board not in places and pair.board not in wrong]
+    boards = [_at(places.get(pair.board, pair), pair) for pair in pairs.boards if pair.board in places or pair.is_forfeited]
+    absent = [pair for pair in pairs.boards if pair.board not in places and not pair.is_forfeited]
+    lacking = [pair.board for pair in absent if pair.board not in wrong]
     free = [place.board for place in hall.boards if place.board not in {pair.board for pair in pairs.boards}]
     remarks = [*named(pairs_name, pairs.remarks), *named(hall_name, hall.remarks)]
     if lacking:
@@ -24,7 +25,7 @@ def joined(hall: Pairings, hall_name: str, pairs: Pairings, pairs_name: str) -> 
     if free:
         remarks.append(f"{numbers(free)} {'has' if len(free) == 1 else 'have'} no game in {pairs_name}")
     lines = (*of_file(pairs_name, pairs.wrong), *of_file(hall_name, hall.wrong))
-    return Pairings(tuple(boards), lines, tuple(remarks))
+    return Pairings(tuple(boards), lines, tuple(remarks), absent=tuple(absent))
 
 
 def _at(place: Pairing, pair: Pairing) -> Pairing:
@@ -58,19 +59,35 @@ def numbers(boards: Sequence[int]) -> str:
 
 def serials_wanted(read: Pairings) -> List[str]:
     """The boards that are given only by their serial numbers."""
-    return [pairing.serial for pairing in read.boards if not pairing.device]
+    return [pairing.serial for pairing in read.boards if pairing.serial and not pairing.device]
+
+
+def not_plugged_in(pairing: Pairing) -> Wrong:
+    """The line of a pair whose board is missing."""
+    why = f"the board with the number {pairing.serial} isn't plugged in, or is switched off: put that right, and type r"
+    return Wrong(pairing.line, pairing.board, why)
 
 
 def placed(read: Pairings, plugged: Mapping[str, str]) -> Pairings:
-    """With the devices of those boards that are given by serial number and are plugged in. A missing board is a wrong line."""
+    """With the devices of those boards that are given by serial number and are plugged in. A missing board is a wrong line, unless
+    its game is forfeited."""
     boards: List[Pairing] = []
-    wrong: List[Wrong] = list(read.wrong)
+    absent: List[Pairing] = []
     taken: Dict[str, int] = {pairing.device: pairing.board for pairing in read.boards if pairing.device}
     for pairing in read.boards:
         device = pairing.device or plugged.get(pairing.serial, "")
         if device and taken.get(device, pairing.board) == pairing.board:
             boards.append(dataclasses.replace(pairing, device=device))
+        elif pairing.is_forfeited:
+            boards.append(pairing)
         else:
-            why = f"the board with the number {pairing.serial} isn't plugged in, or is switched off: put that right, and type r"
-            wrong.append(Wrong(pairing.line, pairing.board, why))
-    return dataclasses.replace(read, boards=tuple(boards), wrong=tuple(wrong))
+            absent.append(pairing)
+    wrong = (*read.wrong, *map(not_plugged_in, absent))
+    return dataclasses.replace(read, boards=tuple(boards), wrong=wrong, absent=(*read.absent, *absent))
+
+
+def with_some(read: Pairings, found: Sequence[Pairing]) -> Pairings:
+    """With these pairs, whose boards are missing, as if they weren't."""
+    missing = set(map(not_plugged_in, found))
+    wrong = tuple(line for line in read.wrong if line not in missing)
+    return dataclasses.replace(read, boards=(*read.boards, *found), wrong=wrong)

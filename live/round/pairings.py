@@ -9,7 +9,7 @@ from typing import Dict, List, Optional, Sequence, Tuple, Union
 from live.device.network_address import HOW, is_network, read_address
 from live.device.protocol import SERIAL_LENGTH
 from live.game.file_names import OF_A_GAME, OF_A_ROUND
-from live.game.forfeits import in_a_table, in_one_word
+from live.game.forfeits import in_a_table, in_one_word, score_of
 from live.game.options import FEN, FIRST, PLAYERS, RECOVER, STRICT, TAG, assigned
 from live.game.tags import OTHERS, Malformed, cleaned, is_seen, value_of
 from live.game.typed import NOUGHTS
@@ -60,6 +60,11 @@ class Pairing:
         """The name of the game's files."""
         return self.name or f"{self.board:02}"
 
+    @property
+    def is_forfeited(self) -> bool:
+        """Whether its line says that it isn't played: it needs no board."""
+        return bool(score_of(self.result))
+
     def words(self, tags: Sequence[str]) -> Tuple[str, ...]:
         """The options of the game, with those for all games."""
         words = ["--rotated"] if self.rotated else []
@@ -90,6 +95,7 @@ class Pairings:
     wrong: Tuple[Wrong, ...] = ()
     remarks: Tuple[str, ...] = ()
     has_devices: bool = True  # it names the devices of its boards
+    absent: Tuple[Pairing, ...] = ()  # the pairs whose boards aren't found
 
 
 @dataclass(frozen=True)
@@ -180,7 +186,7 @@ def _read(number: int, line: str, sheet: Sheet) -> Union[Pairing, Wrong, LeftOut
         no_game = without_a_game(board, values["white"], values["black"])
         if no_game:
             return LeftOut(f"line {number}: {no_game}")
-    why = _trouble({name: values[name] for name in COLUMNS}, has_devices)
+    why = _trouble({name: values[name] for name in COLUMNS}, has_devices and not score_of(result))
     if why:
         return Wrong(number, board, why)
     tags, remarks = _tags(number, values)
@@ -264,9 +270,9 @@ def _number(text: str) -> Optional[int]:
     return int(text) if re.fullmatch("[0-9]{1,3}", text) and int(text) > 0 else None
 
 
-def _trouble(values: Dict[str, str], has_devices: bool) -> str:
+def _trouble(values: Dict[str, str], needs_device: bool) -> str:
     """What is wrong with the values of a line, if anything."""
-    if has_devices and not (values["device"] or values["serial"]):
+    if needs_device and not (values["device"] or values["serial"]):
         return "it names no device: type /dev/ttyUSB0, or what dgt_live --devices lists"
     if is_network(values["device"]) and read_address(values["device"]) is None:
         return f"device is {shown(values['device'])}: {HOW}"

@@ -34,9 +34,10 @@ from live.guard import traced
 from live.loop import Loop
 from live.refused import DONE, FAILED, REFUSED, Refused
 from live.round.display import Display
+from live.round.joining import not_plugged_in, with_some
 from live.round.pairings import EXAMPLE, Pairing, Pairings, Wrong, device_twice
 from live.round.published import Published
-from live.round.row import Hall, Row, game_of_others
+from live.round.row import Hall, Row, game_of_others, was_forfeited
 from live.round.sources import Source
 from live.round.table import NOT_RECORDED, RowView, boards_are, counted, lines_are_wrong
 from live.round.tournament_files import FORFEIT, Result
@@ -83,7 +84,7 @@ def without_twice(read: Pairings) -> Tuple[List[Pairing], List[Wrong]]:
     found: Dict[str, Pairing] = {}
     boards, wrong = [], list(read.wrong)
     for pairing in read.boards:
-        other = found.setdefault(same_line(pairing.device), pairing)
+        other = found.setdefault(same_line(pairing.device), pairing) if pairing.device else pairing
         if other is pairing:
             boards.append(pairing)
         else:
@@ -91,10 +92,15 @@ def without_twice(read: Pairings) -> Tuple[List[Pairing], List[Wrong]]:
     return boards, sorted(wrong, key=lambda line: line.line)
 
 
+def with_forfeited(read: Pairings, hall: Hall) -> Pairings:
+    """With the pairs whose boards aren't found, if somebody has typed that they aren't played."""
+    return with_some(read, [pairing for pairing in read.absent if was_forfeited(hall, pairing)])
+
+
 def refuse_another_round(source: Source, read: Pairings, hall: Hall) -> None:
     """Refuses a table that has other players for what was played: it is another round's. To be called before anything in the
     folder is changed."""
-    for pairing in without_twice(read)[0]:
+    for pairing in without_twice(with_forfeited(read, hall))[0]:
         played = game_of_others(hall, pairing)
         if played:
             raise Refused(
@@ -165,6 +171,7 @@ class Round:
         self.rows: Dict[int, Row] = {}
         self._wrong: List[Wrong] = []
         self._right: Set[int] = set()  # the boards whose lines are right
+        self._absent: Dict[int, Pairing] = {}  # the pairs whose boards aren't found
         folder = pathlib.Path(hall.folder)
         self._log = Log(folder / "round.log")
         self._published = Published(loop, folder / f"{ROUND}.pgn", self._text, self.say)
@@ -236,7 +243,8 @@ class Round:
     def _take(self, read: Pairings) -> None:
         for remark in read.remarks:
             self.say(remark)
-        boards, self._wrong = without_twice(read)
+        boards, self._wrong = without_twice(with_forfeited(read, self._hall))
+        self._absent = {pairing.board: pairing for pairing in read.absent}
         self._right = {pairing.board for pairing in boards}
         for wrong in self._wrong:
             self.say(f"line {wrong.line} of {wrong.file or self._file.name} is wrong: {self._why(wrong)}")
@@ -359,8 +367,11 @@ class Round:
             self.trouble(traced(error))
 
     def _of_board(self, number: str, words: List[str]) -> None:
-        row = self.rows.get(int(number)) if len(number) <= HIGHEST else None
-        if row is None:
+        board_number = int(number) if len(number) <= HIGHEST else 0
+        row, absent = self.rows.get(board_number), self._absent.get(board_number)
+        if row is None and absent and typed_forfeit(" ".join(words)):
+            self._forfeit(absent, " ".join(words))
+        elif row is None:
             self.say(f"refused: there is no board {printable(number)}: {boards_are(sorted(self.rows))}")
         elif words:
             row.add(" ".join(words), functools.partial(self._answered, row))
@@ -370,6 +381,14 @@ class Round:
             places = ", ".join(filter(None, (row.pairing.device, row.serial, str(board.paths.capture))))
             parts = [row.whole_standing(), *looks, *board.recovered, places]
             self.say(f"{row.number}: {'; '.join(parts)}")
+
+    def _forfeit(self, pairing: Pairing, text: str) -> None:
+        """A pair whose board isn't found isn't played, so it needs none."""
+        self._wrong = [line for line in self._wrong if line != not_plugged_in(pairing)]
+        self._right.add(pairing.board)
+        row = self.rows[pairing.board] = Row(self._loop, self._hall, pairing, self)
+        row.begin_with(text, functools.partial(self._answered, row))
+        self.remade()
 
     def _answered(self, row: Row, given: Answer) -> None:
         """What was typed for a board is answered."""

@@ -19,6 +19,7 @@ from live.device.protocol import SQUARES
 from live.game import files
 from live.game.course import clocks_of
 from live.game.files import Paths
+from live.game.forfeiting import forfeit_of
 from live.game.forfeits import Forfeit
 from live.game.game import end_mark, kept_options, result_in
 from live.game.naming import IN_A_TABLE, is_naming
@@ -172,6 +173,15 @@ def game_of_others(hall: Hall, pairing: Pairing) -> str:
         return ""  # its row will say it
 
 
+def was_forfeited(hall: Hall, pairing: Pairing) -> bool:
+    """Whether the game of this line is kept as one that isn't played."""
+    paths = Paths(f"{hall.folder}/{pairing.file_name}")
+    try:
+        return bool(forfeit_of(paths, files.existing(paths.pgn)))
+    except OSError:
+        return False
+
+
 class Row:
     """A board of the round."""
 
@@ -185,6 +195,7 @@ class Row:
         self._device = ""  # the line's device when the recording began
         self._of_line: Tuple[Optional[Pairing], Options] = (None, Options())  # a line, and its options
         self._wants_result = True
+        self._begun_with: Optional[Callable[[], None]] = None  # adds what was typed before its game was open
 
     @property
     def number(self) -> int:
@@ -206,6 +217,11 @@ class Row:
     def begin(self) -> None:
         """Records it, now or as soon as it can."""
         self.board.begin()
+
+    def begin_with(self, text: str, answered: Callable[[Answer], None]) -> None:
+        """Records it, and adds what was typed as soon as its game is open."""
+        self._begun_with = functools.partial(self.add, text, answered)
+        self.begin()
 
     def end(self, done: Callable[[], None]) -> None:
         """Ends its recording in order, then calls this."""
@@ -231,6 +247,9 @@ class Row:
         """What it shows has changed."""
         if self._wants_result and self.board.is_recorded:
             self._loop.after(0, self._apply_result)
+        if self._begun_with and not self.board.is_new:
+            self._loop.after(0, self._begun_with)
+            self._begun_with = None
         self._hears.changed(self.number)
 
     def remade(self) -> None:

@@ -6,7 +6,7 @@ from typing import Dict, List, Tuple
 from live.doors.dgt_round import VALUED
 from live.refused import Refused
 from live.round.encodings import ENCODING, encoding_in, known_encoding, text_of
-from live.round.joining import joined, placed
+from live.round.joining import joined, placed, with_some
 from live.round.pairings import Pairing, Pairings, Wrong, read_pairings
 from live.round.settings import TEMPLATE, words_of
 from live.round.trf import Head, head_of, is_report, read_report
@@ -150,6 +150,14 @@ def boards_of_the_hall() -> None:
     why = "the board with the number 00007 isn't plugged in, or is switched off: put that right, and type r"
     absent = placed(read, {})
     same("a board that isn't plugged in", ([pairing.board for pairing in absent.boards], absent.wrong[1:]), ([1], (Wrong(3, 2, why),)))
+    same("pairs whose boards aren't found", [pairing.board for pairing in absent.absent], [4, 5, 6, 7, 8, 2])
+    found = with_some(absent, absent.absent[-1:])
+    same("one of them after all", ([pairing.board for pairing in found.boards], found.wrong), ([1, 2], read.wrong))
+    lost = Pairings(tuple(Pairing(number + 1, number, "", result="+-") for number in (2, 4, 5)), (), (), False)
+    read = placed(joined(hall, "boards.csv", lost, "round3.csv"), {})
+    same("forfeited pairs", [(pairing.board, pairing.device, pairing.serial) for pairing in read.boards], [(2, "", "00007"), (4, "", ""), (5, "", "")])
+    same("they aren't absent", (read.absent, [wrong.file for wrong in read.wrong]), ((), ["boards.csv"]))
+    read = joined(hall, "boards.csv", pairs, "round3.csv")
     same("one that is", [pairing.device for pairing in placed(read, {"00007": "/dev/b"}).boards], ["/dev/a", "/dev/b"])
 
 

@@ -13,9 +13,10 @@ from played.ports import free_port
 from played.recorder import Live
 from played.stage import Skipped, bytes_of, check, movetext, same, stop, until, until_line
 from rounds.delayed import DELAY, Delayed
-from rounds.hall import Hall, agrees
+from rounds.hall import ROUND, Hall, agrees
 from rounds.witness import served, texts_of
 
+from live.round.pairings import read_pairings
 from live.round.tournament_files import Result, results_text
 
 WHITE, BLACK, BOTH = "1-0 forfeit", "0-1 forfeit", "* forfeit"
@@ -160,4 +161,64 @@ def results_in_a_table(_: pathlib.Path) -> None:
                 ["3", "E", "F", "0-0", "forfeit"], ["4", "G", "H", "", ""]])  # fmt: skip
 
 
-CASES = [not_played, late_forfeits, by_command, results_in_a_table]
+def results_of(cup: pathlib.Path) -> List[List[str]]:
+    """The results that round 1 has in its file, as another program reads them."""
+    text = bytes_of(cup / "round1" / "results.csv").decode("utf-8-sig")
+    return [row[:1] + row[3:] for row in csv.reader(text.splitlines(), delimiter=";")][1:]
+
+
+def without_a_board(folder: pathlib.Path) -> None:
+    """A table has forfeits of a pair whose board has a number that no board has, and of one without a device; somebody types those
+    of two more such pairs, and of one whose board is there. All are in the file of results, on the page and in the published text,
+    also after a restart. One that is taken off is a game without a result."""
+    hall, port, cup = Hall(folder, 2), free_port(), folder / "cup"
+    cup.mkdir()
+    (cup / "boards.csv").write_text(f"board;device;serial\n1;{folder}/board1;\n2;;54321\n4;;54322\n6;{folder}/board2;\n")
+    (cup / "round1.csv").write_text("board;white;black;result\n1;A;B;\n2;C;D;+:-\n3;E;F;0-0 FF\n4;G;H;\n5;I;J;\n6;K;L;\n")
+
+    def begin() -> Live:
+        return Live(cup, "1", "--page", str(port), program=ROUND, typed=True, environment=hall.cables.environment())
+
+    def are(live: Live, **forfeits: str) -> None:
+        """Each board's forfeit is in all three places; the others have no result. A board that isn't named isn't there."""
+        wanted = {int(board[1:]): forfeit for board, forfeit in forfeits.items()}
+        rows = [[str(board), "0-0" if kind == BOTH else kind.split()[0].strip("*"), "forfeit" if " " in kind else ""] for board, kind in wanted.items()]
+        until(lambda: results_of(cup) == rows, f"{rows} in the file of results", 0.05)
+        until(lambda: texts_of(bytes_of(cup / "round1" / "broadcast.pgn")) == list(wanted.values()), "the same in what is published", 0.05)
+        page = {board: "0-0 forfeit" if kind == BOTH else kind for board, kind in wanted.items()}
+        until(lambda: shown(port) == page, "the same on the page", 0.05)
+
+    live = begin()
+    until_line(live, "02: forfeit 1-0: it isn't played")
+    until_line(live, "board 5 has no device in boards.csv, and isn't recorded")
+    until_line(live, "the board with the number 54322 isn't plugged in, or is switched off: put that right, and type r")
+    are(live, b1="*", b2=WHITE, b3=BOTH, b6="*")
+    for board, other in ((4, "e4"), (5, "1-0"), (7, "+-")):
+        live.type(f"{board} {other}")
+        until_line(live, f"refused: there is no board {board}")
+    for number, typed, told in ((4, "-+", "0-1"), (5, "--", "0-0"), (6, "--", "0-0")):
+        live.type(f"{number} {typed}")
+        until_line(live, f"{number:02}: forfeit {told}: it isn't played")
+    for _ in range(2):
+        are(live, b1="*", b2=WHITE, b3=BOTH, b4=BLACK, b5=BOTH, b6=BOTH)
+        live.type("r")
+        until_line(live, "round1.csv is read again: 6 boards")
+        same(stop(live), 0)
+        live = begin()
+        live.type("4")
+        until_line(live, " 4: forfeit 0-1;")
+    are(live, b1="*", b2=WHITE, b3=BOTH, b4=BLACK, b5=BOTH, b6=BOTH)
+    for number in (4, 5):
+        live.type(f"{number} *")
+    are(live, b1="*", b2=WHITE, b3=BOTH, b4="*", b5=BOTH, b6=BOTH)
+    same(stop(live), 0)
+
+
+def lines_without_a_device(_: pathlib.Path) -> None:
+    """In a table that names devices, a forfeited pair needs none; a pair that has another result, or none yet, does."""
+    read = read_pairings(b"board,device,white,black,result\n1,,A,B,+-\n2,,C,D,- +\n3,,E,F,0-0 FF\n4,,G,H,1-0\n5,,I,J,--\n")
+    same([(pairing.board, pairing.result) for pairing in read.boards], [(1, "+-"), (2, "-+"), (3, "--")])
+    same([wrong.board for wrong in read.wrong], [4, 5])
+
+
+CASES = [not_played, late_forfeits, by_command, results_in_a_table, without_a_board, lines_without_a_device]
