@@ -27,9 +27,11 @@ from live.web.view import json_text, pgn_path, round_pgn
 
 LOOK = 1.0  # seconds between two checks
 AGAIN = 5.0  # seconds until it is tried again after an error
+RENEWED = 30.0  # seconds after which a state that hasn't changed is written again: a page that finds it older says so
 STATE = "state.json"
 ROUND_FOLDER = re.compile(r"round([0-9]{0,3})")
 POLICY = "default-src 'self'; img-src 'self' data:; base-uri 'none'; form-action 'none'"
+REFRESH = '<meta http-equiv="refresh" content="60">'
 Texts = Dict[str, bytes]  # by path in the folder, in the order of their writing
 
 
@@ -67,6 +69,11 @@ def round_texts(folder: str, title: Title, boards: Sequence[SpectatorBoard], off
     }
 
 
+def stamped(state: bytes, now: float, ended: bool) -> bytes:
+    """A round's JSON with the time of its writing, in seconds since 1970, and whether it is the last one."""
+    return json_text({"written": round(now, 1), "ended": ended})[:-1] + b"," + state[1:]
+
+
 def list_page(event: str, rounds: Mapping[str, Mapping[str, object]]) -> bytes:
     """All rounds with their results, from what each has in its JSON."""
     parts: List[str] = []
@@ -75,7 +82,7 @@ def list_page(event: str, rounds: Mapping[str, Mapping[str, object]]) -> bytes:
         rows = "".join(map(_row, _boards_of(state), [folder] * len(_boards_of(state))))
         parts.append(f'<section><h2><a href="{folder}/index.html">{_text(name)}</a></h2>\n<table>{rows}</table>'
                      f'<p><a href="{folder}/round.pgn" download>PGN of all games</a></p></section>')  # fmt: skip
-    head = f'<meta charset="utf-8">\n{_policy()}\n<meta name="viewport" content="width=device-width, initial-scale=1">'
+    head = f'<meta charset="utf-8">\n{_policy()}\n<meta name="viewport" content="width=device-width, initial-scale=1">\n{REFRESH}'
     links = '<link rel="icon" href="icon.svg">\n<link rel="stylesheet" href="page.css">\n<link rel="stylesheet" href="site.css">'
     title = _text(event)
     return (f'<!DOCTYPE html>\n<html lang="en">\n<head>\n{head}\n<title>{title}</title>\n{links}\n</head>\n<body>\n'
@@ -129,8 +136,10 @@ class SiteFiles:
         self._loop, self._folder, self._title, self._boards, self._says, self._trouble = loop, folder, title, boards, says, trouble
         number = title.round if re.fullmatch("[0-9]{1,3}", title.round) else ""
         self._round = f"round{number}"
+        self._state = f"{self._round}/{STATE}"
         self._offset = time.time() - loop.now()
-        self._written: Texts = {}
+        self._written: Texts = {}  # each state without its time
+        self._renewed_at = -RENEWED
         self._told = ""
         self._closed = False
         self.written: Callable[[], None] = lambda: None
@@ -146,33 +155,45 @@ class SiteFiles:
         self._trouble(traced(error))
         self._loop.after(AGAIN, lambda: None if self._closed else self._begin())
 
-    def _texts(self) -> Texts:
+    def _texts(self, renews: bool) -> Texts:
+        """The files that have changed; with them, or if it is to be renewed, the state."""
         boards = self._boards()
         if not boards:
             return {}
         of_round = round_texts(self._round, self._title, boards, self._offset)
         texts = of_round if self._written else {**page_files(), **of_round}
-        return {name: text for name, text in texts.items() if self._written.get(name) != text}
+        changed = {name for name, text in texts.items() if self._written.get(name) != text}
+        if changed or renews:
+            changed.add(self._state)
+        return {name: text for name, text in texts.items() if name in changed}
 
     def _look(self) -> None:
         """Writes what has changed, and looks again."""
-        texts = self._texts()
+        texts = self._texts(self._loop.now() >= self._renewed_at + RENEWED)
         if not texts:
             self._guard.after(LOOK, self._look)
             return
+        now = self._loop.now()
 
         def done(made: Made) -> None:
-            self._take(texts, made)
+            self._take(texts, made, now)
             self._guard.after(AGAIN if made.trouble else LOOK, self._look)
 
-        self._worker.do(lambda: written(self._folder, self._title.event, self._round, texts), done)
+        self._worker.do(lambda: self._write(texts, False), done)
 
-    def _take(self, texts: Texts, made: Made) -> None:
+    def _write(self, texts: Texts, ended: bool) -> Made:
+        """Writes these files; the state has the time."""
+        state = self._state
+        of_now = {name: stamped(text, time.time(), ended) if name == state else text for name, text in texts.items()}
+        return written(self._folder, self._title.event, self._round, of_now)
+
+    def _take(self, texts: Texts, made: Made, now: float) -> None:
         if made.trouble:
             if not self._told:
                 self._says(f"{trouble_of(made.full)}: the site in {self._folder} can't be written ({made.trouble}); it is tried again")
         else:
             self._written.update(texts)
+            self._renewed_at = now
             if self._told:
                 self._says(f"the site in {self._folder} is written again")
             self.written()
@@ -186,9 +207,9 @@ class SiteFiles:
         self._worker.close()
         self._worker.wait()
         self._guard.end()
-        texts = self._texts()
+        texts = self._texts(True)
         if texts:
-            self._take(texts, written(self._folder, self._title.event, self._round, texts))
+            self._take(texts, self._write(texts, True), self._loop.now())
 
     def close(self) -> List[str]:
         """Writes it a last time, unless that is done. Returns what can't be written."""

@@ -1,5 +1,6 @@
 """A static site: what goes out of a round, in files that any web host serves."""
 
+import contextlib
 import functools
 import http.server
 import json
@@ -8,11 +9,12 @@ import re
 import shutil
 import sys
 import threading
-from typing import Dict, List
+import time
+from typing import Dict, Iterator, List, Tuple
 
 import outside
 from play_board import INITIAL
-from paged.devtools import Shared
+from paged.devtools import Shared, Tab
 from played.recorder import Live
 from played.stage import Skipped, bytes_of, ended, kill, same, stop, until, until_line
 from rounds.delayed import DELAY, Delayed
@@ -59,12 +61,13 @@ os.write = write
 """
 
 
+STAMP = rb'^\{"written":[0-9.]+,"ended":(true|false),'
 LIST = "../index.html"  # as a round's page names it, which it names too
 
 
 def files_of(www: pathlib.Path) -> Dict[str, bytes]:
-    """All files of a site."""
-    return {str(path.relative_to(www)): bytes_of(path) for path in www.rglob("*") if path.is_file()}
+    """All files of a site, without the times of their writing."""
+    return {str(path.relative_to(www)): re.sub(STAMP, b"{", bytes_of(path)) for path in www.rglob("*") if path.is_file()}
 
 
 def is_whole(www: pathlib.Path) -> None:
@@ -84,8 +87,27 @@ def is_whole(www: pathlib.Path) -> None:
 
 
 class Quiet(http.server.SimpleHTTPRequestHandler):
+    ahead = 0.0  # seconds by which its date is wrong
+
     def log_message(self, *_: object) -> None:
         """Says nothing."""
+
+    def date_time_string(self, timestamp: "int | None" = None) -> str:
+        return super().date_time_string(int(time.time() + self.ahead) if timestamp is None else timestamp)
+
+
+@contextlib.contextmanager
+def served(www: pathlib.Path) -> Iterator[Tuple[str, Tab]]:
+    """The address of a plain web server of this site, and a tab."""
+    if missing := outside.lacks("chromium"):
+        raise Skipped(missing)
+    server = http.server.ThreadingHTTPServer(("127.0.0.1", 0), functools.partial(Quiet, directory=str(www)))
+    threading.Thread(target=server.serve_forever, daemon=True).start()
+    try:
+        yield f"http://127.0.0.1:{server.server_address[1]}/", Shared.tab()
+    finally:
+        Shared.end()
+        server.shutdown()
 
 
 def two_rounds(folder: pathlib.Path) -> None:
@@ -111,26 +133,73 @@ def two_rounds(folder: pathlib.Path) -> None:
     hall.write()
     live = hall.record("--web", str(www), "--round", "2", "--event", "Cup & Co")
     until(lambda: len(rows_of(bytes_of(www / "index.html"))) == 4, "both rounds in the list", 0.05)
-    if missing := outside.lacks("chromium"):
-        raise Skipped(missing)
-    server = http.server.ThreadingHTTPServer(("127.0.0.1", 0), functools.partial(Quiet, directory=str(www)))
-    threading.Thread(target=server.serve_forever, daemon=True).start()
-    url = f"http://127.0.0.1:{server.server_address[1]}/"
-    tab = Shared.tab()
-    try:
+    with served(www) as (url, tab):
         tab.open(url)
         until(lambda: tab.value("document.querySelectorAll('h2 a').length") == 2, "two rounds", 0.05)
         same(tab.value("document.querySelectorAll('td b').length"), 0)
+        same(tab.value("document.querySelector('meta[http-equiv=refresh]').content"), "60")
         tab.value("document.querySelectorAll('h2 a')[1].click()")
         until(lambda: tab.value("document.querySelectorAll('.tile').length") == 2, "two boards", 0.05)
         hall.play(0, 1, [0])
         until(lambda: tab.value("document.querySelector(\".tile[href='#1'] .last\").textContent") == "1. e4", "the move", 0.1)
         same(tab.value("document.getElementById('pgn').href"), f"{url}round2/round.pgn")
         same([asked for asked in tab.requests() if not asked.startswith(url)], [])
-    finally:
-        Shared.end()
-        server.shutdown()
     same(stop(live), 0)
+
+
+LATER = "{ const now = performance.now.bind(performance); performance.now = () => now() + 60000; }"  # a minute, for a page
+LINE = "document.getElementById('line').textContent"
+CLOCKS = "[...document.querySelectorAll('.clock')].map((one) => one.textContent).join()"
+
+
+def live_or_not(folder: pathlib.Path) -> None:
+    """A round's page says Live as long as the round is recorded, also if nothing happens and if the page slept. After a kill it says
+    since when nothing was heard, and clocks stand; so also for a reader who comes then. It says that a round has ended."""
+    hall, www, clock = Hall(folder, 1, clocks=(0,)), folder / "www", Clock(folder)
+    live = hall.record("--web", str(www), start=clock.start)
+    hall.begun(live)
+    hall.play(0, 2)
+    until(lambda: texts_of(bytes_of(www / "round" / "round.pgn")) == ["1. e4 e5 *"] and (www / "index.html").exists(), "the site", 0.05)
+    with served(www) as (url, tab):
+
+        def until_says(text: str) -> None:
+            until(lambda: str(tab.value(LINE)).startswith(text), f"that the page says {text}", 0.05)
+
+        def until_asked() -> None:
+            asked = len(tab.requests())
+            until(lambda: tab.value("true") and len(tab.requests()) > asked, "that the page asks for news", 0.05)
+
+        tab.open(f"{url}round/index.html")
+        until_says("Live")
+        before = state_of(www / "round")["written"]
+        clock.be(40)
+        until(lambda: state_of(www / "round")["written"] != before, "that the state is renewed", 0.05)
+        tab.value(LATER + LATER)
+        until_asked()
+        until_says("Live")
+        kill(live)
+        state = www / "round" / "state.json"
+        state.write_bytes(bytes_of(state).replace(b'"runs":"","at":null', b'"runs":"w","at":%d' % time.time()))
+        until_asked()
+        runs = tab.value(CLOCKS)
+        until(lambda: tab.value(CLOCKS) != runs, "that a clock runs", 0.05)
+        for _ in range(2):
+            until_asked()
+            tab.value(LATER)
+        until_says("Nothing heard since ")
+        stands = tab.value(CLOCKS)
+        time.sleep(2.5)
+        same(tab.value(CLOCKS), stands)
+        Quiet.ahead = 120.0
+        try:
+            tab.open(f"{url}round/index.html")
+            until_says("Nothing heard since ")
+        finally:
+            Quiet.ahead = 0.0
+        live = hall.record("--web", str(www), start=clock.start)
+        until_says("Live")
+        same(stop(live), 0)
+        until_says("Ended")
 
 
 def late_site(folder: pathlib.Path) -> None:
@@ -269,4 +338,4 @@ def carried_away(folder: pathlib.Path) -> None:
     same((board()["result"], state_of(www / "round")), ("1-0", state_of(carried)))
 
 
-CASES = [two_rounds, late_site, killed_between, full_site, carried_away]
+CASES = [two_rounds, live_or_not, late_site, killed_between, full_site, carried_away]

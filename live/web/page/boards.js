@@ -144,7 +144,7 @@ export class Boards {
   showLine() {
     const { how } = this;
     const looksBack = how === 'live' && this.open !== null && this.large.looksBack;
-    document.body.classList.toggle('stale', how === 'silent' || how === 'lost');
+    document.body.classList.toggle('stale', ['silent', 'lost', 'stopped'].includes(how));
     document.body.classList.toggle('live', how === 'live' && !looksBack);
     say(at('line'), this.line(looksBack ? 'back' : how));
   }

@@ -1,6 +1,40 @@
 // Where the words of a page without a recorder come from: a file, which is asked for now and then.
 
 const EACH = 5000; // milliseconds
+const STALE = 90000; // milliseconds: the recorder writes its file anew every 30 seconds
+
+/**
+ * Whether the recorder still writes its file. That is judged by the page's own time since the file was another one, so no clock
+ * need be right. Only how old the first one is, or one after a long pause, is told by the server's date.
+ */
+export class Age {
+  constructor() {
+    this.written = undefined; // seconds since 1970, by the clock of who wrote it
+    this.isEnded = false;
+    this.isKnown = false; // false as long as nothing tells how old the file is
+    this.changed = -Infinity;
+    this.came = -Infinity;
+  }
+
+  /** The file came at `now`, when the server's clock showed `date`, which is NaN if it tells none. Both are in milliseconds. */
+  take({ written, ended }, date, now) {
+    const isFirst = now - this.came > STALE;
+    if (written !== undefined && (isFirst || written !== this.written)) {
+      const age = isFirst ? date - written * 1000 : 0;
+      this.isKnown = !Number.isNaN(age);
+      this.changed = now - Math.max(0, age || 0);
+    }
+    this.written = written;
+    this.isEnded = ended === true;
+    this.came = now;
+  }
+
+  how(now) {
+    if (this.isEnded) return 'ended';
+    if (now - this.changed > STALE) return 'stopped';
+    return this.isKnown ? 'live' : 'connecting';
+  }
+}
 
 export class Files {
   constructor(hear, told) {
@@ -11,6 +45,7 @@ export class Files {
     this.isLost = false;
     this.timer = 0;
     this.texts = new Map(); // of the boards, as they were last
+    this.age = new Age();
   }
 
   begin() {
@@ -32,11 +67,22 @@ export class Files {
 
   look() {}
 
+  how() {
+    return this.age.how(performance.now());
+  }
+
+  /** When the recorder wrote last, if it no longer writes: then clocks stand as they stood. */
+  get stands() {
+    return ['stopped', 'ended'].includes(this.how()) ? this.age.written || 0 : undefined;
+  }
+
   async ask() {
     try {
       const answer = await fetch('state.json', { cache: 'no-cache' });
       if (!answer.ok) throw new Error(String(answer.status));
-      this.take(await answer.json());
+      const { written, ended, ...state } = await answer.json();
+      this.age.take({ written, ended }, Date.parse(answer.headers.get('Date')), performance.now());
+      this.take(state);
       this.isLost = false;
     } catch {
       this.isLost = true;

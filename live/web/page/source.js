@@ -68,6 +68,11 @@ export class Source {
     else this.ask();
   }
 
+  /** What a page is that hears something. */
+  how() {
+    return 'live';
+  }
+
   /** Call this now and then. */
   look() {
     const now = performance.now();

@@ -18,7 +18,16 @@ const LINES = {
   silent: 'Nothing comes just now',
   lost: 'No connection: trying again',
   hidden: 'In the background',
+  ended: 'Ended',
 };
+
+/** A time of day; of another day its date too. */
+function timeOf(seconds) {
+  const at = new Date(seconds * 1000);
+  const isToday = at.toDateString() === new Date().toDateString();
+  const clock = { hour: '2-digit', minute: '2-digit' };
+  return isToday ? at.toLocaleTimeString([], clock) : at.toLocaleString([], { dateStyle: 'medium', timeStyle: 'short' });
+}
 
 /** What this browser remembers of a round; nothing where it may not. */
 class Kept {
@@ -128,6 +137,7 @@ class Spectators extends Boards {
 
   line(how) {
     const late = this.stream && this.stream.said.late;
+    if (how === 'stopped') return this.stream.stands ? `Nothing heard since ${timeOf(this.stream.stands)}` : LINES.silent;
     return how === 'live' && late ? `${late} late` : LINES[how];
   }
 

@@ -11,8 +11,9 @@ const HIDDEN = SHARES ? 30000 : 0; // a page that nobody sees lets its connectio
 export class Stream {
   /**
    * `changed(number)` is called for each board that has changed, or without a number for the round. `connected(how)` is called
-   * with 'connecting', 'live', 'silent' if nothing comes, 'lost' if there is no connection, and 'hidden' if nobody sees the
-   * page: a browser slows its timers then, so it couldn't say in time that nothing comes.
+   * with 'connecting', 'live', 'silent' if nothing comes, 'lost' if there is no connection, 'stopped' or 'ended' if what comes is
+   * no longer renewed, and 'hidden' if nobody sees the page: a browser slows its timers then, so it couldn't say in time that
+   * nothing comes.
    */
   constructor(changed, connected) {
     this.changed = changed;
@@ -34,7 +35,13 @@ export class Stream {
 
   /** The recorder's time of day, in seconds. */
   now() {
-    return performance.now() / 1000 + this.offset;
+    const { stands } = this;
+    return stands === undefined ? performance.now() / 1000 + this.offset : stands;
+  }
+
+  /** When the recorder wrote last, if it no longer writes. */
+  get stands() {
+    return this.source.stands;
   }
 
   hear(kind, data) {
@@ -92,7 +99,7 @@ export class Stream {
     const now = performance.now();
     if (document.hidden) this.tell('hidden');
     else if (isLost) this.tell('lost');
-    else if (now - heard <= SILENT) this.tell('live');
+    else if (now - heard <= SILENT) this.tell(this.source.how());
     else this.tell(now - wanted > SILENT ? 'silent' : 'connecting');
   }
 
