@@ -1,5 +1,5 @@
 #!/usr/bin/env python3
-"""Writes the tables of docs/EDITS.md from the first lines of the edits in crates/*/must-fail/.
+"""Writes the tables of docs/EDITS.md from the first lines of the edits in crates/*/wrong-bodies/ and crates/*/must-fail/.
 
     tools/edits.py             writes the tables anew
     tools/edits.py --check     says what is to be done where the page isn't what the edits say
@@ -17,6 +17,7 @@ TOP = pathlib.Path(__file__).resolve().parent.parent
 PAGE = TOP / "docs" / "EDITS.md"
 SAYS = "# says: "
 REFUSED_BY = "# refused by: "
+FOLDERS = "must-fail", "wrong-bodies"
 HEAD = ["| Edit | In | What the wrong body does | Refused by |", "|---|---|---|---|"]
 
 
@@ -81,10 +82,10 @@ def place_of(crate: pathlib.Path, changes: typing.List[Change]) -> typing.Option
     return (changes[-1].file, function) if changes else None
 
 
-def read_edit(crate: str, name: str, text: str) -> typing.Union[Edit, str]:
+def read_edit(crate: str, folder: str, name: str, text: str) -> typing.Union[Edit, str]:
     """The edit of this text, or what is wrong with it."""
     lines = text.split("\n")
-    path = f"crates/{crate}/must-fail/{name}.edit"
+    path = f"crates/{crate}/{folder}/{name}.edit"
     if not re.match(SAYS + r"\S", lines[0]):
         return f"{path}: its first line has to be '{SAYS}' and what the wrong body does"
     refused_by = lines[1][len(REFUSED_BY) :] if lines[1].startswith(REFUSED_BY) else ""
@@ -130,8 +131,8 @@ def page_of(page: str, edits: typing.List[Edit]) -> typing.Tuple[str, typing.Lis
 
 def all_edits() -> typing.Tuple[typing.List[Edit], typing.List[str]]:
     """The edits of all crates, and what is wrong with the others."""
-    paths = sorted(TOP.glob("crates/*/must-fail/*.edit"))
-    read = [read_edit(path.parent.parent.name, path.stem, path.read_text()) for path in paths]
+    paths = sorted(path for folder in FOLDERS for path in TOP.glob(f"crates/*/{folder}/*.edit"))
+    read = [read_edit(path.parent.parent.name, path.parent.name, path.stem, path.read_text()) for path in paths]
     return [it for it in read if isinstance(it, Edit)], [it for it in read if isinstance(it, str)]
 
 
