@@ -14,6 +14,7 @@ from typing import Dict, Iterable, Iterator, List, Optional, Tuple
 
 TICK = os.sysconf("SC_CLK_TCK")
 FROM_NOTHING = "(from nothing)"
+KINDS = {"proof": "proofs", "tests": "proofs with tests", "edit": "must-fail edits", "bodies": "wrong bodies"}
 
 Started = Tuple[int, int]  # a process: its number, and its start, since numbers are given anew
 Check = Tuple[int, str, str, float]  # its start, its crate, what it proves, its processor seconds
@@ -43,8 +44,8 @@ def check_of(pid: int) -> Optional[Tuple[str, str]]:
     if not words[0].endswith("/rattle") or words[1:2] not in (["check"], ["build"]) or "--crate-name" not in words:
         return None
     crate = words[words.index("--crate-name") + 1]
-    kind = "edit" if "/rt-edit-" in folder else "tests" if "--test" in words else "proof"
-    return crate, kind
+    kinds = {"edit": "/rt-edit-" in folder, "bodies": "--only" in words, "tests": "--test" in words}
+    return crate, next((kind for kind, is_it in kinds.items() if is_it), "proof")
 
 
 def watch(command: List[str], folder: str, log: str) -> Tuple[int, List[Check]]:
@@ -100,9 +101,9 @@ def main(clone: str, folder: str) -> int:
             print(crate, kind, name, f"{seconds:.1f}", sep="\t", file=out)
 
     print("Processor seconds of each crate:\n")
-    print("| Crate | Proof | Proof with tests | Edits | the first, a check from nothing | number | the five slowest of the others |")
-    print("|---|---|---|---|---|---|---|")
-    sums = {"proof": 0.0, "tests": 0.0, "edit": 0.0}
+    print("| Crate | Proof | Proof with tests | Must-fail edits | Wrong bodies | their rounds | the first edit, a check from nothing | edits | the five slowest of the others |")
+    print("|---|---|---|---|---|---|---|---|---|")
+    sums = {"proof": 0.0, "tests": 0.0, "edit": 0.0, "bodies": 0.0}
     for crate in dict.fromkeys(it[0] for it in checks):
         of = {kind: [(seconds, name) for at, it, name, seconds in checks if (at, it) == (crate, kind)] for kind in sums}
         spent = {kind: sum(seconds for seconds, _ in it) for kind, it in of.items()}
@@ -114,9 +115,10 @@ def main(clone: str, folder: str) -> int:
         others = sorted((it for it in edits if it[1] != FROM_NOTHING), reverse=True)
         slowest = ", ".join(f"`{name}` {seconds:.0f}" for seconds, name in others[:5])
         shown = [f"{spent[kind]:.0f}" if of[kind] else "" for kind in sums]
-        print("|", " | ".join([f"`{crate}`", *shown, first, str(number), slowest]), "|")
+        print("|", " | ".join([f"`{crate}`", *shown, str(len(of["bodies"]) or ""), first, str(number), slowest]), "|")
     rest = whole - sum(sums.values())
-    print(f"\nproofs {sums['proof']:.0f}, proofs with tests {sums['tests']:.0f}, edits {sums['edit']:.0f}, all else {rest:.0f}")
+    named_sums = ", ".join(f"{name} {sums[kind]:.0f}" for kind, name in KINDS.items())
+    print(f"\n{named_sums}, all else {rest:.0f}")
     last = pathlib.Path(f"{folder}/log").read_text(errors="replace").strip().splitlines()[-1:]
     print(f"tests/run: {last[0] if last else 'printed nothing'} (status {status})")
     print(f"processor time: {whole / 60:.1f} min; wall time: {wall / 60:.1f} min; processors: {len(os.sched_getaffinity(0))}")

@@ -63,5 +63,5 @@ def check(command: Sequence[str], texts: Dict[str, str]) -> str:
             file = pathlib.Path(room) / path
             file.parent.mkdir(parents=True, exist_ok=True)
             file.write_text(text)
-        how = {"stdin": subprocess.DEVNULL, "stdout": subprocess.PIPE, "stderr": subprocess.STDOUT}
-        return subprocess.run(command, cwd=room, **how).stdout.decode(errors="replace")
+        ran = subprocess.run(command, cwd=room, stdin=subprocess.DEVNULL, stdout=subprocess.PIPE, stderr=subprocess.STDOUT)
+        return ran.stdout.decode(errors="replace")

@@ -9,7 +9,7 @@ from planted import verdict
 from planted.rounds import next_round
 from planted.wrong_body import WrongBody
 
-TRIES = 3  # rounds in which a body may wait for another one; in the last it is by itself
+Check = Callable[[Dict[str, str], List[str], Path], verdict.Said]  # of sources: these functions; where checks keep their work
 
 
 @dataclasses.dataclass(frozen=True)
@@ -30,24 +30,41 @@ def of_one(body: WrongBody, said: verdict.Said) -> Tried:
     return Tried(body.name, False, f"NOT REFUSED: {known[0]} is proved" if known else f"NO SUCH FUNCTION: {sorted(body.functions)}")
 
 
-def tried(bodies: Sequence[WrongBody], sources: Dict[str, str], check: Callable[[Dict[str, str], List[str], Path], verdict.Said]) -> Iterator[Tried]:
-    """Tries these bodies. `check` is given sources, the functions to check, and the folder in which checks keep their work."""
-    left: List[Tuple[WrongBody, int]] = [(it, 0) for it in bodies]
+def is_waiting(said: verdict.Said, body: WrongBody) -> bool:
+    """Whether nothing can be said of a body, since what it changes rests on another function that isn't proved."""
+    own = any(verdict.is_refused(said, it) for it in body.functions)
+    return not own and any(verdict.waits(said, it) for it in body.functions)
+
+
+def halves(bodies: Sequence[WrongBody]) -> List[List[WrongBody]]:
+    """These bodies in two parts, or all in one where there is only one."""
+    middle = (len(bodies) + 1) // 2
+    return [list(it) for it in (bodies[:middle], bodies[middle:]) if it]
+
+
+def tried(bodies: Sequence[WrongBody], sources: Dict[str, str], check: Check) -> Iterator[Tried]:
+    """Tries these bodies: as many together as change different functions; in halves where a check has no verdict, since two of
+    them may not compile together; once more without what it calls, where a function rests on another one with a wrong body."""
+    groups: List[Tuple[List[WrongBody], bool]] = [(list(bodies), False)]
     with tempfile.TemporaryDirectory() as kept:
-        while left:
-            tries = min(count for _, count in left)
-            together = [it for it, count in left if count == tries]
-            taken, texts = next_round(together if tries + 1 < TRIES else together[:1], sources)
-            left = [(it, count) for it, count in left if it not in taken]
-            functions = sorted({it for body in taken for it in body.functions})
-            said = check(texts, functions, Path(kept))
-            odd = verdict.others(said, frozenset(functions))
+        while groups:
+            group, is_last = groups.pop(0)
+            taken, texts = next_round(group[:1] if is_last else group, sources)
+            later = [it for it in group if it not in taken]
+            if later:
+                groups.insert(0, (later, is_last))
+            said = check(texts, sorted({it for body in taken for it in body.functions}), Path(kept))
+            odd = verdict.others(said, frozenset(it for body in taken for it in body.functions))
+            if not said.ended and len(taken) > 1:
+                groups += [(half, is_last) for half in halves(taken)]
+                continue
+            waiting = [it for it in taken if not odd and said.ended and is_waiting(said, it)]
+            if waiting and len(taken) > 1:
+                groups.append((waiting, len(waiting) == len(taken)))
             for body in taken:
-                waits = said.ended and not odd and any(verdict.waits(said, it) for it in body.functions)
-                if not said.ended or odd:
-                    why = f"and {odd[0]} isn't proved either" if odd else f"no verdict: {said.text.strip()[-300:]}"
-                    yield Tried(body.name, False, f"NOT TRIED, in one check with {len(taken) - 1} more: {why}")
-                elif waits and tries + 1 < TRIES and not any(verdict.is_refused(said, it) for it in body.functions):
-                    left.append((body, tries + 1))
-                else:
+                if not said.ended:
+                    yield Tried(body.name, False, f"NO VERDICT: {said.text.strip()[-300:]}")
+                elif odd:
+                    yield Tried(body.name, False, f"NO VERDICT: {odd[0]} isn't proved either, and nobody changed it")
+                elif body not in waiting or len(taken) == 1:
                     yield of_one(body, said)

@@ -1,0 +1,201 @@
+"""Which function a wrong body changes, which are tried together, and what a check is read as. All worked by hand."""
+
+import pathlib
+from typing import Callable, Dict, List, Sequence, Tuple
+
+from decided.table import same
+from planted import checking, verdict, wrong_body
+from planted.rounds import next_round
+from planted.trying import tried
+from planted.wrong_body import Change, WrongBody
+
+SOURCE = """use std::io;
+
+const LIMIT: usize = 4;
+
+pub fn first(n: u64) -> u64
+    ensures { result ≡ n }
+{
+    n
+}
+
+impl Watch {
+    pub(crate) fn note(&mut self) {
+        self.failed = true;
+    }
+}
+
+impl<W: Write> io::Write for Watch<W> {
+    fn flush(&mut self) -> Result<(), Error> {
+        self.inner.flush()
+    }
+}
+
+impl<'a> Line<'a> {
+    fn has(&self) -> bool {
+        true
+    }
+}
+
+fn last() {}
+"""
+# A text of that source, and the function that has it.
+PLACES = [
+    ("const LIMIT: usize = 4;", None),
+    ("pub fn first", "board::streams::first"),
+    ("    n\n", "board::streams::first"),
+    ("impl Watch {", None),
+    ("self.failed = true;", "board::streams::Watch::note"),
+    ("self.inner.flush()", "board::streams::WatchWrite::flush"),
+    ("        true\n", "board::streams::Line::has"),
+    ("fn last() {}", "board::streams::last"),
+]
+
+
+def places() -> None:
+    for text, expected in PLACES:
+        at = SOURCE.index(text) + len(text)
+        same(text, wrong_body.function_at("board", "src/streams.rt", SOURCE, at), expected)
+    same("a function of the root", wrong_body.function_at("board", "src/lib.rt", "fn f() {", 8), "board::f")
+    same("a folder of modules", wrong_body.function_at("board", "src/a/b.rt", "fn f() {", 8), "board::a::b::f")
+
+
+def edits() -> None:
+    sources = {"src/lib.rt": "fn f() { 1 }\nfn g() { 1 + 2 }\n"}
+    read: Callable[[str], object] = lambda text: wrong_body.read("c", "name", text, sources)
+    text = "# says: it\nfile: src/lib.rt\nold: { 1 }\nnew: { 0 }\nold: 1 + 2\nnew: \n"
+    changes = Change("src/lib.rt", "{ 1 }", "{ 0 }"), Change("src/lib.rt", "1 + 2", "")
+    same("two functions", read(text), WrongBody("name", changes, frozenset({"c::f", "c::g"})))
+    same("a text that is there twice", read("file: src/lib.rt\nold: 1\nnew: 0\n"), None)
+    same("a text that isn't there", read("file: src/lib.rt\nold: 3\nnew: 0\n"), None)
+    same("another file", read("file: src/main.rt\nold: 1 + 2\nnew: 0\n"), None)
+    same("no change", read("# says: nothing\n"), None)
+
+
+def body(name: str, old: str, *functions: str) -> WrongBody:
+    return WrongBody(name, (Change("f", old, old.upper()),), frozenset(functions))
+
+
+def together() -> None:
+    sources = {"f": "a b c a1 c"}
+    bodies = [body("one", "b", "f"), body("same function", "a1", "f"), body("another", "a1", "g"), body("there twice", "c", "h")]
+    taken, texts = next_round(bodies, sources)
+    same("one for each function", ([it.name for it in taken], texts), (["one", "another"], {"f": "a B c A1 c"}))
+
+
+OUTPUT = """./proofs/lines/add/Answers.antt:6:26: error: `returns-clause-items`: `search`: no proof of `x`
+./proofs/lines/put/Answers.antt:1:1: error: `Rattle.c.add` was not admitted
+./proofs/lines/Line/has/Invariants.antt:9:5: error: `loop-at-preserved`: the two types differ
+fn c::lines::add: not proved
+fn c::lines::number: not proved; it calls `c::lines::add`, which is not proved
+fn c::lines::put: no proof: it calls `c::lines::add`, which is not proved
+fn c::lines::Line::has: not proved; it calls `c::lines::add`, which is not proved
+fn c::lines::kept: proved
+fn c::lines::long: could not tell
+only=6 proved=1
+"""
+# A function of that check: whether it was refused itself, and whether it waits for another one.
+VERDICTS = [
+    ("c::lines::add", True, False),
+    ("c::lines::number", False, True),
+    ("c::lines::put", False, True),
+    ("c::lines::Line::has", True, False),
+    ("c::lines::kept", False, False),
+    ("c::lines::long", False, False),
+    ("c::lines::unknown", False, False),
+]
+
+
+def verdicts() -> None:
+    said = verdict.read("c", OUTPUT)
+    for name, refused, waits in VERDICTS:
+        same(name, (verdict.is_refused(said, name), verdict.waits(said, name)), (refused, waits))
+    same("the goal is named", verdict.reason(said, "c::lines::add"), ", `returns-clause-items`")
+    same("a refusal that no edit explains", verdict.others(said, frozenset({"c::lines::add"})), ["c::lines::Line::has"])
+    same("it has ended", said.ended, True)
+    same("it has not", verdict.read("c", "error[E0308]: mismatched types\n").ended, False)
+
+
+def check_of(lines: Dict[str, Tuple[str, ...]], asked: List[List[str]]) -> Callable[[Dict[str, str], List[str], pathlib.Path], verdict.Said]:
+    """A check in which a function is refused where the text has its letter as a capital; `lines` has what it calls. With a '!' it
+    doesn't compile, nor with A and C together; with a '?' it speaks of all functions."""
+
+    def check(texts: Dict[str, str], functions: List[str], _: pathlib.Path) -> verdict.Said:
+        asked.append(functions)
+        wrong = {it for it in lines if it.upper() in texts["f"]}
+        said = []
+        for it in sorted({*lines} if "?" in texts["f"] else {*functions}):
+            below = [other for other in lines[it] if other in wrong]
+            if below:
+                said.append(f"fn {it}: not proved; it calls `{below[0]}`, which is not proved")
+            else:
+                said.append(f"fn {it}: {'not proved' if it in wrong else 'proved'}")
+        compiles = "!" not in texts["f"] and not ("A" in texts["f"] and "C" in texts["f"] and "c" in functions)
+        return verdict.read("c", "\n".join([*said, "only=1 proved=0"]) if compiles else "error: no such type")
+
+    return check
+
+
+Plan = Tuple[str, List[WrongBody], Dict[str, Tuple[str, ...]], List[List[str]], Dict[str, bool]]
+PLANS: List[Plan] = [
+    ("different functions, one check", [body("a", "a", "a"), body("b", "b", "b")], {"a": (), "b": ()}, [["a", "b"]], {"a": True, "b": True}),
+    (
+        "one function, two checks",
+        [body("a", "a", "a"), WrongBody("again", (Change("f", "z", "A"),), frozenset({"a"}))],
+        {"a": ()},
+        [["a"], ["a"]],
+        {"a": True, "again": True},
+    ),
+    (
+        "a body that is proved",
+        [body("a", "a", "a"), WrongBody("b", (Change("f", "z", "y"),), frozenset({"b"}))],
+        {"a": (), "b": ()},
+        [["a", "b"]],
+        {"a": True, "b": False},
+    ),
+    (
+        "a caller is tried again, without what it calls",
+        [body("a", "a", "a"), body("b", "b", "b")],
+        {"a": (), "b": ("a",)},
+        [["a", "b"], ["b"]],
+        {"a": True, "b": True},
+    ),
+    (
+        "a caller that is right is not refused with what it calls",
+        [body("a", "a", "a"), WrongBody("b", (Change("f", "z", "y"),), frozenset({"b"}))],
+        {"a": (), "b": ("a",)},
+        [["a", "b"], ["b"]],
+        {"a": True, "b": False},
+    ),
+    (
+        "something else isn't proved",
+        [WrongBody("a", (Change("f", "a", "A C ?"),), frozenset({"a"}))],
+        {"a": (), "c": ()},
+        [["a"]],
+        {"a": False},
+    ),
+    (
+        "two that don't compile together",
+        [body("a", "a", "a"), body("b", "b", "b"), WrongBody("c", (Change("f", "z", "C"),), frozenset({"c"}))],
+        {"a": (), "b": (), "c": ()},
+        [["a", "b", "c"], ["a", "b"], ["c"]],
+        {"a": True, "b": True, "c": True},
+    ),
+    ("it doesn't compile", [WrongBody("a", (Change("f", "a", "!"),), frozenset({"a"}))], {"a": ()}, [["a"]], {"a": False}),
+]
+
+
+def plans() -> None:
+    for name, bodies, calls, checks, expected in PLANS:
+        asked: List[List[str]] = []
+        seen = {it.name: it.refused for it in tried(bodies, {"f": "a b z"}, check_of(calls, asked))}
+        same(name, (asked, seen), (checks, expected))
+
+
+def libraries() -> None:
+    uses = checking.crates_of("# libraries\nlow:\nmiddle: low itoa\nhigh: middle low  # the top\n")
+    same("what each uses", uses, {"low": [], "middle": ["low", "itoa"], "high": ["middle", "low"]})
+    same("what is below", checking.below(uses, "high"), ["low", "middle"])
+
+
+TABLES: Sequence[Callable[[], None]] = [places, edits, together, verdicts, plans, libraries]
