@@ -36,6 +36,7 @@ from live.round.site import SiteFiles
 from live.round.sources import Source
 from live.round.tournament import Tournament, made, tournament_of
 from live.round.tournament_files import RESULTS, TournamentFiles, all_text, results_text
+from live.round.trf import MATCHES, read_matches
 from live.web.address import Pages, read_pages
 from live.web.doors import Title, TwoPages
 from live.web.kept_pages import keep_pages, pages_of
@@ -44,7 +45,7 @@ from live.web.round_page import ArbiterView
 SEE_HELP = "see dgt_round --help"
 TAGS = ("--event", "--site", "--date", "--round")
 NEW, EMBED, WEB = "--new", "--embed", "--web"
-VALUED = (*TAGS, TAG, "--linger", "--page", "--page-host", "--arbiter-page", EMBED, WEB, "--delay", "--publish", OUTPUT, ENCODING)
+VALUED = (*TAGS, TAG, "--linger", "--page", "--page-host", "--arbiter-page", EMBED, WEB, "--delay", "--publish", OUTPUT, ENCODING, MATCHES)
 HELP = """\
 usage: dgt_round FILE [FOLDER] [OPTION..]     a round of its own
        dgt_round CUP ROUND [OPTION..]         a round of a tournament
@@ -68,7 +69,7 @@ OPTION, kept: --event, --site, --date, --round with TEXT; --tag NAME=VALUE
   --embed https://SITE, --web FOLDER   who may frame it; a site of files
   --delay MINUTES, --publish COMMAND   how late it goes out, and by what
   --output 'NAME = MINUTES, COMMAND'   a further output; for more, once more
-  --linger SECONDS, --encoding NAME, --recover, --strict, --version   see man
+  --linger SECONDS, --encoding NAME, --matches no, --recover, --strict  see man
 """
 
 
@@ -87,6 +88,7 @@ class Asked:
     outputs: Tuple[Output, ...] = ()  # beside the first one
     known: Tuple[str, ...] = ()  # the names of outputs that the tournament's settings have
     encoding: str = ""  # of tables that aren't Unicode; empty if none is given
+    no_matches: bool = False  # the teams of a report play none
     tournament: Optional[Tournament] = None  # the one whose round is played
     new: bool = False  # the files of a tournament are to be made
     help: bool = False
@@ -139,6 +141,7 @@ def parse(arguments: Sequence[str]) -> Asked:
     if embed and not page:
         raise Refused(ARGUMENTS, f"{EMBED} lets a site show the page, and there is none without --page PORT: {SEE_HELP}")
     delay, publish, encoding = (values.pop(option, None) for option in ("--delay", "--publish", ENCODING))
+    no_matches = read_matches(values.pop(MATCHES, ""))
     words += [assigned(option, value) for option, value in values.items()]
     named = read_outputs(outputs)
     refuse_same_site(web, named)
@@ -153,6 +156,7 @@ def parse(arguments: Sequence[str]) -> Asked:
         web,
         named,
         encoding=known_encoding(encoding) if encoding else "",
+        no_matches=no_matches,
         new=is_new,
     )
 
@@ -220,7 +224,7 @@ def play(asked: Asked, program: Program, signals: Signals) -> Outcome:
     asked.options.refuse_breaks()
     given = turned(recordable(asked.options, unknown))
     file = pathlib.Path(asked.file)
-    source = Source(file, round_of(asked.options.round), encoding=asked.encoding)
+    source = Source(file, round_of(asked.options.round), encoding=asked.encoding, no_matches=asked.no_matches)
     source.in_tournament = asked.tournament is not None
     read = first_pairings(source)
     folder, _ = folder_of(asked)

@@ -34,11 +34,13 @@ class Source:
         round_number: Optional[int] = None,
         looks: Callable[[], Mapping[str, str]] = plugged_in,
         encoding: str = "",
+        no_matches: bool = False,
     ) -> None:
         self.file = file
         self.boards = file.parent / BOARDS
         self._round, self._looks = round_number, looks
         self._encoding = encoding  # of files that aren't Unicode; empty if none is given
+        self._no_matches = no_matches  # the teams of a report play none
         self.in_tournament = False  # the round's number is in its file's name
         self._plugged: Dict[str, str] = {}
         self.wants: List[str] = []  # the numbers of boards that weren't found at the last reading
@@ -47,7 +49,7 @@ class Source:
         """Reads the files. Raises OSError if one can't be read; refused if one isn't a table."""
         content = files.beginning(self.file, LARGEST + 1)
         if is_report(content):
-            read = read_report(content, self._round, self._encoding)
+            read = read_report(content, self._round, self._encoding, self._no_matches)
         else:
             read = read_pairings(content, self._encoding)
         if not read.has_devices:

@@ -11,17 +11,19 @@ from __future__ import annotations
 
 import re
 from dataclasses import dataclass
-from typing import Dict, Iterable, List, Mapping, Optional, Tuple
+from typing import Dict, List, Optional, Tuple
 
 from live.game.forfeits import BLACK, BOTH, WHITE
 from live.game.tags import Malformed, cleaned, value_of
-from live.refused import REFUSED, Refused
-from live.round.pairings import MOST_UNKNOWN, Pairing, Pairings, Wrong, more_lines, shown
+from live.refused import ARGUMENTS, REFUSED, Refused
+from live.round.pairings import MOST_UNKNOWN, NO, YES, Pairing, Pairings, Wrong, more_lines, shown
 from live.round.encodings import loose_text, text_of
 from live.round.sheets import LARGEST
 
 PLAYER, TEAM, EVENT, SITE, TIME_CONTROL, DATES = "001", "013", "012", "022", "122", "132"
 TEAM_OF_2026 = "310"  # a team's line in the later edition, TRF26
+MATCHES = "--matches"  # the option that answers whether teams play matches
+SAVE_A_TABLE = "save the pairs of the round as a table, with the columns board, white and black"
 NOT_NEEDED = ("032", "042", "052", "062", "072", "082", "092", "102", "112")
 EXTENSION = re.compile(r"XX[A-Z]|BB[A-Z]|\d{3}")  # of programs, or of a later edition
 FIRST_ROUND, ROUND_WIDTH = 91, 10
@@ -65,8 +67,8 @@ def is_report(content: bytes) -> bool:
     return len(content) <= LARGEST and re.search(r"^\ufeff?001 [ \d]{3}\d ", loose_text(content), re.MULTILINE) is not None
 
 
-def read_report(content: bytes, round_number: Optional[int], encoding: str = "") -> Pairings:
-    """The pairs of a round. Refused if there is no such round, and if it is a team tournament."""
+def read_report(content: bytes, round_number: Optional[int], encoding: str = "", no_matches: bool = False) -> Pairings:
+    """The pairs of a round. Refused if there is no such round, and if it has a team, unless it is given that teams play no matches."""
     if len(content) > LARGEST:
         raise Refused(REFUSED, f"it has more than {LARGEST // 1024} kB")
     if round_number is None:
@@ -87,13 +89,13 @@ def read_report(content: bytes, round_number: Optional[int], encoding: str = "")
             else:
                 players[player.number] = player
         elif code == TEAM_OF_2026:
-            raise Refused(REFUSED, *of_teams(number))
+            raise Refused(REFUSED, *of_matches(number))
+        elif code == TEAM and not no_matches:
+            raise Refused(REFUSED, *question(number))
         elif code == TEAM:
             teams.update(dict.fromkeys(map(int, re.findall(r"\d+", line[36:])), cleaned(line[4:36])))
         elif line.strip() and code not in (EVENT, SITE, TIME_CONTROL, DATES, *NOT_NEEDED) and not EXTENSION.fullmatch(code):
             unknown.append(f"line {number} isn't known, and isn't used: {shown(line.strip())}")
-    if plays_matches(players.values(), teams, round_number):
-        raise Refused(REFUSED, *of_teams(None))
     rounds = max((len(player.games) for player in players.values()), default=0)
     if not 0 < round_number <= rounds:
         raise Refused(REFUSED, f"it has no pairs of round {round_number}: {told_of_rounds(rounds)}")
@@ -101,26 +103,28 @@ def read_report(content: bytes, round_number: Optional[int], encoding: str = "")
     return _pairs(players, teams, round_number, wrong, told)
 
 
-def of_teams(line: Optional[int]) -> Tuple[str, str]:
-    """The message that a report is of a team tournament: FIDE's order of boards is for players alone."""
-    why = f"line {line} has a team" if line else "its teams play matches"
+def of_matches(line: int) -> Tuple[str, str]:
+    """The message that teams play matches: FIDE's order of boards is for players alone."""
+    why = f"it is the report of a team tournament (line {line} has a team), and doesn't say at which board a pair plays:"
+    return why, SAVE_A_TABLE
+
+
+def question(line: int) -> Tuple[str, str, str]:
+    """What to ask about a report with a team: its lines of teams may be incomplete, so that they don't show whether teams play
+    matches."""
     return (
-        f"it is the report of a team tournament ({why}), and doesn't say at which board a pair plays:",
-        "save the pairs of the round as a table, with the columns board, white and black",
+        f"line {line} has a team, and a report doesn't say at which board of a match a pair plays:",
+        f"if teams play matches, {SAVE_A_TABLE};",
+        f"if players are paired one by one, type {MATCHES} no (in tournament.txt: matches = no)",
     )
 
 
-def plays_matches(players: Iterable[Player], teams: Mapping[int, str], of: int) -> bool:
-    """Whether teams play matches in a round: of some team two players have opponents, and each team's players have all theirs
-    in one other team."""
-    met: Dict[str, List[Optional[str]]] = {}
-    for player in players:
-        opponent = player.game(of).opponent
-        if opponent and player.number in teams:
-            met.setdefault(teams[player.number], []).append(teams.get(opponent))
-    matches = [set(others) for others in met.values()]
-    several = any(len(others) > 1 for others in met.values())
-    return several and all(len(others) == 1 and None not in others and team not in others for team, others in zip(met, matches))
+def read_matches(text: str) -> bool:
+    """Whether it is given that teams play no matches; empty if nothing is given. Refused if it is neither yes nor no."""
+    word = text.strip().lower()
+    if word not in YES + NO:
+        raise Refused(ARGUMENTS, f"{MATCHES} {shown(text)}: type no if players are paired one by one, or yes if teams play matches")
+    return bool(word) and word in NO
 
 
 def told_of_rounds(rounds: int) -> str:

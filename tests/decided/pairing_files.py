@@ -3,13 +3,13 @@ hall's boards that go with them. The files are written after the programs' pages
 
 from typing import Dict, List, Tuple
 
-from live.doors.dgt_round import VALUED
+from live.doors.dgt_round import VALUED, parse
 from live.refused import Refused
 from live.round.encodings import ENCODING, encoding_in, known_encoding, text_of
 from live.round.joining import joined, placed, with_some
 from live.round.pairings import Pairing, Pairings, Wrong, read_pairings
 from live.round.settings import TEMPLATE, words_of
-from live.round.trf import Head, head_of, is_report, read_report
+from live.round.trf import Head, head_of, is_report, read_matches, read_report
 
 from decided.table import refused, same
 
@@ -189,7 +189,7 @@ def reports() -> None:
     """A round of a tournament's report: the boards in the order of FIDE's rules, byes, byes of half a point, who isn't there, tags."""
     content = REPORT.encode()
     same("a report", (is_report(content), is_report(ENGLISH.encode()), is_report(b"\xef\xbb\xbf" + content)), (True, False, True))
-    read = read_report(content, 3)
+    read = read_report(content, 3, no_matches=True)
     boards: List[Seen] = [of(pairing) for pairing in read.boards]
     same("boards", boards, [
         (1, "Ünal, Ben", "Kern, Anna", "", {
@@ -205,15 +205,15 @@ def reports() -> None:
         "no opponent in round 3: Tau, Gerd (the bye), Uhl, Hans (absent)",
     ))  # fmt: skip
     same("wrong", read.wrong, ())
-    same("round 1", [pairing.white for pairing in read_report(content, 1).boards], ["Kern, Anna", "Ünal, Ben", "Roth, Carl", "Ott, Dora"])
-    same("round 4", refused("4", Refused, read_report, content, 4), "it has no pairs of round 4: it has rounds 1 to 3")
+    same("round 1", [pairing.white for pairing in read_report(content, 1, no_matches=True).boards], ["Kern, Anna", "Ünal, Ben", "Roth, Carl", "Ott, Dora"])
+    same("round 4", refused("4", Refused, read_report, content, 4, "", True), "it has no pairs of round 4: it has rounds 1 to 3")
     no_number = "it is the report of a tournament: say which round is played, as --round 3"
     same("no round", refused("none", Refused, read_report, content, None), no_number)
     same("head", head_of(content, 3), Head("Basel Open", "Basel", "2024.06.01", "5400+30"))
-    same("cp1252", [of(pairing) for pairing in read_report(REPORT.encode("cp1252"), 3).boards], boards)
+    same("cp1252", [of(pairing) for pairing in read_report(REPORT.encode("cp1252"), 3, no_matches=True).boards], boards)
     # A program that counts the bytes of a name, and not its letters: Ü has two.
     by_bytes = REPORT.replace("Ünal, Ben" + " " * 24, "Ünal, Ben" + " " * 23)
-    same("by bytes", [of(pairing) for pairing in read_report(by_bytes.encode(), 3).boards], boards)
+    same("by bytes", [of(pairing) for pairing in read_report(by_bytes.encode(), 3, no_matches=True).boards], boards)
 
 
 def pairs_that_differ() -> None:
@@ -236,25 +236,62 @@ def pairs_that_differ() -> None:
 
 
 # Teams of two. In round 1 each team's players meet one other team; in round 2 they are paired as players alone.
-TEAMS = [
-    *(player(number, "", name, "", "", "", "0.0", *games) for number, name, *games in [
+PAIRED = [
+    player(number, "", name, "", "", "", "0.0", *games) for number, name, *games in [
         (1, "A1", "   3 w  ", "   4 w  "), (2, "A2", "   4 b  ", "   5 b  "), (3, "B1", "   1 b  ", "   6 b  "),
         (4, "B2", "   2 w  ", "   1 b  "), (5, "C1", "0000 - U", "   2 w  "), (6, "C2", "0000 - U", "   3 w  "),
-    ]),
-    "013 Team A                              1    2", "013 Team B                              3    4",
-    "013 Team C                              5    6",
+    ]
 ]  # fmt: skip
 
 
+def team(name: str, *numbers: int) -> str:
+    """A team's line."""
+    return f"013 {name:<32}" + "".join(f" {number:>4}" for number in numbers)
+
+
+A, B, C = team("Team A", 1, 2), team("Team B", 3, 4), team("Team C", 5, 6)
+LINES_OF_TEAMS: Dict[str, Tuple[str, ...]] = {
+    "complete": (A, B, C),
+    "one team is missing": (A, C),
+    "one player is in no team": (A, team("Team B", 3), C),
+    "players that don't exist": (A, team("Team B", 3, 9), C),
+    "a player in two teams": (A, team("Team B", 3, 4, 1), C),
+    "a team without players": (team("Team A"),),
+    "a team without a name": ("013",),
+}
+
+
 def reports_of_teams() -> None:
-    """A report gives no order of boards if teams play matches in the round, or if it has a team's line of the later edition."""
-    content = "\n".join(TEAMS).encode()
-    told = refused("matches", Refused, read_report, content, 1)
-    same("matches", told, "it is the report of a team tournament (its teams play matches), and doesn't say at which board a pair plays:")
-    same("players alone", [pairing.white for pairing in read_report(content, 2).boards], ["C1", "C2", "A1"])  # who had a bye leads
-    later = "\n".join([*TEAMS[:6], "310   1 Team A"]).encode()
-    told = refused("the later edition", Refused, read_report, later, 2)
-    same("the later edition", told.partition(",")[0], "it is the report of a team tournament (line 7 has a team)")
+    """A report gives no order of the boards of a match. One with a team is asked about, whether or not its lines of teams are complete;
+    one with a team's line of the later edition is refused."""
+    for name, lines in LINES_OF_TEAMS.items():
+        for line, all_lines in ((7, [*PAIRED, *lines]), (1, [*lines, *PAIRED])):
+            content = "\n".join(all_lines).encode()
+            for of in (1, 2):
+                told = refused(name, Refused, read_report, content, of)
+                same(name, told, f"line {line} has a team, and a report doesn't say at which board of a match a pair plays:")
+            read = read_report(content, 2, no_matches=True)
+            same(f"{name}, no matches", [pairing.white for pairing in read.boards], ["C1", "C2", "A1"])  # who had a bye leads
+    try:
+        read_report("\n".join([*PAIRED, A]).encode(), 1)
+    except Refused as asked:
+        same("the question", asked.lines, (
+            "line 7 has a team, and a report doesn't say at which board of a match a pair plays:",
+            "if teams play matches, save the pairs of the round as a table, with the columns board, white and black;",
+            "if players are paired one by one, type --matches no (in tournament.txt: matches = no)",
+        ))  # fmt: skip
+    same("tags", dict(read_report("\n".join([*PAIRED, A]).encode(), 2, no_matches=True).boards[2].tags), {"WhiteTeam": "Team A"})
+    for text, is_none in (("no", True), (" No", True), ("nein", True), ("yes", False), ("", False)):
+        same(f"matches {text}", read_matches(text), is_none)
+    told = refused("matches", Refused, parse, ["cup.trf", "--matches", "2"])
+    same("matches 2", told, "--matches '2': type no if players are paired one by one, or yes if teams play matches")
+    for words, is_none in (["t"], False), (["t", "--matches", "no"], True), (["t", "--matches=yes"], False):
+        same(f"typed {words}", parse(words).no_matches, is_none)
+    same("set", words_of(b"matches = no", 1, VALUED), ["--matches=no"])
+    for no_matches in (False, True):
+        later = "\n".join([*PAIRED, "310   1 Team A"]).encode()
+        told = refused("the later edition", Refused, read_report, later, 2, "", no_matches)
+        same("the later edition", told.partition(",")[0], "it is the report of a team tournament (line 7 has a team)")
 
 
 # Names as they are written, by the encoding in which a spreadsheet saved them.

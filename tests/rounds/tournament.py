@@ -346,6 +346,15 @@ def what_is_missing(folder: pathlib.Path) -> None:
     (cup / "round2.csv").write_text("Board;White;Black\n")  # no pair: the report has them
     (cup / "boards.csv").unlink()
     refuses(call("cup", 2), 1, "cup/report.trf: it doesn't say where its boards are plugged in: write cup/boards.csv")
+    for lines in ("013 SC Turm", "013 SC Turm                             1    9"):  # no player, and one that isn't there
+        (cup / "report.trf").write_text(f"{REPORT}\n{lines}\n", encoding="utf-8")
+        refuses(call("cup", 2), 1, "cup/report.trf: line 7 has a team, and a report doesn't say at which board of a match a pair plays:")
+    refuses(call("cup", 2, "--matches", "no"), 1, "cup/report.trf: it doesn't say where its boards are plugged in")
+    (cup / "tournament.txt").write_text("matches = no\n")
+    refuses(call("cup", 2), 1, "cup/report.trf: it doesn't say where its boards are plugged in")
+    (cup / "tournament.txt").write_text("matches = none\n")
+    refuses(call("cup", 2), 1, "cup/tournament.txt: --matches 'none': type no if players are paired one by one, or yes if teams play matches")
+    (cup / "tournament.txt").unlink()
     (cup / "report.trf").unlink()
     (cup / "round2.csv").write_text("Board;White;Black\n1;Anna;Ben\n")
     refuses(call("cup", 2), 1, "cup/round2.csv: it doesn't say where its boards are plugged in: write cup/boards.csv")
