@@ -1,5 +1,6 @@
 """The text of a table: Unicode, or an older encoding of Windows or DOS. Those give one byte other letters in Western Europe, Central
-Europe and Russia, so a table in them is taken for Western only if its words look so; else its reader is asked. Pure."""
+Europe and Russia, so a table in them is taken for Windows' Western one only if its words look so, and don't all look like names in one
+of DOS too; else its reader is asked. Pure."""
 
 from __future__ import annotations
 
@@ -9,6 +10,7 @@ import re
 from typing import List, Optional, Sequence
 
 from live.refused import ARGUMENTS, REFUSED, Refused
+from live.round import dos_letters
 
 ENCODING = "--encoding"  # the option
 WESTERN = "cp1252"
@@ -113,14 +115,19 @@ def question(doubted: Sequence[bytes]) -> List[str]:
 def doubtful(content: bytes) -> List[bytes]:
     """Some names of a text that isn't Unicode, if it may be in another encoding than the Western one."""
     names: List[bytes] = []
+    of_dos: List[bytes] = []
     looks = set()
-    for name in re.split(rb'[,;\t"\r\n]+|  +', content):
+    for name in dict.fromkeys(part.strip() for part in re.split(rb'[,;\t"\r\n]+|  +', content)):
         found = [look for word in WORD.findall(name.decode("latin-1")) for look in [look_of(word)] if look]
         looks.update(found)
-        if found and found != [Looks.WESTERN] and name.strip() not in names:
-            names.append(name.strip())
+        if found and found != [Looks.WESTERN]:
+            names.append(name)
+        if dos_letters.words_of(name.decode("latin-1")):
+            of_dos.append(name)
     is_western = Looks.OTHER not in looks and (Looks.WESTERN in looks or Looks.EITHER not in looks)
-    return [] if is_western else [name[:LONGEST_NAME] for name in names[:MOST_SHOWN]]
+    if is_western:
+        names = of_dos if dos_letters.may_be_dos(dos_letters.words_of(content.decode("latin-1"))) else []
+    return [name[:LONGEST_NAME] for name in names[:MOST_SHOWN]]
 
 
 def look_of(word: str) -> Optional[Looks]:

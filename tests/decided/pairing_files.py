@@ -301,21 +301,40 @@ WESTERN_NAMES = (
     *("O’Neill", "O´Neill", "Sa‘id", "Müller–Lüdenscheidt", "Müller—Voss", "Gal·la", "Anna\xa0Ley", "Jörg “Max” Müller", "„Max“ Müller"),
     *("Jörg ‚Max‘ Müller", "Jörg «Max» Müller", "(“Max”) Müller", "“Max”, Jörg", "Müller…", "…Müller", "Müller †", "Müller†", "• Jörg"),
     *("Brett N° 5", "Chess® Cup", "Chess™", "50 € Müller", "25 ‰", "Bär & Söhne – Köln"),
+    *("Jäger", "Bäcker", "Schäfer", "Mäki", "Mäenpää", "Niemelä", "Åström", "Bråten", "Håkan", "Ståhl", "Månsson", "Ørjan", "Ødegaard"),
+    *("François", "Françoise", "Gonçalves", "Lourenço", "Besançon", "Çelik", "Vicenç", "Genç", "Benoît", "Maître", "Élise", "José"),
+    *("Suárez", "Juárez", "Julián", "Adrián", "Beáta", "Viliám", "Kovács", "García", "Núñez", "Íñigo", "Ángel", "Óscar", "Úrsula"),
+    *("Ünal", "Özdemir", "Ñíguez", "Kærgaard", "Ægir", "Æbelø", "Dalì", "Perù", "Nicolò", "Mónica", "Anaïs", "Saïd", "Évora", "école"),
+    *("Miloš", "Šimon", "Žižek", "Žarko", "Tomaž", "Dražen", "Kašpar", "Anna\xa0Ley;Jan\xa0de\xa0Boer", "ANNA\xa0LEY", "Andrea\xa0pia"),
+    *("MUÑOZ", "PEÑA", "LEÓN", "GÓMEZ", "ASUNCIÓN", "KÖNIG", "SJÖSTRÖM", "MÖLLER", "BJØRN", "SØREN", "NÆSS", "FRANÇOIS", "LOURENÇO"),
+    *("GONÇALVES", "ÇELIK", "NICCOLÒ", "SIMÕES", "ŽIŽEK", "DRAŽEN", "GAL·LA", "’t Hooft", "N‘Diaye", "Meyer–Schmidt", "½ – ½;Ben"),
+    *("“Max” Meyer", "‚Tom’ Kern", "„Max“ Meyer", "Jäger;Koç", "Schäfer;Weiß;Bartoç", "Müller;Gaál", "Club d'échecs;Anna"),
 )
+# Not Western, and not asked about: nothing shows it.
+SILENT_NAMES = (("Dobrý", "cp852", "Dobrì"), ("Saša", "cp852", "Saça"), ("MARTÍN", "cp850", "MARTÖN"))
+# Western, and asked about where they are alone: they could as well be Koš, Saraš, Gaßl and Őtefan in DOS.
+UNCERTAIN_NAMES = ("Koç", "Saraç", "Gaál", "Štefan")
 CENTRAL_NAMES = (
     *("Świercz", "Dvořák", "Kučera", "Čech", "Němec", "Růžička", "Kamiński", "Wałęsa", "Łukasz", "Jiří", "Ćirić", "Petrović"),
     *("Đorđević", "Szőke", "Erdős", "Brăila", "Mureş", "Węgrzyn", "Žák, Jiří", "Vaněk", "Hodaň"),
 )
 DOS_NAMES = {
-    "cp437": ("Jörg Müller", "Müller", "Jörg", "Größ", "René", "Zoë", "Özil", "É. Voss", "Åse", "García", "López", "Muñoz", "Benoît", "Bräuer"),
-    "cp850": ("Jörg Müller", "Müller", "Jörg", "José", "Øystein", "Jørgensen", "Françoise", "Ágnes", "Bråten", "Hélène"),
-    "cp852": ("Jörg Müller", "Wałęsa", "Łukasz", "Božena", "Kaźmierczak", "Růžička", "Jiří", "Szőke"),
+    "cp437": ("Jörg Müller", "Müller", "Jörg", "Größ", "René", "Zoë", "Özil", "É. Voss", "Åse", "García", "López", "Muñoz", "Benoît", "Bräuer", "Ünal",
+              "MÜLLER", "MÄRZ", "BÄUMER", "Ärmel", "Übel", "Lefèvre", "Sánchez", "Hernández", "Adrián", "Weiß", "Heß", "Großmann", "Preuße",
+              "Meißner", "Keßler", "Nußbaum", "Nießl", "GROßMANN", "Næss", "Jæger", "Août"),
+    "cp850": ("Jörg Müller", "Müller", "Jörg", "José", "Øystein", "Jørgensen", "Françoise", "Ágnes", "Bråten", "Hélène", "Ünal",
+              "MÜLLER", "Benoît", "Sánchez", "Weiß", "Næss", "Simões", "João", "LEITÃO", "JOÃO", "LÓPEZ", "GARCÍA", "LEFÈVRE", "NOËL", "LOÏC", "Ève",
+              "Ângela", "Óscar", "Úrsula", "Niccolò", "Cantù", "Malmö", "MARTÍN;LÓPEZ", "Weiß;Müller"),
+    "cp852": ("Jörg Müller", "Wałęsa", "Łukasz", "Božena", "Kaźmierczak", "Růžička", "Jiří", "Szőke", "Dvořák", "Novák",
+              "Svobodová", "Novotný", "Kamiński", "Szymański", "Kráľ", "Vašek", "Beneš", "Bartoš", "Vaňek", "Hodaň", "Škoda", "Řehoř", "Ondřej",
+              "Baťa", "Kovač", "Kovář", "Đuro", "SRĐAN", "SZŐKE", "VAŇEK", "Brăila", "Ionuţ", "Němec", "Tomáš", "Saša;Dvořák", "Dobrý;Novák"),
 }
 CYRILLIC_NAMES = ("Петров", "Ли", "Каспаров", "Юдасин")
 
 
 def encodings() -> None:
-    """A text that isn't Unicode is read as Western where its names look so, and else asked about; an encoding that is given is used."""
+    """A text that isn't Unicode is read as Western where its names look so, and not all like names of DOS; else it is asked about. An
+    encoding that is given is used."""
     for name in WESTERN_NAMES:
         same(name, text_of(name.encode("cp1252")), name)
     for codec, names in (("cp1250", CENTRAL_NAMES), ("cp1251", CYRILLIC_NAMES), *DOS_NAMES.items()):
@@ -326,6 +345,18 @@ def encodings() -> None:
             same(f"{name}, as it is said to be", name in text_of(content, codec), True)
             if codec in DOS_NAMES:
                 refused(f"{name} alone", Refused, text_of, name.encode(codec))
+    for name, codec, read in SILENT_NAMES:
+        same(f"{name}, not asked about", text_of(name.encode(codec)), read)
+    for name in UNCERTAIN_NAMES:
+        refused(f"{name}, alone", Refused, text_of, name.encode("cp1252"))
+        same(f"{name}, not alone", text_of(f"{name};Müller".encode("cp1252")), f"{name};Müller")
+    try:
+        text_of("Br.;White;Black\n1;Anna;MÜLLER, Ben\n2;Ünal;Carl".encode("cp850"))
+    except Refused as asked:
+        same("the question about DOS", asked.lines[1:5], (
+            "windows-1252 (Western Europe): MšLLER, šnal", "windows-1250 (Central Europe): MšLLER, šnal",
+            "windows-1251 (Cyrillic): MљLLER, љnal", "cp437 (DOS): MÜLLER, Ünal",
+        ))  # fmt: skip
     try:
         text_of("1;Świercz, Jan;Dvořák".encode("cp1250"))
     except Refused as asked:
