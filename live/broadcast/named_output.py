@@ -94,15 +94,34 @@ def read_outputs(texts: Sequence[str]) -> Tuple[Output, ...]:
     return outputs
 
 
-def refuse_same_site(web: str, outputs: Sequence[Output]) -> None:
-    """Refuses two outputs with one site: it would be as late as the one that isn't late."""
-    sites = {os.path.realpath(web): "the round's own site"} if web else {}
+def refuse_shared_sites(web: str, outputs: Sequence[Output]) -> None:
+    """Refuses two sites of which one is in the folder of the other, or in the same: readers of the later one would get the earlier one too."""
+    sites = {os.path.realpath(web): (web, "the round's own site")} if web else {}
     for output in outputs:
+        if not output.web:
+            continue
         place = os.path.realpath(output.web)
-        if output.web and place in sites:
-            raise _refused(output.name, f"{output.web} is the folder of {sites[place]}: give it another one")
-        if output.web:
-            sites[place] = f"the site of output {output.name}"
+        for other, (folder, whose) in sites.items():
+            if place == other:
+                raise _refused(output.name, f"{output.web} is the folder of {whose}: give it another one")
+            if is_within(place, other):
+                raise _refused(output.name, f"{output.web} is in {folder}, the folder of {whose}: give it one that isn't in there")
+            if is_within(other, place):
+                raise _refused(output.name, f"{output.web} has {folder} in it, the folder of {whose}: give it one beside that")
+        sites[place] = output.web, f"the site of output {output.name}"
+
+
+def refuse_games_in_site(folder: pathlib.Path, web: str, outputs: Sequence[Output]) -> None:
+    """Refuses a site in whose folder the round keeps its games: it would overwrite their round.pgn, and publish them at once."""
+    for option, site in (("--web", web), *((f"{OPTION} {output.name}", output.web) for output in outputs)):
+        if site and is_within(os.path.realpath(folder), os.path.realpath(site)):
+            why = f"the round keeps its games there, in {folder}, and readers would get them at once: give the site another folder"
+            raise Refused(REFUSED, f"{option}: {site}: {why}")
+
+
+def is_within(inner: str, outer: str) -> bool:
+    """Whether a folder is this one, or is in it. Both are given as the file system has them."""
+    return os.path.commonpath([inner, outer]) == outer
 
 
 # In the round's folder.

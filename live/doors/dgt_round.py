@@ -12,7 +12,8 @@ from live.broadcast.broadcast import Broadcast
 from live.broadcast.going_out import GoingOut, delay_of, minutes, read_command, read_delay
 from live.broadcast.named_output import OPTION as OUTPUT
 from live.broadcast.named_output import (
-    Output, left_in, name_in, read_outputs, refuse_links, refuse_same_site, refuse_unknown, removed, told_of, without_those,
+    Output, left_in, name_in, read_outputs, refuse_games_in_site, refuse_links, refuse_shared_sites, refuse_unknown, removed, told_of,
+    without_those,
 )  # fmt: skip
 from live.doors import calls
 from live.doors.calls import LINGER, QUOTES, linger_of, refuse_both, refuse_hosts
@@ -144,7 +145,7 @@ def parse(arguments: Sequence[str]) -> Asked:
     no_matches = read_matches(values.pop(MATCHES, ""))
     words += [assigned(option, value) for option, value in values.items()]
     named = read_outputs(outputs)
-    refuse_same_site(web, named)
+    refuse_shared_sites(web, named)
     return Asked(
         plain[0],
         "".join(plain[1:]),
@@ -182,6 +183,7 @@ def folder_of(asked: Asked) -> Tuple[pathlib.Path, int]:
     folder = pathlib.Path(asked.folder) if asked.folder else pathlib.Path(asked.file).parent
     if is_of_an_output(str(folder)):
         raise Refused(REFUSED, f"{folder} is the folder of an output of a round: choose another FOLDER")
+    refuse_games_in_site(folder, asked.web, asked.outputs)
     try:
         folder.mkdir(exist_ok=True)
         lock = os.open(folder, os.O_RDONLY | os.O_DIRECTORY)

@@ -9,7 +9,8 @@ from typing import Callable, List, Tuple
 from live.broadcast import one_at_a_time
 from live.broadcast.going_out import GoingOut
 from live.broadcast.named_output import (
-    LONG_EXAMPLE, EXAMPLE, Output, left_in, name_in, read_outputs, refuse_links, refuse_same_site, refuse_unknown, removed, told_of, without_those,
+    LONG_EXAMPLE, EXAMPLE, Output, left_in, name_in, read_outputs, refuse_games_in_site, refuse_links, refuse_shared_sites,
+    refuse_unknown, removed, told_of, without_those,
 )  # fmt: skip
 from live.broadcast.named_output import read_output
 from live.doors.dgt_round import VALUED, parse
@@ -92,16 +93,41 @@ def as_typed() -> None:
 
 
 def sites() -> None:
-    """Two outputs can't write one site: it would be as late as the one that isn't."""
+    """Two outputs can't write one site, nor one within the other: it would be as late as the one that isn't. Nor can a site have the
+    round's games in it."""
     with tempfile.TemporaryDirectory() as folder:
         os.symlink(folder, f"{folder}/link")
+        x, own = f"{folder}/x", "the folder of the round's own site"
         for web, texts, why in (
-            (folder, [f"a=3,web {folder}/."], f"--output a: {folder}/. is the folder of the round's own site: give it another one"),
-            (f"{folder}/x", [f"a=3,web {folder}/link/x"], f"--output a: {folder}/link/x is the folder of the round's own site: give it another one"),
-            ("", [f"b=0,web {folder}", f"a=3,web {folder}"], f"--output a: {folder} is the folder of the site of output b: give it another one"),
+            (folder, [f"a=3,web {folder}/."], f"{folder}/. is {own}: give it another one"),
+            (x, [f"a=3,web {folder}/link/x"], f"{folder}/link/x is {own}: give it another one"),
+            ("", [f"b=0,web {folder}", f"a=3,web {folder}"], f"{folder} is the folder of the site of output b: give it another one"),
+            (folder, [f"a=3,web {x}"], f"{x} is in {folder}, {own}: give it one that isn't in there"),
+            (folder, [f"a=3,web {x}/round3/y"], f"{x}/round3/y is in {folder}, {own}: give it one that isn't in there"),
+            (f"{folder}/link", [f"a=3,web {x}"], f"{x} is in {folder}/link, {own}: give it one that isn't in there"),
+            (x, [f"a=3,web {folder}"], f"{folder} has {x} in it, {own}: give it one beside that"),
+            (x, [f"a=3,web {folder}/y/.."], f"{folder}/y/.. has {x} in it, {own}: give it one beside that"),
+            ("", [f"b=0,web {folder}", f"a=3,web {x}"], f"{x} is in {folder}, the folder of the site of output b: give it one that isn't in there"),
+            (f"{folder}/z", [f"b=0,web {x}", f"c=0,web {folder}/y", "d=0", f"a=3,web {folder}/y/x"],
+             f"{folder}/y/x is in {folder}/y, the folder of the site of output c: give it one that isn't in there"),
+            ("x", ["a=3,web ./x/y"], f"./x/y is in x, {own}: give it one that isn't in there"),
+            ("/", [f"a=3,web {x}"], f"{x} is in /, {own}: give it one that isn't in there"),
         ):
-            same(f"{web} and {texts}", refused(web, Refused, refuse_same_site, web, read_outputs(texts)), why)
-        same("others", passes(refuse_same_site, f"{folder}/x", read_outputs([f"a=3,web {folder}/y", "b=3", "c=no"])), True)
+            same(f"{web} and {texts}", refused(web, Refused, refuse_shared_sites, web, read_outputs(texts)), f"--output a: {why}")
+            typed = [f"--output={text}" for text in texts] + ([f"--web={web}"] if web else [])
+            same(f"{web} and {texts}, typed", refused(web, Refused, parse, ["t.csv", *typed]), f"--output a: {why}")
+        beside = read_outputs([f"a=3,web {folder}/y", "b=3", "c=no", f"d=3,web {folder}/x-2", f"e=3,web {folder}/X"])
+        same("others", passes(refuse_shared_sites, x, beside), True)
+        games, there = pathlib.Path(f"{folder}/cup/round1"), "and readers would get them at once: give the site another folder"
+        sites_of_games: List[Tuple[str, List[str], str]] = [
+            (f"{folder}/cup", [], f"--web: {folder}/cup"), (str(games), ["a=3"], f"--web: {games}"), (f"{folder}/link", [], f"--web: {folder}/link"),
+            (x, [f"a=3,web {folder}/cup/"], f"--output a: {folder}/cup/"),
+        ]
+        for web, texts, option in sites_of_games:
+            told = refused(web, Refused, refuse_games_in_site, games, web, read_outputs(texts))
+            same(f"games in {web} or {texts}", told, f"{option}: the round keeps its games there, in {games}, {there}")
+        for web in ("", f"{games}/site", f"{folder}/cup/site", f"{folder}/cup/round"):
+            same(f"{web}, and not the games", passes(refuse_games_in_site, games, web, beside), True)
 
 
 SETTINGS = """\

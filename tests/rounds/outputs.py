@@ -227,6 +227,8 @@ def added_and_removed(folder: pathlib.Path) -> None:
         (["--output", f"public={round_.command('')}"], 2, "is no number of minutes: type minutes, 0 for at once"),
         (["--output", "public=0,5, true"], 2, "a part of a minute is typed as 0.5"),
         (["--output", f"a=0,web {folder}/www", "--output", f"b=3,web {folder}/www"], 2, "is the folder of the site of output a"),
+        (["--output", f"a=0,web {folder}/www", "--output", f"b=3,web {folder}/www/late"], 2, f"late is in {folder}/www, the folder of the site of"),
+        (["--output", f"a=0,web {hall.games}"], 1, f"--output a: {hall.games}: the round keeps its games there"),
     )
     for words, status, why in wrong:
         refuses(round_.record(*first, *words), status, why)
@@ -347,6 +349,7 @@ def in_a_tournament(folder: pathlib.Path) -> None:
         ("output = 3", "line 1: an output has a name"),
         ("output a = 3\noutput a = 5", "line 2: there is output a in line 1 already: give it another name"),
         (f"web = {folder}/www\noutput a = 3, web {folder}/www", f"--output a: {folder}/www is the folder of the round's own site"),
+        (f"web = {folder}/www/now\noutput a = 3, web {folder}/www", f"--output a: {folder}/www has {folder}/www/now in it, the folder of the round's"),
     ):
         settings.write_text(line + "\n")
         refuses(Live(cup, "1", program=ROUND), 1, f"{settings}: {why}")
