@@ -249,8 +249,9 @@ def not_written(path: AnyPath, error: OSError) -> str:
 
 
 def unwritten(path: AnyPath, why: str, full: bool) -> str:
-    """The same, given the reason in words, and whether the disk has no room."""
-    return f"{path} can't be written ({why}): {'is the disk full?' if full else 'put that right'}"
+    """The same, given the reason in words, and whether there is no room: a file may also be larger than a process may write."""
+    asks = full and why != os.strerror(errno.EFBIG)
+    return f"{path} can't be written ({why}): {'is the disk full?' if asks else 'put that right'}"
 
 
 class Recorded(Refused):

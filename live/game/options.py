@@ -268,11 +268,7 @@ class Options:
 
     def told_of_tags(self, before: Options) -> str:
         """The message if the tags differ from before; empty if they are the same."""
-        names = [options.shown(option) for options in (self, before) for option in PLAYERS]
-        if UNKNOWN in names:
-            told = [self._told_of_tag(option, PUBLISHED[option], before) for option in PLAYERS]
-        else:
-            told = [f"its game is now {self.players}, and was {before.players}"] if self.players != before.players else []
+        told = [self._told_of_tag(option, PUBLISHED[option], before) for option in PLAYERS]
         told += [self._told_of_tag(option, f"its {option[2:]}", before) for option in TAGS if option not in PLAYERS]
         return "; ".join(filter(None, told))
 

@@ -472,12 +472,14 @@ class Round:
         if self._asker:
             self._asker.close()
         complaints = [f"board {row.number}: {row.board.trouble}" for row in self.boards() if row.board.trouble]
-        complaints += filter(None, [self._published.close()])
+        unwritten = self._published.close()
+        complaints += filter(None, [unwritten])
         left = self.outputs.hidden_for
         if left is not None:
             self.say(f"spectators haven't seen all moves. Start it again to show them, the last ones at {clock_in(left)}")
         complaints += self.outputs.close()
-        self._display.close(f"dgt_round: what was played is in {self._published.path}")
+        last = f"what was written is in {self._hall.folder}" if unwritten else f"what was played is in {self._published.path}"
+        self._display.close(f"dgt_round: {last}")
         try:
             self._log.close()
         except Exception as error:

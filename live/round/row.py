@@ -37,6 +37,7 @@ from live.terminal.screen import Screen
 from live.terminal.terminal import Terminal
 
 ANSWERED = ("added by hand", "acknowledged: ")  # the answer to a typed line says it in other words
+A_RESULT = "result "
 UNSAID = ("records ", " has the cable ", *ANSWERED)  # not below a table: its rows and the answers show it
 BEGUN_ANEW = "is begun anew"  # if its line has changed
 TURNED, OTHER = "turned round?", "other board?"  # in a row, for a hint that has no room there
@@ -104,7 +105,11 @@ class RowScreen(Screen):
         """It is answered. Of what was said meanwhile, only what the answer doesn't have is shown."""
         held, self._held = self._held, None
         for text, *more in held or ():
-            if text not in answer[1] and not text.startswith(ANSWERED):
+            if text in answer[1] or text.startswith(ANSWERED):
+                continue
+            if text.startswith(A_RESULT):
+                self.show(text)
+            else:
                 self._shows(text, *more)
 
     def _print(self, line: str) -> None:
@@ -114,7 +119,12 @@ class RowScreen(Screen):
         """Doesn't repeat what was played before: the table has the last move, and the log has all moves."""
 
     def move(self, text: str) -> None:
-        super().say(text)
+        if self._held is not None and text.startswith(A_RESULT):  # the answer has it, and the state would repeat it
+            self._last.append(text)
+            self.note(text)
+            self._held.append((text,))
+        else:
+            super().say(text)
 
     def anew(self, pgn: str, text: str) -> str:
         return text

@@ -22,6 +22,7 @@ from live.game.answers import Said
 from live.game.file_names import check_name
 from live.game.files import Capture, not_written, open_regular, plain
 from live.game.log import Log
+from live.game.making_pgn import Made
 from live.game.options import Options
 from live.game.program import Program
 from live.game.refusal import is_recorded, reason
@@ -141,8 +142,14 @@ def no_right() -> None:
         finally:
             setattr(files, "open_regular", real)
         same("a capture", said, f"{path} can't be written (Permission denied): get the right to, or choose another name")
-        for number, why in ((errno.EACCES, "(Permission denied): put that right"), (errno.ENOSPC, "(No space left on device): is the disk full?")):
-            same("another file", not_written(path, OSError(number, os.strerror(number))), f"{path} can't be written {why}")
+        for number, why in (
+            (errno.EACCES, "(Permission denied): put that right"), (errno.EFBIG, "(File too large): put that right"),
+            (errno.EIO, "(Input/output error): put that right"), (errno.ENOSPC, "(No space left on device): is the disk full?"),
+            (errno.EDQUOT, "(Disk quota exceeded): is the disk full?"),
+        ):  # fmt: skip
+            error = OSError(number, os.strerror(number))
+            same("another file", not_written(path, error), f"{path} can't be written {why}")
+            same("a text that is made", Made.of_error(error).told(path), f"{path} can't be written {why}")
         access = os.access
         setattr(os, "access", lambda *_: False)
         try:

@@ -62,7 +62,7 @@ TAGS = [
     (TWO, TWO, ""),
     (TWO, ("--black", "Ben", "--white=Anna"), ""),
     (TWO, TWO + TURNED + BLACK + YES, ""),  # they are no tags
-    (("--white", "Anne", "--black", "Ben"), TWO, "its game is now Anna - Ben, and was Anne - Ben"),
+    (("--white", "Anne", "--black", "Ben"), TWO, "White is now Anna, and was Anne"),
     (ANNA, TWO, "Black is now Ben"),
     (TWO + ("--round", "3"), TWO + ("--round", "4"), "its round is now 4, and was 3"),
     (TWO, ("--event", "Club"), "White is unknown now, and was Anna; Black is unknown now, and was Ben; its event is now Club"),

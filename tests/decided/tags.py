@@ -100,7 +100,7 @@ ADDED = [
      "its options are now --white Anna --black Cara, and were --rotated --white Anna --black Ben"),
     (("--recover", *TWO), ("--date", "2024.05.31"), False, (*TWO, "--date", "2024.05.31", "--recover"),
      "its options are now --recover --date 2024.05.31 --white Anna --black Ben, and were --recover --white Anna --black Ben"),
-    (TWO, ("--white", "Anne"), True, ("--white", "Anne", "--black", "Ben"), "its game is now Anne - Ben, and was Anna - Ben"),
+    (TWO, ("--white", "Anne"), True, ("--white", "Anne", "--black", "Ben"), "White is now Anne, and was Anna"),
     (TWO, ("--black", "Ben", "--round", "3"), True, (*TWO, "--round", "3"), "its round is now 3"),
     (("--white", "Anna"), TWO, True, TWO, "Black is now Ben"),
     ((), TWO, True, TWO, "White is now Anna; Black is now Ben"),
@@ -133,7 +133,7 @@ def added_to_what_is_kept() -> None:
     over = added_to_kept(Options.of_words(("--white", "Anne")), "blitz-3", is_over=True)
     refused("the last game of a series, which is over", Refused, over, Options.of_words(TWO), lambda: True)
     both = read_otherwise(Options.of_words(("--white", "Cara", "--black", "Dan")))(Options.of_words(TWO), lambda: True)
-    same("a game that is over", both.told, ("its game is now Cara - Dan, and was Anna - Ben",))
+    same("a game that is over", both.told, ("White is now Cara, and was Anna; Black is now Dan, and was Ben",))
 
 
 NAMED = [
@@ -169,7 +169,7 @@ def named() -> None:
     before = Options.of_words((*TWO, "--tag", "WhiteElo=2050"))
     now = Options.of_words(("--white", "Anne", "--black", "Ben", "--tag", "BlackElo=1900"))
     same("what has changed", told_of_names(now, before),
-         "its game is now Anne - Ben, and was Anna - Ben; its BlackElo is now 1900; it has no WhiteElo any more")  # fmt: skip
+         "White is now Anne, and was Anna; its BlackElo is now 1900; it has no WhiteElo any more")  # fmt: skip
     same("nothing", told_of_names(before, before), "nothing has changed")
 
 

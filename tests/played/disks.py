@@ -97,7 +97,7 @@ def full_disk_ended(folder: pathlib.Path) -> None:
     fill(board, live, live.name + ".pgn")
     rest(1.5)
     live.send(signal.SIGINT)
-    refuses(live, 3, words.FULL)
+    refuses(live, 3, words.TOO_LARGE)
     kept = bytes_of(live.name + ".dgt")
     assert b"Bb5" in bytes_of(live.name + ".pgn")
     board.pull()
@@ -117,7 +117,7 @@ def full_from_the_start(folder: pathlib.Path) -> None:
         board = a_board(place)
         options = ["--white", "Anna"] if limit == 0 else []
         live = Live(board.device, place / "game", *options, limit=limit)
-        refuses(live, 3, words.FULL)
+        refuses(live, 3, words.TOO_LARGE)
         same(board.asked, b"")
         same(bytes_of(live.name + ".pgn"), b"")
 

@@ -159,7 +159,7 @@ def packed_without_room(folder: pathlib.Path) -> None:
     same(stop(live), 0)
     with open(folder / "game.before-1.dgt", "wb") as file:
         file.write(os.urandom(100_000))
-    refuses(pack(live.name, limit=20_000), 3, f"{folder}/game.zip can't be written (File too large): {words.FULL}")
+    refuses(pack(live.name, limit=20_000), 3, f"{folder}/game.zip can't be written {words.TOO_LARGE}")
     same(left(folder), [])
     again = go_on(board, live)
     board.play("g1f3")

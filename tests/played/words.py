@@ -30,6 +30,7 @@ GONE_AWAY = "has gone away"
 
 # What is refused, on standard error.
 FULL = "is the disk full?"
+TOO_LARGE = "(File too large): put that right"  # by a limit of the case
 ANOTHER_RECORDER = "another dgt_live"
 RESULT_GONE = "the result {} is gone: add it again"
 LEAVE_IT_OUT = "For --first, --recover and --strict leave the device out: dgt_live"

@@ -34,14 +34,14 @@ def names_as_written(folder: pathlib.Path) -> None:
     hall.play(0, 1)
     write(*PLAYERS)
     live.type("r")
-    until_line(live, "  1  its game is now Иванов, Пётр - 王浩然, and was Карпов - 王浩然\n")
+    until_line(live, "  1  White is now Иванов, Пётр, and was Карпов\n")
 
     def shown() -> object:
         round_ = json.loads(served(port, "/state.json"))
         return round_["event"], [(board["white"], board["black"]) for board in round_["boards"]]
 
     until(lambda: shown() == ("Кубок", PLAYERS), "the names on the arbiter's page", 0.05)
-    assert "Иванов, Пётр - 王浩然" in (hall.games / "01.log").read_text(encoding="utf-8")
+    assert "White is now Иванов, Пётр, and was Карпов" in (hall.games / "01.log").read_text(encoding="utf-8")
     until(lambda: bytes_of(hall.games / "round.pgn").count(b"1. ") == 3, "all moves in round.pgn", 0.05)
     recorded = bytes_of(hall.games / "round.pgn")
     assert recorded.isascii() and b'[White "White 1"]\n[Black "Black 1"]' in recorded and b'[White "Joerg Mueller"]' in recorded, recorded

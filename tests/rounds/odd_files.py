@@ -55,7 +55,7 @@ def odd_names(folder: pathlib.Path) -> None:
 
 
 def round_pgn_is_a_folder(folder: pathlib.Path) -> None:
-    """A folder takes the place of round.pgn: the end says that, and asks nobody about the disk."""
+    """A folder takes the place of round.pgn: the end says that, asks nobody about the disk, and says of nothing that it is in there."""
     hall = Hall(folder, 1)
     live = hall.record()
     hall.begun(live)
@@ -66,6 +66,7 @@ def round_pgn_is_a_folder(folder: pathlib.Path) -> None:
     until_line(live, f"NOT WRITTEN: {hall.games}/round.pgn can't be written (Is a directory)")
     live.send(signal.SIGINT)
     refuses(live, 3, f"dgt_round: {hall.games}/round.pgn can't be written (Is a directory): put that right\n")
+    assert live.lines().endswith(f"dgt_round: what was written is in {hall.games}\n"), live.lines()
 
 
 def pipes(folder: pathlib.Path) -> None:

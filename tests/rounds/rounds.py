@@ -107,7 +107,7 @@ def typed(folder: pathlib.Path) -> None:
     live.type("3 1-0")
     hall.until_text(3, "1. e4 c5 1-0")
     until_line(live, "3: added to ")
-    same([live.lines().count(told) for told in ("the result 1-0", "Nf3 Nc6")], [1, 1])
+    same([live.lines().count(told) for told in ("result 1-0", "Nf3 Nc6")], [1, 1])
     assert "added by hand: the result 1-0" in bytes_of(f"{hall.name(3)}.log").decode()
     for line, answer in (
         ("2 Qh5", "2 refused"),
