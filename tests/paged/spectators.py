@@ -71,7 +71,8 @@ def watched() -> None:
         page.reads("event and round", "h1", "Äpfel, round 3")
         page.says("in the title too", "document.title", "Äpfel, round 3")
         page.reads("a name on a line of its own", tile + ".player.w", NAME)
-        page.reads("title, rating, federation, team below it", tile + ".w ~ .about", "WGM 2441 GER, SC Turm")
+        page.reads("title, rating, federation below it", tile + ".w ~ .about", "WGM 2441 GER")
+        page.reads("and the team", tile + ".w ~ .team", "SC Turm")
         page.says("a name with markup is no markup", "document.querySelectorAll('img, b, script:not([src])').length", 0)
         page.reads("without them", ".tile[href='#2'] .player.w", "White 2")
         page.reads("White's clock stands", tile + ".seat .w ~ .clock", "1:29:41")
@@ -122,22 +123,42 @@ def watched() -> None:
         closed(site, page)
 
 
-HALLS = [(8, 390), (8, 1024), (8, 1440), (40, 390), (40, 1024), (40, 1440)]
+HALLS = [(8, 390), (8, 1024), (8, 1440), (40, 390), (40, 632), (40, 1024), (40, 1440)]
 WIDTHS = "[...document.querySelectorAll('.tile')].map((tile) => tile.getBoundingClientRect().width)"
-CUT = "[...document.querySelectorAll('.tile .player')].filter((one) => one.scrollWidth > one.clientWidth).length"
+CUT = """[...document.querySelectorAll('.tile :is(.player, .about, .team, .clock)')].filter((one) => {
+  const [place, card] = [one, one.closest('.tile')].map((where) => where.getBoundingClientRect());
+  return one.scrollWidth > one.clientWidth + 1 || one.scrollHeight > one.clientHeight + 1 || place.right > card.right || place.bottom > card.bottom;
+}).map((one) => one.textContent).join('; ')"""
+LINES = """[...document.querySelectorAll('.tile .seat')].every((seat) => {
+  const lines = ['.player', '.clock', '.team:not(:empty)'].map((where) => seat.querySelector(where)).filter((one) => one);
+  return lines.every((line, at) => at === 0 || line.getBoundingClientRect().top >= lines[at - 1].getBoundingClientRect().bottom - 1);
+})"""
+DIAGRAMS = """(() => {
+  const top = (where) => Math.round(where.getBoundingClientRect().top);
+  const cards = [...document.querySelectorAll('.tile')];
+  return new Set(cards.filter((card) => top(card) === top(cards[0])).map((card) => top(card.querySelector('.diagram')))).size;
+})()"""
+TEAMS = ["SK Rochade Nord Emden 1923 e.V.", "Sportvereinigung Schachfreunde Frankfurt am Main 1882", "SC Turm Basel", ""]
 
 
 def halls() -> None:
-    """Cards are never below 200 px, and names are not cut: on a phone, a tablet and a laptop, with 8 boards and with 40."""
+    """Cards are never below 200 px, and names, federations and teams are not cut: on a phone, a tablet and a laptop, with 8 boards and
+    with 40. Where a team takes more lines the diagrams beside it stay in a row."""
     if skipped("halls"):
         return
     for count, width in HALLS:
         with Site(spectators=1) as site:
-            site.show(*[a_spectators_board(number, 4, white="Keymer, Vincent", black="Nepomniachtchi, Ian") for number in range(1, count + 1)])
+            site.show(*[
+                a_spectators_board(number, 4, white="Keymer, Vincent", black="Nepomniachtchi, Ian", titles=["GM", "WGM"], ratings=["2701", "2785"],
+                                   teams=[TEAMS[number % 4], TEAMS[(number + 1) % 4]], federations=["GER", "Bosnia and Herzegovina"])
+                for number in range(1, count + 1)
+            ])  # fmt: skip
             page = opened(site, width, 900)
             page.says(f"{count} boards at {width}", "document.querySelectorAll('.tile').length", count)
             page.says("each has 200 px", f"Math.min(...{WIDTHS}) >= 200", True)
-            page.says("no name is cut", CUT, 0)
+            page.says("nothing is cut", CUT, "")
+            page.says("a name has a line of its own, and a team", LINES, True)
+            page.says("the diagrams are in a row", DIAGRAMS, 1)
             page.says("nothing to the side", "document.documentElement.scrollWidth <= innerWidth", True)
             closed(site, page)
 

@@ -18,6 +18,7 @@ export class Boards {
     this.open = null; // the number of the board that is large
     this.asked = false;
     this.columns = 1;
+    this.sizes = 0; // the frame in which the cards are sized anew
     this.how = 'connecting';
     drawPieces();
     this.large = this.largeOf(() => this.stream.now(), () => this.showLine());
@@ -71,6 +72,7 @@ export class Boards {
     if (this.cards.has(number) !== this.listed.includes(number)) this.arrange();
     const card = this.cards.get(number);
     if (card) card.show(board);
+    if (!before || ['teams', 'federations'].some((what) => String(before[what]) !== String(board[what]))) this.sizeSoon();
     if (this.open === number) this.large.show(board);
     if (before) this.announce(board, before);
     this.showTitle();
@@ -217,6 +219,12 @@ export class Boards {
     if (next === undefined) return false;
     if (links[next]) links[next].focus();
     return true;
+  }
+
+  /** Cards may have got more lines: they are sized anew, all of them at once. */
+  sizeSoon() {
+    window.cancelAnimationFrame(this.sizes);
+    this.sizes = window.requestAnimationFrame(() => this.size());
   }
 
   size() {

@@ -3,7 +3,7 @@
 import { aheadOf, outcomeOf, toMove, withNumber } from './chess.js';
 import { clockAt } from './clock.js';
 import { Picture, element, positionOf, say } from './diagram.js';
-import { aboutOf, nameOf } from './names.js';
+import { aboutOf, nameOf, teamOf } from './names.js';
 
 export class Card {
   constructor(number, now) {
@@ -29,7 +29,8 @@ export class Card {
     const player = root.appendChild(element('bdi', name === 'White' ? 'player w' : 'player b'));
     const about = root.appendChild(element('bdi', 'about'));
     const clock = root.appendChild(element('span', 'clock'));
-    return { root, player, about, clock };
+    const team = root.appendChild(element('bdi', 'team'));
+    return { root, player, about, clock, team };
   }
 
   show(board) {
@@ -40,7 +41,8 @@ export class Card {
     for (const [seat, side, index] of [[this.white, 'w', 0], [this.black, 'b', 1]]) {
       say(seat.player, nameOf(board, index));
       say(seat.about, aboutOf(board, index));
-      seat.player.title = [nameOf(board, index), aboutOf(board, index)].filter((part) => part).join(', ');
+      say(seat.team, teamOf(board, index));
+      seat.player.title = [nameOf, aboutOf, teamOf].map((of) => of(board, index)).filter((part) => part).join(', ');
       seat.root.classList.toggle('moves', mover === side);
     }
     this.showClocks(board);

@@ -2,14 +2,28 @@
 
 const LEAST = 13; // pixels of a letter: smaller ones can't be read on a laptop
 const LEAST_TILE = 200; // pixels of a card: a smaller one has no room for a name
+const TEXT = 8.6; // letters in the height of a card beside its diagram: a head, two lines for each player, a foot
+const EDGES = 3; // pixels of its border
 
-/** Sizes this many cards in their list, and returns the number of columns. */
-export function fit(list, count) {
+/** Sizes this many cards in their list, and returns the number of columns. `below` are pixels that are needed under the list. */
+export function fit(list, count, below = 0) {
+  const columns = sized(list, count, below, TEXT);
+  const { letters, text } = measured(list);
+  return text > TEXT * letters + EDGES ? sized(list, count, below, (text - EDGES) / letters) : columns;
+}
+
+/** The size of a letter, and the height of all that a card has beside its diagram, where that is most. */
+function measured(list) {
+  const texts = [...list.querySelectorAll('.tile')].map((tile) => tile.offsetHeight - tile.offsetWidth);
+  return { letters: Number.parseFloat(list.style.getPropertyValue('--letters')), text: Math.max(0, ...texts) };
+}
+
+function sized(list, count, below, text) {
   const gap = window.innerWidth < 700 ? 8 : 12;
   const width = document.documentElement.clientWidth - 2 * gap;
-  const height = window.innerHeight - list.offsetTop - gap;
+  const height = window.innerHeight - list.offsetTop - gap - below;
   const letters = (wide) => Math.min(24, Math.max(LEAST, wide / 18));
-  const high = (wide) => 8.6 * letters(wide) + 3; // a head, two lines for each player, a foot
+  const high = (wide) => text * letters(wide) + EDGES;
   let best = 0;
   let columns = 1;
   for (let number = 1; number <= count; number += 1) {

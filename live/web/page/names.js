@@ -1,4 +1,5 @@
-// Players: a title before the name and a rating after it, if known; in a card the name alone, and a line about him.
+// Players: a title before the name and a rating after it, if known; in a card the name alone, and below it what is known about
+// him, and his team.
 
 import { element } from './diagram.js';
 
@@ -14,15 +15,25 @@ export function nameOf(board, index) {
   return partsOf(board, index)[1];
 }
 
-/** What is known about a player besides his name: 'GM 2401 SUI SC Turm'. */
+/** What is known about a player besides his name and his team: 'GM 2401 SUI'. */
 export function aboutOf(board, index) {
   const [title, , rating] = partsOf(board, index);
-  return [title, rating, whereFrom(board, index)].filter((part) => part).join(' ');
+  return [title, rating, givenOf(board, 'federations', index)].filter((part) => part).join(' ');
+}
+
+/** A player's team. */
+export function teamOf(board, index) {
+  return givenOf(board, 'teams', index);
 }
 
 /** A player's federation and team. */
 export function whereFrom(board, index) {
-  return ['federations', 'teams'].map((what) => (board[what] ? board[what][index] : '')).filter((part) => part).join(', ');
+  return [givenOf(board, 'federations', index), teamOf(board, index)].filter((part) => part).join(', ');
+}
+
+/** What a board has of a player; nothing if it has no such field. */
+function givenOf(board, what, index) {
+  return board[what] ? board[what][index] : '';
 }
 
 /** A player in a line: 'GM Anna Kern 2401'. */
