@@ -3,9 +3,10 @@
 from __future__ import annotations
 
 from dataclasses import dataclass
-from typing import Dict, Optional
+from typing import Dict, Iterable, Optional, Tuple
 
 from live.broadcast.history import Shot
+from live.broadcast.matches import Paired, matches_of
 from live.game.forfeits import score_of
 from live.game.tags import Tags
 from live.web.view import json_text, pgn_path, same_front
@@ -39,6 +40,11 @@ class SpectatorBoard:
     pgn: bytes = b""
     delay: float = 0.0
 
+    @property
+    def score(self) -> str:
+        """Of the game, or of its forfeit."""
+        return score_of(self.shot.forfeit) or self.shot.result
+
     def text(self, offset: float, before: Optional[SpectatorBoard]) -> bytes:
         """The JSON text; `kept` counts the moves and positions that are left out because the page has them."""
         shot, had = self.shot, before.shot if before else None
@@ -65,3 +71,9 @@ class SpectatorBoard:
         if before:
             values["kept"] = {"moves": moves, "positions": positions}
         return json_text(values)
+
+
+def said_of_matches(boards: Iterable[SpectatorBoard]) -> Tuple[Tuple[str, object], ...]:
+    """What is said of a round whose boards are matches of teams."""
+    matches = matches_of([Paired(board.number, (board.white.team, board.black.team), board.score) for board in boards])
+    return (("matches", [match.values for match in matches]),) if matches else ()

@@ -12,18 +12,19 @@ import os
 import pathlib
 import re
 import time
-from typing import Callable, Dict, List, Mapping, Sequence
+from typing import Any, Callable, Dict, List, Mapping, Sequence
 
 from live.beside import Worker
 from live.board.state import trouble_of
-from live.broadcast.view import SpectatorBoard
+from live.broadcast.matches import printed
+from live.broadcast.view import SpectatorBoard, said_of_matches
 from live.game.files import put_in_place
 from live.game.making_pgn import Made
 from live.guard import Guard, traced
 from live.loop import Turns
 from live.web.doors import Title
 from live.web.page import FOLDER, PIECES, SPECTATORS
-from live.web.view import json_text, pgn_path, round_pgn
+from live.web.view import RoundView, json_text, pgn_path, round_pgn, round_text
 
 LOOK = 1.0  # seconds between two checks
 AGAIN = 5.0  # seconds until it is tried again after an error
@@ -54,8 +55,8 @@ def _policy() -> str:
 
 def state_text(title: Title, boards: Sequence[SpectatorBoard], offset: float) -> bytes:
     """A round in JSON."""
-    said = {"event": title.event, **dict(title.said)}
-    return json_text(said)[:-1] + b',"boards":[' + b",\n".join(board.text(offset, None) for board in boards) + b"]}\n"
+    said = RoundView(title.event, said=(*title.said, *said_of_matches(boards)))
+    return round_text(said.values, [board.text(offset, None) for board in boards])
 
 
 def round_texts(folder: str, title: Title, boards: Sequence[SpectatorBoard], offset: float) -> Texts:
@@ -79,8 +80,7 @@ def list_page(event: str, rounds: Mapping[str, Mapping[str, object]]) -> bytes:
     parts: List[str] = []
     for folder, state in sorted(rounds.items(), key=lambda one: _number(one[0])):
         name = f"Round {state['round']}" if state.get("round") else "The round"
-        rows = "".join(map(_row, _boards_of(state), [folder] * len(_boards_of(state))))
-        parts.append(f'<section><h2><a href="{folder}/index.html">{_text(name)}</a></h2>\n<table>{rows}</table>'
+        parts.append(f'<section><h2><a href="{folder}/index.html">{_text(name)}</a></h2>\n<table>{_rows(state, folder)}</table>'
                      f'<p><a href="{folder}/round.pgn" download>PGN of all games</a></p></section>')  # fmt: skip
     head = f'<meta charset="utf-8">\n{_policy()}\n<meta name="viewport" content="width=device-width, initial-scale=1">\n{REFRESH}'
     links = '<link rel="icon" href="icon.svg">\n<link rel="stylesheet" href="page.css">\n<link rel="stylesheet" href="site.css">'
@@ -93,18 +93,36 @@ def _text(value: object) -> str:
     return html.escape(str(value))
 
 
-def _boards_of(state: Mapping[str, object]) -> List[Mapping[str, object]]:
-    boards = state.get("boards")
-    return [board for board in boards if isinstance(board, dict)] if isinstance(boards, list) else []
+def _objects_of(state: Mapping[str, object], name: str) -> List[Mapping[str, Any]]:
+    objects = state.get(name)
+    return [one for one in objects if isinstance(one, dict)] if isinstance(objects, list) else []
+
+
+def _rows(state: Mapping[str, object], folder: str) -> str:
+    """The boards of a round, those of a match below its score."""
+    rows = {board.get("number"): _row(board, folder) for board in _objects_of(state, "boards")}
+    parts: List[str] = []
+    for match in _objects_of(state, "matches"):
+        (one, other), points = map(_text, match["teams"]), "–".join(map(printed, match["points"]))
+        heading = f'<th colspan="4" scope="rowgroup"><bdi>{one}</bdi> <b>{points}</b> <bdi>{other}</bdi></th>'
+        parts.append(f'<tbody><tr class="match">{heading}</tr>\n{"".join(rows.pop(number, "") for number in match["boards"])}</tbody>')
+    return "".join([*parts, *rows.values()])
 
 
 def _row(board: Mapping[str, object], folder: str) -> str:
     forfeit, result = str(board.get("forfeit", "")), str(board.get("result", "*"))
     score = f"{forfeit} forfeit" if forfeit else "" if result == "*" else result
     number = int(str(board.get("number", 0)))
-    names = [f"<td><bdi>{_text(board.get(side, ''))}</bdi></td>" for side in ("white", "black")]
+    names = [f"<td><bdi>{_text(board.get(side, ''))}</bdi>{_whence(board, index)}</td>" for index, side in enumerate(("white", "black"))]
     link = f'<th scope="row"><a href="{folder}/index.html#{number}">{number}</a></th>'
     return f"<tr>{link}{names[0]}<td>{_text(score.replace('1/2', '½').replace('-', '–'))}</td>{names[1]}</tr>\n"
+
+
+def _whence(board: Mapping[str, Any], index: int) -> str:
+    """A player's federation and team, if they are known."""
+    known = [str(board[what][index]) for what in ("federations", "teams") if board.get(what)]
+    text = _text(", ".join(filter(None, known)))
+    return f" <small><bdi>{text}</bdi></small>" if text else ""
 
 
 def _number(folder: str) -> int:

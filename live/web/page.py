@@ -188,7 +188,7 @@ class Page:
         boards = self._round.boards
         if path == "/state.json":
             texts = [self._boards[board.number].whole for board in boards]
-            return _content(JSON, round_text(self._round.event, texts))
+            return _content(JSON, round_text(self._round.values, texts))
         if path == "/round.pgn":
             return _content(PGN, round_pgn(board.pgn for board in boards))
         board = next((board for board in boards if pgn_path(board.number) == path), None)

@@ -4,7 +4,7 @@ from __future__ import annotations
 
 import json
 from dataclasses import dataclass
-from typing import Any, Dict, Iterable, Optional, Protocol, Sequence, Tuple
+from typing import Any, Dict, Iterable, Mapping, Optional, Protocol, Sequence, Tuple
 
 
 @dataclass(frozen=True)
@@ -22,13 +22,15 @@ class BoardView:
 
     `positions` are FENs: of the start and after each ply, as far as they are known. `state` is in words, without a time;
     `since` is when it began, in the time of `Loop.now`. `mend` is what an arbiter may type about it. The clocks are White's and
-    Black's, empty if unknown.
+    Black's, empty if unknown; so are teams and federations.
     """
 
     number: int
     name: str
     white: str = ""
     black: str = ""
+    teams: Tuple[str, str] = ("", "")
+    federations: Tuple[str, str] = ("", "")
     result: str = "*"
     state: str = ""
     since: Optional[float] = None
@@ -66,12 +68,19 @@ class RoundView:
 
     event: str
     boards: Tuple[Shows, ...] = ()
-    said: Tuple[Tuple[str, str], ...] = ()
+    said: Tuple[Tuple[str, object], ...] = ()
+
+    @property
+    def values(self) -> Dict[str, object]:
+        """Everything except the boards."""
+        return {"event": self.event, **dict(self.said)}
 
     @property
     def header(self) -> bytes:
-        """Everything except the boards, in JSON."""
-        return json_text({"event": self.event, "numbers": [board.number for board in self.boards], **dict(self.said)})
+        """The same in JSON, with the boards' numbers."""
+        values = self.values
+        values["numbers"] = [board.number for board in self.boards]
+        return json_text(values)
 
 
 def pgn_path(number: int) -> str:
@@ -91,6 +100,8 @@ def board_text(board: BoardView, offset: float, before: Optional[BoardView] = No
         "name": board.name,
         "white": board.white,
         "black": board.black,
+        "teams": board.teams,
+        "federations": board.federations,
         "result": board.result,
         "state": board.state,
         "since": None if board.since is None else round(board.since + offset, 1),
@@ -122,9 +133,9 @@ def same_front(one: Sequence[object], other: Sequence[object]) -> int:
     return count
 
 
-def round_text(event: str, boards: Iterable[bytes]) -> bytes:
-    """The round in JSON, from the texts of its boards."""
-    return b'{"event":' + json_text(event) + b',"boards":[' + b",\n".join(boards) + b"]}\n"
+def round_text(values: Mapping[str, object], boards: Iterable[bytes]) -> bytes:
+    """The round in JSON, from what is said of it and the texts of its boards."""
+    return json_text(values)[:-1] + b',"boards":[' + b",\n".join(boards) + b"]}\n"
 
 
 def round_pgn(games: Iterable[bytes]) -> bytes:

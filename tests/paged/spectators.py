@@ -17,6 +17,7 @@ TIMES = 20  # that a reader goes back and forward
 BOARDS = 24
 READERS = 200
 WORDS = (b"alarm", b"WRONG", b"UNPLUGGED", b"NOT RECORDED", b"NOT PUBLISHED", b"/dev", b"the recorder's", b"Look at board")
+ROWS = "[...document.querySelectorAll('#result-rows tr')].map((row) => [...row.cells].map((cell) => cell.textContent.trim()).join('|')).join('; ')"
 FONT = "parseFloat(getComputedStyle(document.querySelector({!r})).fontSize)"
 
 
@@ -108,9 +109,8 @@ def watched() -> None:
         page.tab.press("Escape")
         page.says("all boards", "location.hash", "")
         page.tab.value("document.getElementById('to-results').click()")
-        rows = "[...document.querySelectorAll('#result-rows tr')].map((row) => [...row.cells].map((cell) => cell.textContent).join(' '))"
-        page.says("the results", f"{rows}.join('; ')",
-                  f"1 WGM {NAME} 2441 playing Black 1; 2 White 2 playing Black 2; 4 White 4 ½–½ Black 4")  # fmt: skip
+        page.says("the results", ROWS,
+                  f"1|WGM {NAME} 2441 GER, SC Turm|playing|Black 1; 2|White 2|playing|Black 2; 4|White 4|½–½|Black 4")  # fmt: skip
         page.says("they have the focus", "document.activeElement.id", "results")
         site.show(a_spectators_board(2, 2, result="0-1"))
         page.reads("a new one", "#result-rows tr:nth-child(2) .result", "0–1")
@@ -120,6 +120,48 @@ def watched() -> None:
         site.said = {"round": "3", "late": "15 minutes"}
         site.show()
         page.reads("how late it is", "#line", "15 minutes late")
+        closed(site, page)
+
+
+SHOWN = "[...document.querySelectorAll('#matches li')].filter((one) => one.offsetHeight > 0).map((one) => one.textContent).join('; ')"
+
+
+def matches() -> None:
+    """A round of matches: each has its score above the boards, and in the results above its own boards, with the teams; not beside one
+    board. The score follows."""
+    if skipped("matches"):
+        return
+
+    def said(*points: float) -> "dict[str, object]":
+        return {"matches": [{"teams": ["Nord", "Süd"], "points": points, "boards": [1, 3]}, {"teams": ["Ost", "West"], "points": [0, 0], "boards": [2]}]}
+
+    with Site(spectators=1) as site:
+        site.said = said(1, 0)
+        site.show(a_spectators_board(1, 2, result="1-0", white="Nepomniachtchi, Ian", titles=["GM", ""], ratings=["2785", ""],
+                                     teams=["Nord", "Süd"], federations=["GER", "SUI"]),
+                  a_spectators_board(2, 2, teams=["Ost", "West"]), a_spectators_board(3, 2, teams=["Süd", "Nord"]))  # fmt: skip
+        page = opened(site)
+        page.says("above the boards", SHOWN, "Nord 1–0 Süd; Ost 0–0 West")
+        page.says("the boards are below them", "document.querySelector('.tile').getBoundingClientRect().top >= "
+                  "document.querySelector('#matches').getBoundingClientRect().bottom", True)  # fmt: skip
+        page.tab.value("location.hash = '#2'")
+        page.reads("one board", "#title", "Board 2")
+        page.says("without them", SHOWN, "")
+        page.tab.value("location.hash = '#results'")
+        page.says("in the results", ROWS, "Nord 1–0 Süd; 1|GM Nepomniachtchi, Ian 2785 GER, Nord|1–0|Black 1 SUI, Süd; 3|White 3 Süd|playing|Black 3 Nord; "
+                  "Ost 0–0 West; 2|White 2 Ost|playing|Black 2 West")  # fmt: skip
+        site.said = said(1.5, 0.5)
+        site.show(a_spectators_board(3, 2, result="1/2-1/2", teams=["Süd", "Nord"]))
+        page.says("another result", ROWS, "Nord 1½–½ Süd; 1|GM Nepomniachtchi, Ian 2785 GER, Nord|1–0|Black 1 SUI, Süd; 3|White 3 Süd|½–½|Black 3 Nord; "
+                  "Ost 0–0 West; 2|White 2 Ost|playing|Black 2 West")  # fmt: skip
+        page.tab.look(320, 600)
+        page.says("nothing to the side", "document.documentElement.scrollWidth <= innerWidth", True)
+        page.tab.look(1366, 768)
+        page.tab.value("location.hash = ''")
+        page.says("above the boards too", SHOWN, "Nord 1½–½ Süd; Ost 0–0 West")
+        site.said = {}
+        site.show()
+        page.says("no matches any more", SHOWN, "")
         closed(site, page)
 
 
@@ -278,4 +320,4 @@ def crowd() -> None:
             reader.close()
 
 
-TABLES = [nothing_of_the_recorder, watched, halls, chosen, sizes, back_and_forward, twelve_tabs, crowd]
+TABLES = [nothing_of_the_recorder, watched, matches, halls, chosen, sizes, back_and_forward, twelve_tabs, crowd]

@@ -10,7 +10,7 @@ from decided.table import same
 
 from live.broadcast.history import Shot
 from live.broadcast.running import Clocks
-from live.broadcast.view import Player, SpectatorBoard
+from live.broadcast.view import Player, SpectatorBoard, said_of_matches
 from live.web.round_page import Game, view_of, ways_to_mend
 from live.web.view import Ply, board_text, round_text
 
@@ -97,8 +97,22 @@ def state_is_what_is_documented() -> None:
     same("as they are documented", board, values)
     still = json.loads(SpectatorBoard(3, white, black, Shot()).text(100.0, None))
     same("no clock runs", (still["clocks"], still["runs"], still["at"], still["result"]), (["", ""], "", None, "*"))
-    round_of = json.loads(round_text("Club cup", [SpectatorBoard(3, white, black, shot).text(0.0, None)]))
+    round_of = json.loads(round_text({"event": "Club cup"}, [SpectatorBoard(3, white, black, shot).text(0.0, None)]))
     same("the round", (round_of["event"], len(round_of["boards"]), sorted(round_of)), ("Club cup", 1, ["boards", "event"]))
 
 
-TABLES = [state_is_what_is_documented, nothing_private, what_to_type]
+def matches_are_what_is_documented() -> None:
+    """A round of two matches: a forfeit counts, a game that goes on does not, and no team of one match is in another."""
+    def board(number: int, white: str, black: str, result: str = "*", forfeit: str = "") -> SpectatorBoard:
+        return SpectatorBoard(number, Player(team=white), Player(team=black), Shot(result, forfeit=forfeit))
+
+    boards = [board(1, "Nord", "Süd", "1/2-1/2"), board(2, "Süd", "Nord", "0-1"), board(3, "Nord", "Süd", "1-0", "+-"), board(4, "Süd", "Nord", "1-0"),
+              board(5, "Ost", "West", "*", "--"), board(6, "West", "Ost")]  # fmt: skip
+    round_of = json.loads(round_text({"event": "Cup", **dict(said_of_matches(boards))}, [one.text(0.0, None) for one in boards]))
+    same("matches", round_of["matches"], [
+        {"teams": ["Nord", "Süd"], "points": [2.5, 1.5], "boards": [1, 2, 3, 4]}, {"teams": ["Ost", "West"], "points": [0, 0], "boards": [5, 6]},
+    ])  # fmt: skip
+    same("none", said_of_matches(boards[:1]), ())
+
+
+TABLES = [state_is_what_is_documented, matches_are_what_is_documented, nothing_private, what_to_type]

@@ -149,7 +149,7 @@ EMBEDDED = "http://federation.example"  # the site that may show a page with `em
 class Site:
     """A page in a process of its own, from `with` on: the arbiter's, or with `spectators` theirs."""
 
-    said: Mapping[str, str] = {}  # of the round, beside its event
+    said: Mapping[str, object] = {}  # of the round, beside its event
 
     def __init__(self, address: str = "0", **limits: float) -> None:
         self._call = [sys.executable, str(HOST), address, json.dumps(limits)]

@@ -15,11 +15,13 @@ from typing import Dict, Iterator, List, Tuple
 import outside
 from play_board import INITIAL
 from paged.devtools import Shared, Tab
+from played.ports import free_port
 from played.recorder import Live
 from played.stage import Skipped, bytes_of, ended, kill, same, stop, until, until_line
 from rounds.delayed import DELAY, Delayed
 from rounds.going_out import Clock
 from rounds.hall import Hall, games_of
+from rounds.witness import served as asked
 from rounds.witness import texts_of
 
 
@@ -32,7 +34,7 @@ def state_of(folder: pathlib.Path) -> "dict[str, object]":
 
 def rows_of(page: bytes) -> List[List[str]]:
     """The tables of the list."""
-    rows = re.findall(r"<tr>(.*?)</tr>", page.decode(), re.S)
+    rows = re.findall(r"<tr[^>]*>(.*?)</tr>", page.decode(), re.S)
     return [[re.sub(r"<[^>]*>", "", cell) for cell in re.findall(r"<t[hd][^>]*>(.*?)</t[hd]>", row, re.S)] for row in rows]
 
 
@@ -144,6 +146,31 @@ def two_rounds(folder: pathlib.Path) -> None:
         until(lambda: tab.value("document.querySelector(\".tile[href='#1'] .last\").textContent") == "1. e4", "the move", 0.1)
         same(tab.value("document.getElementById('pgn').href"), f"{url}round2/round.pgn")
         same([asked for asked in tab.requests() if not asked.startswith(url)], [])
+    same(stop(live), 0)
+
+
+def team_matches(folder: pathlib.Path) -> None:
+    """Two matches of teams, one with a forfeit: the list, each page and its JSON have their scores, and each player his team and his
+    federation, also the arbiter's. A game that goes on doesn't count; its result does."""
+    hall, www, page, arbiter = Hall(folder, 4), folder / "www", free_port(), free_port()
+    hall.extra = {1: ",Nord & Co,Süd,GER,SUI,", 2: ",Süd,Nord & Co,,,0-1 FF", 3: ",Ost,West,,,", 4: ",West,Ost,,,"}
+    hall.write(header="board,device,white,black,WhiteTeam,BlackTeam,WhiteFed,BlackFed,result")
+    live = hall.record("--web", str(www), "--page", str(page), "--arbiter-page", str(arbiter), typed=True)
+    hall.play(0, 2, [0])
+
+    def lists(points: str, result: str) -> List[List[str]]:
+        return [[f"Nord &amp; Co {points} Süd"], ["1", "White 1 GER, Nord &amp; Co", result, "Black 1 SUI, Süd"],
+                ["2", "White 2 Süd", "0–1 forfeit", "Black 2 Nord &amp; Co"], ["Ost 0–0 West"], ["3", "White 3 Ost", "", "Black 3 West"],
+                ["4", "White 4 West", "", "Black 4 Ost"]]  # fmt: skip
+
+    until(lambda: rows_of(bytes_of(www / "index.html")) == lists("1–0", ""), "the forfeit in the list", 0.05)
+    live.type("1 1/2-1/2")
+    until(lambda: rows_of(bytes_of(www / "index.html")) == lists("1½–½", "½–½"), "both results in the list", 0.05)
+    wanted = [{"teams": ["Nord & Co", "Süd"], "points": [1.5, 0.5], "boards": [1, 2]}, {"teams": ["Ost", "West"], "points": [0, 0], "boards": [3, 4]}]
+    same(state_of(www / "round")["matches"], wanted)
+    same(json.loads(asked(page, "/state.json"))["matches"], wanted)
+    same([board["teams"] + board["federations"] for board in json.loads(asked(arbiter, "/state.json"))["boards"]],
+         [["Nord & Co", "Süd", "GER", "SUI"], ["Süd", "Nord & Co", "", ""], ["Ost", "West", "", ""], ["West", "Ost", "", ""]])  # fmt: skip
     same(stop(live), 0)
 
 
@@ -338,4 +365,4 @@ def carried_away(folder: pathlib.Path) -> None:
     same((board()["result"], state_of(www / "round")), ("1-0", state_of(carried)))
 
 
-CASES = [two_rounds, live_or_not, late_site, killed_between, full_site, carried_away]
+CASES = [two_rounds, team_matches, live_or_not, late_site, killed_between, full_site, carried_away]

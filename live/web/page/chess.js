@@ -111,6 +111,12 @@ export function printedResult(result) {
   return result === '*' ? '' : result.replace(/1\/2/g, '½').replace('-', '–');
 }
 
+/** Points as they are printed: '2½'. */
+export function printedPoints(points) {
+  const whole = Math.floor(points);
+  return points === whole ? String(whole) : `${whole || ''}½`;
+}
+
 /** What became of a game, as it is printed: '1–0', '0–0 forfeit'. Empty if it goes on. */
 export function outcomeOf({ result, forfeit }) {
   return forfeit ? `${printedResult(forfeit)} forfeit` : printedResult(result);

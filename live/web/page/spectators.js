@@ -2,10 +2,10 @@
 
 import { Boards } from './boards.js';
 import { Card } from './card.js';
-import { outcomeOf } from './chess.js';
+import { outcomeOf, printedPoints } from './chess.js';
 import { element, say } from './diagram.js';
 import { GameView } from './game.js';
-import { showPlayer } from './names.js';
+import { showPlayer, whereFrom } from './names.js';
 
 const at = (name) => document.getElementById(name);
 const RESULTS = '#results';
@@ -27,6 +27,13 @@ function timeOf(seconds) {
   const isToday = at.toDateString() === new Date().toDateString();
   const clock = { hour: '2-digit', minute: '2-digit' };
   return isToday ? at.toLocaleTimeString([], clock) : at.toLocaleString([], { dateStyle: 'medium', timeStyle: 'short' });
+}
+
+/** Shows a match and its score there. */
+function showMatch(where, { teams, points }) {
+  const score = points.map(printedPoints).join('\u2013');
+  if (where.textContent === [teams[0], score, teams[1]].join(' ')) return;
+  where.replaceChildren(element('bdi', '', teams[0]), ' ', element('b', 'score', score), ' ', element('bdi', '', teams[1]));
 }
 
 /** What this browser remembers of a round; nothing where it may not. */
@@ -77,6 +84,7 @@ class Spectators extends Boards {
   constructor() {
     super();
     this.rows = new Map(); // of the result list
+    this.headings = new Map(); // of the matches in it, by their first boards
     at('hide').addEventListener('click', () => this.hide(!this.hides));
     if (window.top !== window.self || new URLSearchParams(window.location.search).has('compact')) document.body.classList.add('compact');
     this.large.keys.n = () => this.go(1);
@@ -149,7 +157,33 @@ class Spectators extends Boards {
 
   titled() {
     this.showLine();
+    this.listMatches();
     this.listResults();
+  }
+
+  // Matches of two teams.
+
+  get matches() {
+    return this.stream.said.matches || [];
+  }
+
+  listMatches() {
+    at('matches').replaceChildren(...this.matches.map((match) => {
+      const place = element('li');
+      showMatch(place, match);
+      return place;
+    }));
+    at('matches').hidden = at('boards').hidden || this.matches.length === 0;
+  }
+
+  show(board) {
+    at('matches').hidden = true;
+    super.show(board);
+  }
+
+  showAll(elsewhere) {
+    at('matches').hidden = elsewhere || this.matches.length === 0;
+    super.showAll(elsewhere);
   }
 
   changed(number, before) {
@@ -194,21 +228,42 @@ class Spectators extends Boards {
 
   listResults() {
     const body = at('result-rows');
-    const boards = this.stream.list();
     const kept = new Map();
-    boards.forEach((board, index) => {
+    for (const board of this.stream.list()) {
       const row = this.rows.get(board.number) || this.row(board.number);
       kept.set(board.number, row);
-      showPlayer(row.white, board, 0);
-      showPlayer(row.black, board, 1);
-      const going = board.moves.length > 0 ? 'playing' : '';
-      say(row.result, outcomeOf(board) || going);
-      if (body.children[index] !== row.root) body.insertBefore(row.root, body.children[index] || null);
-    });
-    for (const [number, row] of this.rows) {
-      if (!kept.has(number)) row.root.remove();
+      [row.white, row.black].forEach((place, index) => {
+        showPlayer(place.firstChild, board, index);
+        say(place.lastChild, whereFrom(board, index));
+      });
+      const outcome = outcomeOf(board);
+      say(row.result, outcome || (board.moves.length > 0 ? 'playing' : ''));
+      row.root.classList.toggle('goes', outcome === '');
     }
     this.rows = kept;
+    const inMatches = this.matches.flatMap((match) => [this.heading(match), ...this.rootsOf(match.boards)]);
+    const roots = [...new Set([...inMatches, ...this.rootsOf(this.stream.numbers)])];
+    roots.forEach((root, index) => {
+      if (body.children[index] !== root) body.insertBefore(root, body.children[index] || null);
+    });
+    while (body.children.length > roots.length) body.lastElementChild.remove();
+  }
+
+  rootsOf(numbers) {
+    return numbers.filter((number) => this.rows.has(number)).map((number) => this.rows.get(number).root);
+  }
+
+  /** The row above the boards of a match. */
+  heading(match) {
+    const [first] = match.boards;
+    if (!this.headings.has(first)) {
+      const root = element('tr', 'match');
+      root.appendChild(element('th')).colSpan = 4;
+      this.headings.set(first, root);
+    }
+    const root = this.headings.get(first);
+    showMatch(root.firstChild, match);
+    return root;
   }
 
   row(number) {
@@ -220,6 +275,7 @@ class Spectators extends Boards {
     head.scope = 'row';
     head.append(link);
     const [white, result, black] = ['name', 'result', 'name'].map((name) => root.appendChild(element('td', name)));
+    for (const place of [white, black]) place.append(element('bdi'), ' ', element('small'));
     return { root, white, result, black };
   }
 }
