@@ -239,6 +239,82 @@ def chosen() -> None:
         closed(site, page)
 
 
+ORDER = "[...document.querySelectorAll('#boards .number')].map((one) => one.textContent).join()"
+
+
+STAR = """(() => {
+  const star = document.querySelectorAll('.pin')[1];
+  const { left, right, top, bottom, width, height, x, y } = star.getBoundingClientRect();
+  const edges = [[left + 1, y + 22], [right - 1, y + 22], [x + 22, top + 1], [x + 22, bottom - 1]];
+  return width >= 44 && height >= 44 && edges.every((edge) => document.elementFromPoint(...edge) === star);
+})()"""  # it has 44 px, and each of them is its own
+
+
+def in_front() -> None:
+    """The star of a card is 44 px large, on a phone too, and a tap on it is no tap on the card. The key F does the same for the card that
+    has the focus, which stays there, and for the large board; what the page says of its keys names it."""
+    if skipped("in_front"):
+        return
+    with Site(spectators=1) as site:
+        site.show(*[a_spectators_board(number, 2) for number in range(1, 41)])
+        page = opened(site)
+        for width in (390, 632, 1024, 1440):
+            page.tab.look(width, 900)
+            page.says(f"a star at {width}", STAR, True)
+            page.says("nothing to the side", "document.documentElement.scrollWidth <= innerWidth", True)
+        first = f"{ORDER}.split(',').slice(0, 4).join()"
+        page.says("the keys of all boards", "(({ offsetHeight, innerText }) => offsetHeight > 0 && innerText.includes('F puts it in front'))"
+                  "(document.getElementById('grid-keys'))", True)  # fmt: skip
+        page.tab.press("ArrowRight", "ArrowRight", "ArrowRight", "f")
+        page.says("board 3 is in front", first, "3,1,2,4")
+        page.says("has the focus still", "document.activeElement.getAttribute('href')", "#3")
+        page.says("is read out", "document.getElementById('said').textContent", "Board 3 is in front")
+        page.says("its star", "document.querySelector('.pin').getAttribute('aria-pressed')", "true")
+        page.tab.press("f")
+        page.says("no longer", first, "1,2,3,4")
+        page.says("which has the focus", "document.activeElement.getAttribute('href')", "#3")
+        page.says("is read out too", "document.getElementById('said').textContent", "Board 3 is no longer in front")
+        page.tab.press("Enter")
+        page.reads("large", "#title", "Board 3")
+        page.says("its keys", "document.getElementById('keys').innerText.includes('F puts it in front')", True)
+        page.tab.press("f")
+        page.says("in front", "document.getElementById('front').getAttribute('aria-pressed')", "true")
+        page.tab.press("n")
+        page.reads("the next one", "#title", "Board 4")
+        page.says("isn't", "document.getElementById('front').getAttribute('aria-pressed')", "false")
+        page.tab.value("document.getElementById('front').click()")
+        page.tab.press("Escape")
+        page.says("both in front", first, "3,4,1,2")
+        closed(site, page)
+
+
+def all_over() -> None:
+    """All games are over and finished ones are hidden: a sentence says so, and its button shows them."""
+    if skipped("all_over"):
+        return
+    note = "(({ offsetHeight, innerText }) => offsetHeight && innerText.replace(/\\s+/g, ' ').trim())(document.getElementById('all-over'))"
+    with Site(spectators=1) as site:
+        site.show(a_spectators_board(1, 2, result="1-0"), a_spectators_board(2, 2))
+        page = opened(site)
+        page.tab.value("document.getElementById('hide').click()")
+        page.says("one goes on", ORDER, "2")
+        page.says("nothing is said", note, 0)
+        site.show(a_spectators_board(2, 2, result="1/2-1/2"))
+        page.says("all are over", note, "All games are over, and finished games are hidden. Show them")
+        page.says("no boards", ORDER, "")
+        page.tab.value("location.hash = '#2'")
+        page.reads("one of them", "#title", "Board 2")
+        page.says("without that", note, 0)
+        page.tab.value("location.hash = ''")
+        page.says("all of them", note, "All games are over, and finished games are hidden. Show them")
+        page.tab.value("document.getElementById('show-all').click()")
+        page.says("shown", ORDER, "1,2")
+        page.says("the first has the focus", "document.activeElement.getAttribute('href')", "#1")
+        page.says("nothing is said any more", note, 0)
+        page.says("none is hidden", "document.getElementById('hide').getAttribute('aria-pressed')", "false")
+        closed(site, page)
+
+
 def sizes() -> None:
     """No text is too small; nowhere does anything stand to the side."""
     if skipped("sizes"):
@@ -320,4 +396,4 @@ def crowd() -> None:
             reader.close()
 
 
-TABLES = [nothing_of_the_recorder, watched, matches, halls, chosen, sizes, back_and_forward, twelve_tabs, crowd]
+TABLES = [nothing_of_the_recorder, watched, matches, halls, chosen, in_front, all_over, sizes, back_and_forward, twelve_tabs, crowd]

@@ -89,6 +89,7 @@ export class Boards {
   arrange() {
     const { numbers } = this.stream;
     const { listed } = this;
+    const focused = document.activeElement;
     for (const [number, card] of this.cards) {
       if (!listed.includes(number)) {
         card.root.remove();
@@ -102,6 +103,7 @@ export class Boards {
       if (place !== root) at('boards').insertBefore(root, place);
       if (this.stream.boards.has(number)) this.cards.get(number).show(this.stream.boards.get(number));
     });
+    if (at('boards').contains(focused)) focused.focus({ preventScroll: true }); // a card that is moved loses it
     say(at('event'), this.name);
     at('none').hidden = numbers.length > 0;
     this.titled();
@@ -221,6 +223,11 @@ export class Boards {
     return true;
   }
 
+  /** The pixels that are needed below the cards. */
+  get below() {
+    return 0;
+  }
+
   /** Cards may have got more lines: they are sized anew, all of them at once. */
   sizeSoon() {
     window.cancelAnimationFrame(this.sizes);
@@ -230,6 +237,6 @@ export class Boards {
   size() {
     const list = at('boards');
     const { length } = this.listed;
-    if (length > 0 && !list.hidden) this.columns = fit(list, length);
+    if (length > 0 && !list.hidden) this.columns = fit(list, length, this.below);
   }
 }

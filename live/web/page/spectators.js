@@ -66,7 +66,8 @@ class PinnedCard extends Card {
     this.pin = this.root.appendChild(element('button', 'pin', UNPINNED));
     this.pin.type = 'button';
     this.pin.tabIndex = -1;
-    this.pin.setAttribute('aria-label', `Put board ${number} in front`);
+    this.pin.setAttribute('aria-label', `Board ${number} in front`);
+    this.pin.setAttribute('aria-keyshortcuts', 'f');
     this.pin.addEventListener('click', () => pin(number));
   }
 
@@ -86,9 +87,12 @@ class Spectators extends Boards {
     this.rows = new Map(); // of the result list
     this.headings = new Map(); // of the matches in it, by their first boards
     at('hide').addEventListener('click', () => this.hide(!this.hides));
+    at('show-all').addEventListener('click', () => this.showFinished());
+    at('front').addEventListener('click', () => this.pin(this.open));
     if (window.top !== window.self || new URLSearchParams(window.location.search).has('compact')) document.body.classList.add('compact');
     this.large.keys.n = () => this.go(1);
     this.large.keys.p = () => this.go(-1);
+    this.large.keys.f = () => this.pin(this.open);
   }
 
   cardOf(number, now) {
@@ -119,14 +123,42 @@ class Spectators extends Boards {
 
   pin(number) {
     this.pinned = this.pinned.includes(number) ? this.pinned.filter((one) => one !== number) : [...this.pinned, number];
-    this.cards.get(number).showPinned(this.pinned.includes(number));
+    const isPinned = this.pinned.includes(number);
+    if (this.cards.has(number)) this.cards.get(number).showPinned(isPinned);
+    this.showFront();
+    say(at('said'), `Board ${number} is ${isPinned ? '' : 'no longer '}in front`);
     this.chosen();
+  }
+
+  /** Whether the large board is in front. */
+  showFront() {
+    const isPinned = this.pinned.includes(this.open);
+    say(at('front'), isPinned ? PINNED : UNPINNED);
+    at('front').setAttribute('aria-pressed', String(isPinned));
+    at('front').hidden = this.stream.numbers.length === 1;
+  }
+
+  pressOnGrid(key) {
+    const found = [...this.cards].find(([, card]) => card.root.contains(document.activeElement));
+    if (key.toLowerCase() !== 'f' || !found || at('boards').hidden) return super.pressOnGrid(key);
+    const [number, { link }] = found;
+    this.pin(number);
+    if (link.isConnected) {
+      link.focus({ preventScroll: true });
+      link.scrollIntoView({ block: 'nearest' });
+    }
+    return true;
   }
 
   hide(hides) {
     this.hides = hides;
     at('hide').setAttribute('aria-pressed', String(hides));
     this.chosen();
+  }
+
+  showFinished() {
+    this.hide(false);
+    this.cards.get(this.listed[0]).link.focus();
   }
 
   chosen() {
@@ -159,6 +191,19 @@ class Spectators extends Boards {
     this.showLine();
     this.listMatches();
     this.listResults();
+    this.showAround(!at('boards').hidden);
+  }
+
+  /** Shows what is above the boards and below them, or hides it. */
+  showAround(isGrid) {
+    const isEmpty = this.listed.length === 0;
+    at('matches').hidden = !isGrid || this.matches.length === 0;
+    at('all-over').hidden = !isGrid || !isEmpty;
+    at('grid-keys').hidden = !isGrid || isEmpty;
+  }
+
+  get below() {
+    return at('grid-keys').offsetHeight;
   }
 
   // Matches of two teams.
@@ -173,16 +218,16 @@ class Spectators extends Boards {
       showMatch(place, match);
       return place;
     }));
-    at('matches').hidden = at('boards').hidden || this.matches.length === 0;
   }
 
   show(board) {
-    at('matches').hidden = true;
+    this.showAround(false);
     super.show(board);
+    this.showFront();
   }
 
   showAll(elsewhere) {
-    at('matches').hidden = elsewhere || this.matches.length === 0;
+    this.showAround(!elsewhere && this.stream.numbers.length > 0);
     super.showAll(elsewhere);
   }
 
