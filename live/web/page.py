@@ -97,7 +97,8 @@ class Page:
         self._next: Optional[RoundView] = None
         self._publishes: Optional[Timer] = None
         self._published_at = loop.now() - PAUSE
-        self._files = {path: _content(KINDS[file.suffix], _read(file)) for path, file in _files(site).items()}
+        self._key = hashlib.blake2b(door.embed.encode("ascii")).digest()
+        self._files = {path: self._content(KINDS[file.suffix], _read(file)) for path, file in _files(site).items()}
         self._made: Dict[str, Content] = {}
         self._publish(self._round)
         self._server = Server(loop, door, self, trouble)
@@ -188,11 +189,15 @@ class Page:
         boards = self._round.boards
         if path == "/state.json":
             texts = [self._boards[board.number].whole for board in boards]
-            return _content(JSON, round_text(self._round.values, texts))
+            return self._content(JSON, round_text(self._round.values, texts))
         if path == "/round.pgn":
-            return _content(PGN, round_pgn(board.pgn for board in boards))
+            return self._content(PGN, round_pgn(board.pgn for board in boards))
         board = next((board for board in boards if pgn_path(board.number) == path), None)
-        return _content(PGN, board.pgn) if board else None
+        return self._content(PGN, board.pgn) if board else None
+
+    def _content(self, kind: str, body: bytes) -> Content:
+        """Its tag is another one for another site that may read it: a browser that has the same tag keeps who might read it before."""
+        return Content(kind, body, f'"{hashlib.blake2b(body, digest_size=12, key=self._key).hexdigest()}"')
 
     def stream(self, path: str, last: str) -> Optional[Events]:
         """The events of this path, from the one after `last` on, if it has events."""
@@ -247,7 +252,3 @@ def _files(site: Site) -> Dict[str, pathlib.Path]:
 def _read(file: pathlib.Path) -> bytes:
     """A file as it is served. The pieces come with the page, so no board is shown empty if another answer fails."""
     return file.read_bytes().replace(PIECES, (FOLDER / "pieces.svg").read_bytes() if file.suffix == ".html" else PIECES)
-
-
-def _content(kind: str, body: bytes) -> Content:
-    return Content(kind, body, '"' + hashlib.blake2b(body, digest_size=12).hexdigest() + '"')

@@ -39,8 +39,11 @@ def embedded() -> None:
             same(f"{path}: the rest", sorted(policy)[:3], sorted(http.EVERYWHERE["Content-Security-Policy"].split("; "))[:3])
             read_by = fields.get("Access-Control-Allow-Origin"), fields.get("Cross-Origin-Resource-Policy")
             same(f"{path}: who may read it", read_by, (EMBEDDED, "cross-origin"))
+        known = site.get("/state.json")[1]["ETag"]
     with Site(spectators=1) as site:
         _, fields, _ = site.get("/state.json")
+        same("the same content, known from then, is sent again: the browser would keep who might read it",
+             site.get("/state.json", f"If-None-Match: {known}")[0], 200)  # fmt: skip
         same("nobody", (fields.get("Access-Control-Allow-Origin"), fields["Cross-Origin-Resource-Policy"]), (None, "same-origin"))
     for typed, expected in (
         ("https://Chess.Example.org/", "https://chess.example.org"), ("http://localhost:8080", "http://localhost:8080"),

@@ -109,6 +109,12 @@ def followed(site: Site, page: Page) -> None:
     page.says("castling: to", page.square(62, "to", 1), True)
     page.reads("a result", tile + ".result", "½–½")
     page.says("is read out", "document.getElementById('said').textContent", "Board 1: result ½–½")
+    site.show({**a_board(1, 7), "teams": ["SK Rochade Nord", ""], "federations": ["GER", "Bosnia and Herzegovina"]})
+    page.follows("a team", tile + ".w ~ .team", "SK Rochade Nord")
+    page.reads("a federation", tile + ".b ~ .about", "Bosnia and Herzegovina")
+    page.tab.value("location.hash = '#1'")
+    page.reads("both, beside the large board", "#lower .about", "GER, SK Rochade Nord")
+    page.tab.value("location.hash = ''")
     site.show(a_board(3, 1), numbers=[3, 1])
     order = "[...document.querySelectorAll('.tile')].map((tile) => tile.getAttribute('href')).join()"
     page.says("other boards, in their order", order, "#3,#1")

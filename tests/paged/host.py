@@ -98,6 +98,11 @@ def spectators_board_of(values: SpectatorsGiven, now: float) -> SpectatorBoard:
     return SpectatorBoard(values["number"], players[0], players[1], shot, pgn)
 
 
+def pair_of(texts: Sequence[str]) -> Tuple[str, str]:
+    white, black = texts
+    return white, black
+
+
 def board_of(values: SpectatorsGiven, _: float) -> BoardView:
     """A board, of JSON."""
     white_clock, black_clock = values["clocks"]
@@ -106,6 +111,8 @@ def board_of(values: SpectatorsGiven, _: float) -> BoardView:
         name=values["name"],
         white=values["white"],
         black=values["black"],
+        teams=pair_of(values.get("teams", ("", ""))),
+        federations=pair_of(values.get("federations", ("", ""))),
         result=values["result"],
         state=values["state"],
         since=values["since"],
