@@ -1,5 +1,6 @@
 """The spectators' page: what it is served, and the page itself in a browser."""
 
+import json
 import re
 import time
 from typing import List
@@ -49,8 +50,11 @@ def nothing_of_the_recorder() -> None:
         content = (FOLDER / name).read_bytes()
         same(f"{name} has no such word", [word for word in WORDS if word in content], [])
     with Site(spectators=1) as site:
+        site.said = {"round": "3", "late": "15 minutes"}
         site.show(a_spectators_board(1, 2, titles=["GM", ""], ratings=["2701", "1804"]))
         text = site.until("/state.json", lambda content: b"GM" in content)
+        same("what is said of the round", {name: value for name, value in json.loads(text).items() if name != "boards"},
+             {"event": "Round 1", **site.said})  # fmt: skip
         same("what is told of a board", [word for word in (*WORDS, b"state", b"since", b"differing", b"kind") if word in text], [])
         for path in ("/tile.js", "/large.js", "/page.js", "/arbiter.css", "/index.html", "/spectators.html"):
             same(f"no {path}", site.get(path)[0], 404)
@@ -144,7 +148,9 @@ def matches() -> None:
         page.says("above the boards", SHOWN, "Nord 1–0 Süd; Ost 0–0 West")
         page.says("the boards are below them", "document.querySelector('.tile').getBoundingClientRect().top >= "
                   "document.querySelector('#matches').getBoundingClientRect().bottom", True)  # fmt: skip
-        page.tab.value("location.hash = '#2'")
+        page.tab.value("document.querySelectorAll('#matches button')[1].click()")
+        page.says("it leads to its first board", "document.activeElement.getAttribute('href')", "#2")
+        page.tab.press("Enter")
         page.reads("one board", "#title", "Board 2")
         page.says("without them", SHOWN, "")
         page.tab.value("location.hash = '#results'")

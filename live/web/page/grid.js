@@ -4,12 +4,19 @@ const LEAST = 13; // pixels of a letter: smaller ones can't be read on a laptop
 const LEAST_TILE = 200; // pixels of a card: a smaller one has no room for a name
 const TEXT = 8.6; // letters in the height of a card beside its diagram: a head, two lines for each player, a foot
 const EDGES = 3; // pixels of its border
+const TRIES = 3; // a smaller card may have more lines
 
 /** Sizes this many cards in their list, and returns the number of columns. `below` are pixels that are needed under the list. */
 export function fit(list, count, below = 0) {
-  const columns = sized(list, count, below, TEXT);
-  const { letters, text } = measured(list);
-  return text > TEXT * letters + EDGES ? sized(list, count, below, (text - EDGES) / letters) : columns;
+  let most = TEXT;
+  let columns = sized(list, count, below, most);
+  for (let tries = 0; tries < TRIES; tries += 1) {
+    const { letters, text } = measured(list);
+    if (text <= most * letters + EDGES) break;
+    most = (text - EDGES) / letters;
+    columns = sized(list, count, below, most);
+  }
+  return columns;
 }
 
 /** The size of a letter, and the height of all that a card has beside its diagram, where that is most. */

@@ -213,11 +213,33 @@ class Spectators extends Boards {
   }
 
   listMatches() {
-    at('matches').replaceChildren(...this.matches.map((match) => {
-      const place = element('li');
-      showMatch(place, match);
-      return place;
-    }));
+    const list = at('matches');
+    while (list.children.length > this.matches.length) list.lastElementChild.remove();
+    this.matches.forEach((match, index) => {
+      if (index === list.children.length) list.append(this.matchPlace(index));
+      showMatch(list.children[index].firstChild, match);
+    });
+  }
+
+  /** A match above the boards: a button that leads to its first one. */
+  matchPlace(index) {
+    const place = element('li');
+    const button = place.appendChild(element('button'));
+    button.type = 'button';
+    button.addEventListener('click', () => this.goTo(this.matches[index].boards));
+    return place;
+  }
+
+  /** To the first of these boards in the grid; where all are hidden, the first one is shown large. */
+  goTo(boards) {
+    const first = this.listed.find((number) => boards.includes(number));
+    if (first === undefined) {
+      window.location.hash = `#${boards[0]}`;
+    } else {
+      const { link, root } = this.cards.get(first);
+      link.focus({ preventScroll: true });
+      root.scrollIntoView({ block: 'start' });
+    }
   }
 
   show(board) {
