@@ -208,6 +208,9 @@ def halls() -> None:
             page.says("a name has a line of its own, and a team", LINES, True)
             page.says("the diagrams are in a row", DIAGRAMS, 1)
             page.says("nothing to the side", "document.documentElement.scrollWidth <= innerWidth", True)
+            page.tab.value("location.hash = '#1'")
+            page.reads("one board", "#title", "Board 1")
+            page.says("nothing is cut there", CUT.replace(".tile :is", "#play :is").replace("closest('.tile')", "closest('#play')"), "")
             closed(site, page)
 
 
@@ -233,6 +236,8 @@ def chosen() -> None:
         page.tab.open(site.url)
         page.says("when it comes again", order, "3,1,4")
         page.says("which is said", "document.getElementById('hide').getAttribute('aria-pressed')", "true")
+        page.says("and seen", "getComputedStyle(document.getElementById('hide')).backgroundColor === "
+                  "getComputedStyle(document.getElementById('to-results')).color", True)  # fmt: skip
         page.tab.value("document.querySelectorAll('.pin')[0].click(); document.getElementById('hide').click()")
         page.says("as it was", order, "1,2,3,4")
         page.reads("by how much", ".tile[href='#4'] .ahead", "White +8")

@@ -130,15 +130,19 @@ def two_rounds(folder: pathlib.Path) -> None:
     same(stop(live), 0)
     same(sorted(path.name for path in www.rglob("*") if path.suffix not in (".pgn", ".js", ".css", ".svg", ".html", ".json", "")), [])
 
-    hall.games, hall.extra = folder / "games2", {}
+    hall.games, hall.extra = folder / "games2", {1: ",Sportvereinigung Schachfreunde Frankfurt am Main", 2: ","}
     hall.boards[0].codes = list(INITIAL)
-    hall.write()
+    hall.write(header="board,device,white,black,WhiteTeam")
+    hall.file.write_text(hall.file.read_text().replace("Black 2", "Praggnanandhaa-Nepomniachtchi"))
     live = hall.record("--web", str(www), "--round", "2", "--event", "Cup & Co")
     until(lambda: len(rows_of(bytes_of(www / "index.html"))) == 4, "both rounds in the list", 0.05)
     with served(www) as (url, tab):
         tab.open(url)
         until(lambda: tab.value("document.querySelectorAll('h2 a').length") == 2, "two rounds", 0.05)
         same(tab.value("document.querySelectorAll('td b').length"), 0)
+        for width in (320, 390, 1024):
+            tab.look(width, 900)
+            until(lambda: tab.value("innerWidth") == width and tab.value("document.documentElement.scrollWidth <= innerWidth"), f"all within {width} px", 0.05)
         same(tab.value("document.querySelector('meta[http-equiv=refresh]').content"), "60")
         tab.value("document.querySelectorAll('h2 a')[1].click()")
         until(lambda: tab.value("document.querySelectorAll('.tile').length") == 2, "two boards", 0.05)

@@ -223,7 +223,7 @@ class Spectators extends Boards {
 
   /** A match above the boards: a button that leads to its first one. */
   matchPlace(index) {
-    const place = element('li');
+    const place = element('li', 'match');
     const button = place.appendChild(element('button'));
     button.type = 'button';
     button.addEventListener('click', () => this.goTo(this.matches[index].boards));
