@@ -8,6 +8,7 @@ from browsed.games import QUEENS, RUY, RUY_SANS, begin, play, until_agrees
 from browsed.hall import Hall
 from browsed.page import Page
 from browsed.stage import with_chromium
+from paged.legible import DRAWN
 from played.stage import same
 
 PICTURES = os.environ.get("PICTURES")  # a folder that takes pictures of the screens
@@ -43,7 +44,6 @@ SMALL = """
 
 
 # Ends when the page has been drawn, and so was told of its size.
-DRAWN = "new Promise((done) => requestAnimationFrame(() => requestAnimationFrame(() => done(true))))"
 
 
 def unnamed(page: Page) -> List[str]:

@@ -9,6 +9,7 @@ from decided.table import same
 
 from paged.browsers import NAME, Page, skipped
 from paged.devtools import Shared
+from paged.legible import faults
 from paged.web import Events, Site, a_board
 
 from live.web.page import FOLDER, SPECTATORS
@@ -54,7 +55,7 @@ def nothing_of_the_recorder() -> None:
         site.show(a_spectators_board(1, 2, titles=["GM", ""], ratings=["2701", "1804"]))
         text = site.until("/state.json", lambda content: b"GM" in content)
         same("what is said of the round", {name: value for name, value in json.loads(text).items() if name != "boards"},
-             {"event": "Round 1", **site.said})  # fmt: skip
+             {"event": "Round 1", "round": "3", "late": "15 minutes"})  # fmt: skip
         same("what is told of a board", [word for word in (*WORDS, b"state", b"since", b"differing", b"kind") if word in text], [])
         for path in ("/tile.js", "/large.js", "/page.js", "/arbiter.css", "/index.html", "/spectators.html"):
             same(f"no {path}", site.get(path)[0], 404)
@@ -326,6 +327,40 @@ def all_over() -> None:
         closed(site, page)
 
 
+def legible() -> None:
+    """Each text has a contrast of 4.5 to 1 and letters of 12 pixels, and what is pressed has 24 pixels, on three screens, light and dark;
+    on the arbiter's page too."""
+    if skipped("legible"):
+        return
+    with Site(spectators=1) as site:
+        site.said = {"round": "3", "matches": [{"teams": [TEAMS[0], TEAMS[1]], "points": [1, 0], "boards": [1, 2]}]}
+        site.show(*[a_spectators_board(number, 2, result="1-0" if number == 1 else "*", titles=["GM", ""], ratings=["2701", "1804"],
+                                       teams=[TEAMS[0], TEAMS[1]], federations=["GER", "SUI"]) for number in (1, 2)])  # fmt: skip
+        page = opened(site)
+        same("the boards", faults(page.tab), {})
+        page.tab.value("document.querySelectorAll('.pin')[1].click()")
+        page.says("board 2 is in front", ORDER, "2,1")
+        same("one in front", faults(page.tab), {})
+        for hash_of, where in (("#2", "#large"), ("#results", "#results")):
+            page.tab.value(f"location.hash = '{hash_of}'")
+            page.says(hash_of, f"document.querySelector('{where}').offsetHeight > 0", True)
+            same(f"at {hash_of}", faults(page.tab), {})
+        page.tab.value("location.hash = ''; document.querySelector('.pin').click(); document.getElementById('hide').click()")
+        site.show(a_spectators_board(2, 2, result="1-0"))
+        page.says("all are over", "document.getElementById('all-over').offsetHeight > 0", True)
+        same("no board", faults(page.tab), {})
+        closed(site, page)
+    with Site() as site:
+        site.show({**a_board(1, 2, alarm=True, state="WRONG: e2", mend="type 1 ok", differing=["e2"]), "teams": TEAMS[:2], "federations": ["GER", "SUI"]},
+                  a_board(2, 2, result="1-0"))  # fmt: skip
+        page = opened(site)
+        same("the arbiter's boards", faults(page.tab), {})
+        page.tab.value("location.hash = '#1'")
+        page.reads("one with an alarm", "#title", "Board 1")
+        same("the arbiter's board", faults(page.tab), {})
+        closed(site, page)
+
+
 def sizes() -> None:
     """No text is too small; nowhere does anything stand to the side."""
     if skipped("sizes"):
@@ -407,4 +442,4 @@ def crowd() -> None:
             reader.close()
 
 
-TABLES = [nothing_of_the_recorder, watched, matches, halls, chosen, in_front, all_over, sizes, back_and_forward, twelve_tabs, crowd]
+TABLES = [nothing_of_the_recorder, watched, matches, halls, chosen, in_front, all_over, legible, sizes, back_and_forward, twelve_tabs, crowd]

@@ -15,6 +15,7 @@ from typing import Dict, Iterator, List, Tuple
 import outside
 from play_board import INITIAL
 from paged.devtools import Shared, Tab
+from paged.legible import faults
 from played.ports import free_port
 from played.recorder import Live
 from played.stage import Skipped, bytes_of, ended, kill, same, stop, until, until_line
@@ -130,12 +131,12 @@ def two_rounds(folder: pathlib.Path) -> None:
     same(stop(live), 0)
     same(sorted(path.name for path in www.rglob("*") if path.suffix not in (".pgn", ".js", ".css", ".svg", ".html", ".json", "")), [])
 
-    hall.games, hall.extra = folder / "games2", {1: ",Sportvereinigung Schachfreunde Frankfurt am Main", 2: ","}
+    hall.games, hall.extra = folder / "games2", {1: ",Sportvereinigung Schachfreunde Frankfurt am Main,Süd", 2: ",Süd,Sportvereinigung Schachfreunde Frankfurt am Main"}
     hall.boards[0].codes = list(INITIAL)
-    hall.write(header="board,device,white,black,WhiteTeam")
+    hall.write(header="board,device,white,black,WhiteTeam,BlackTeam")
     hall.file.write_text(hall.file.read_text().replace("Black 2", "Praggnanandhaa-Nepomniachtchi"))
     live = hall.record("--web", str(www), "--round", "2", "--event", "Cup & Co")
-    until(lambda: len(rows_of(bytes_of(www / "index.html"))) == 4, "both rounds in the list", 0.05)
+    until(lambda: len(rows_of(bytes_of(www / "index.html"))) == 5, "both rounds in the list, one of them a match", 0.05)
     with served(www) as (url, tab):
         tab.open(url)
         until(lambda: tab.value("document.querySelectorAll('h2 a').length") == 2, "two rounds", 0.05)
@@ -144,8 +145,11 @@ def two_rounds(folder: pathlib.Path) -> None:
             tab.look(width, 900)
             until(lambda: tab.value("innerWidth") == width and tab.value("document.documentElement.scrollWidth <= innerWidth"), f"all within {width} px", 0.05)
         same(tab.value("document.querySelector('meta[http-equiv=refresh]').content"), "60")
+        same(faults(tab), {})
         tab.value("document.querySelectorAll('h2 a')[1].click()")
         until(lambda: tab.value("document.querySelectorAll('.tile').length") == 2, "two boards", 0.05)
+        until(lambda: tab.value("document.getElementById('matches').innerText.replace(/\\s+/g, ' ').trim()")
+              == "Sportvereinigung Schachfreunde Frankfurt am Main 0–0 Süd", "the match above them", 0.05)  # fmt: skip
         hall.play(0, 1, [0])
         until(lambda: tab.value("document.querySelector(\".tile[href='#1'] .last\").textContent") == "1. e4", "the move", 0.1)
         same(tab.value("document.getElementById('pgn').href"), f"{url}round2/round.pgn")
