@@ -13,7 +13,6 @@ import time
 from typing import Dict, Iterable, Iterator, List, Optional, Tuple
 
 TICK = os.sysconf("SC_CLK_TCK")
-FROM_NOTHING = "(from nothing)"
 KINDS = {"proof": "proofs", "tests": "proofs with tests", "edit": "must-fail edits", "bodies": "wrong bodies"}
 
 Started = Tuple[int, int]  # a process: its number, and its start, since numbers are given anew
@@ -76,15 +75,15 @@ def watch(command: List[str], folder: str, log: str) -> Tuple[int, List[Check]]:
 
 
 def named(rows: Iterable[Check], clone: str) -> Iterator[Tuple[str, str, str, float]]:
-    """The edits of each crate by name: a crate is checked from nothing, where it has several edits; then these are tried in the
-    order of their names, and the crate as it is last."""
+    """The edits of each crate by name: they are tried in the order of their names, the first one from nothing, and behind several
+    the crate as it is."""
     left: Dict[str, List[str]] = {}
     for _, crate, kind, seconds in rows:
         name = ""
         if kind == "edit":
             if crate not in left:
                 edits = [it.stem for it in sorted(pathlib.Path(f"{clone}/crates/{crate}/must-fail").glob("*.edit"))]
-                left[crate] = [*([FROM_NOTHING] if len(edits) > 1 else []), *edits, "(none)"]
+                left[crate] = [*edits, "(none)"]
             name = left[crate].pop(0) if left[crate] else "(again)"
         yield crate, kind, name, seconds
 
@@ -101,7 +100,7 @@ def main(clone: str, folder: str) -> int:
             print(crate, kind, name, f"{seconds:.1f}", sep="\t", file=out)
 
     print("Processor seconds of each crate:\n")
-    print("| Crate | Proof | Proof with tests | Must-fail edits | Wrong bodies | their rounds | the first edit, a check from nothing | edits | the five slowest of the others |")
+    print("| Crate | Proof | Proof with tests | Must-fail edits | Wrong bodies | their rounds | the first edit, from nothing | edits | the five slowest of the others |")
     print("|---|---|---|---|---|---|---|---|---|")
     sums = {"proof": 0.0, "tests": 0.0, "edit": 0.0, "bodies": 0.0}
     for crate in dict.fromkeys(it[0] for it in checks):
@@ -110,9 +109,9 @@ def main(clone: str, folder: str) -> int:
         for kind in sums:
             sums[kind] += spent[kind]
         edits = of["edit"]
-        first = "".join(f"{seconds:.0f}" for seconds, name in edits if name == FROM_NOTHING)
-        number = len({name for _, name in edits} - {FROM_NOTHING, "(none)", "(again)"}) or ""
-        others = sorted((it for it in edits if it[1] != FROM_NOTHING), reverse=True)
+        first = "".join(f"{seconds:.0f}" for seconds, _ in edits[:1])
+        number = len({name for _, name in edits} - {"(none)", "(again)"}) or ""
+        others = sorted(edits[1:], reverse=True)
         slowest = ", ".join(f"`{name}` {seconds:.0f}" for seconds, name in others[:5])
         shown = [f"{spent[kind]:.0f}" if of[kind] else "" for kind in sums]
         print("|", " | ".join([f"`{crate}`", *shown, str(len(of["bodies"]) or ""), first, str(number), slowest]), "|")
