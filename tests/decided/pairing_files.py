@@ -321,13 +321,14 @@ CENTRAL_NAMES = (
 DOS_NAMES = {
     "cp437": ("Jörg Müller", "Müller", "Jörg", "Größ", "René", "Zoë", "Özil", "É. Voss", "Åse", "García", "López", "Muñoz", "Benoît", "Bräuer", "Ünal",
               "MÜLLER", "MÄRZ", "BÄUMER", "Ärmel", "Übel", "Lefèvre", "Sánchez", "Hernández", "Adrián", "Weiß", "Heß", "Großmann", "Preuße",
-              "Meißner", "Keßler", "Nußbaum", "Nießl", "GROßMANN", "Næss", "Jæger", "Août"),
+              "Meißner", "Keßler", "Nußbaum", "Nießl", "GROßMANN", "Næss", "Jæger", "Août", "Çelik"),
     "cp850": ("Jörg Müller", "Müller", "Jörg", "José", "Øystein", "Jørgensen", "Françoise", "Ágnes", "Bråten", "Hélène", "Ünal",
               "MÜLLER", "Benoît", "Sánchez", "Weiß", "Næss", "Simões", "João", "LEITÃO", "JOÃO", "LÓPEZ", "GARCÍA", "LEFÈVRE", "NOËL", "LOÏC", "Ève",
-              "Ângela", "Óscar", "Úrsula", "Niccolò", "Cantù", "Malmö", "MARTÍN;LÓPEZ", "Weiß;Müller"),
+              "Ângela", "Óscar", "Úrsula", "Niccolò", "Cantù", "Malmö", "MARTÍN;LÓPEZ", "Weiß;Müller", "Bø", "Àlex"),
     "cp852": ("Jörg Müller", "Wałęsa", "Łukasz", "Božena", "Kaźmierczak", "Růžička", "Jiří", "Szőke", "Dvořák", "Novák",
               "Svobodová", "Novotný", "Kamiński", "Szymański", "Kráľ", "Vašek", "Beneš", "Bartoš", "Vaňek", "Hodaň", "Škoda", "Řehoř", "Ondřej",
-              "Baťa", "Kovač", "Kovář", "Đuro", "SRĐAN", "SZŐKE", "VAŇEK", "Brăila", "Ionuţ", "Němec", "Tomáš", "Saša;Dvořák", "Dobrý;Novák"),
+              "Baťa", "Kovač", "Kovář", "Đuro", "SRĐAN", "SZŐKE", "VAŇEK", "Brăila", "Ionuţ", "Němec", "Tomáš", "Saša;Dvořák", "Dobrý;Novák", "Čech",
+              "Žák", "Śliwa"),
 }
 CYRILLIC_NAMES = ("Петров", "Ли", "Каспаров", "Юдасин")
 
