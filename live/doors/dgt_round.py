@@ -70,7 +70,7 @@ OPTION, kept: --event, --site, --date, --round with TEXT; --tag NAME=VALUE
   --embed https://SITE, --web FOLDER   who may frame it; a site of files
   --delay MINUTES, --publish COMMAND   how late it goes out, and by what
   --output 'NAME = MINUTES, COMMAND'   a further output; for more, once more
-  --linger SECONDS, --encoding NAME, --matches no, --recover, --strict  see man
+  --linger, --encoding, --matches, --recover, --strict, --version   see man
 """
 
 
