@@ -208,6 +208,8 @@ def halls() -> None:
             page.says("nothing is cut", CUT, "")
             page.says("a name has a line of its own, and a team", LINES, True)
             page.says("the diagrams are in a row", DIAGRAMS, 1)
+            columns = int(str(page.tab.value("getComputedStyle(document.getElementById('boards')).gridTemplateColumns.split(' ').length")))
+            same(f"{columns} columns are the least for as many rows", columns, -(-count // -(-count // columns)))
             page.says("nothing to the side", "document.documentElement.scrollWidth <= innerWidth", True)
             page.tab.value("location.hash = '#1'")
             page.reads("one board", "#title", "Board 1")

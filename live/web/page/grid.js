@@ -46,6 +46,7 @@ function sized(list, count, below, text) {
   if (best < LEAST_TILE) {
     columns = Math.max(1, Math.floor((width + gap) / (LEAST_TILE + gap)));
     best = (width + gap) / columns - gap;
+    columns = Math.ceil(count / Math.ceil(count / columns)); // as many rows, and the last one not much shorter
   }
   list.style.setProperty('--tile', `${Math.floor(best)}px`);
   list.style.setProperty('--columns', String(columns));
