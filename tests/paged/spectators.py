@@ -161,6 +161,7 @@ def matches() -> None:
         site.show(a_spectators_board(3, 2, result="1/2-1/2", teams=["Süd", "Nord"]))
         page.says("another result", ROWS, "Nord 1½–½ Süd; 1|GM Nepomniachtchi, Ian 2785 GER, Nord|1–0|Black 1 SUI, Süd; 3|White 3 Süd|½–½|Black 3 Nord; "
                   "Ost 0–0 West; 2|White 2 Ost|playing|Black 2 West")  # fmt: skip
+        page.says("is read out, with the match's score", "document.getElementById('said').textContent", "Board 3: result ½–½. Nord 1½–½ Süd")
         page.tab.look(320, 600)
         page.says("nothing to the side", "document.documentElement.scrollWidth <= innerWidth", True)
         page.tab.look(1366, 768)

@@ -29,11 +29,16 @@ function timeOf(seconds) {
   return isToday ? at.toLocaleTimeString([], clock) : at.toLocaleString([], { dateStyle: 'medium', timeStyle: 'short' });
 }
 
+/** A match: a team, the score, the other team. */
+function partsOf({ teams, points }) {
+  return [teams[0], points.map(printedPoints).join('\u2013'), teams[1]];
+}
+
 /** Shows a match and its score there. */
-function showMatch(where, { teams, points }) {
-  const score = points.map(printedPoints).join('\u2013');
-  if (where.textContent === [teams[0], score, teams[1]].join(' ')) return;
-  where.replaceChildren(element('bdi', '', teams[0]), ' ', element('b', 'score', score), ' ', element('bdi', '', teams[1]));
+function showMatch(where, match) {
+  const [one, score, other] = partsOf(match);
+  if (where.textContent === partsOf(match).join(' ')) return;
+  where.replaceChildren(element('bdi', '', one), ' ', element('b', 'score', score), ' ', element('bdi', '', other));
 }
 
 /** What this browser remembers of a round; nothing where it may not. */
@@ -219,6 +224,13 @@ class Spectators extends Boards {
       if (index === list.children.length) list.append(this.matchPlace(index));
       showMatch(list.children[index].firstChild, match);
     });
+  }
+
+  /** With a result a screen reader also reads out the score of its match. */
+  troubles(board, before) {
+    const match = this.matches.find(({ boards }) => boards.includes(board.number));
+    const isNew = outcomeOf(board) !== '' && outcomeOf(board) !== outcomeOf(before);
+    return match && isNew ? [partsOf(match).join(' ')] : [];
   }
 
   /** A match above the boards: a button that leads to its first one. */
