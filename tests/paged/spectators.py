@@ -154,6 +154,9 @@ def matches() -> None:
         page.tab.press("Enter")
         page.reads("one board", "#title", "Board 2")
         page.says("without them", SHOWN, "")
+        page.reads("but its own", "#of-match", "Ost 0–0 West")
+        page.tab.value("location.hash = '#3'")
+        page.reads("another board's", "#of-match", "Nord 1–0 Süd")
         page.tab.value("location.hash = '#results'")
         page.says("in the results", ROWS, "Nord 1–0 Süd; 1|GM Nepomniachtchi, Ian 2785 GER, Nord|1–0|Black 1 SUI, Süd; 3|White 3 Süd|playing|Black 3 Nord; "
                   "Ost 0–0 West; 2|White 2 Ost|playing|Black 2 West")  # fmt: skip
@@ -170,6 +173,8 @@ def matches() -> None:
         site.said = {}
         site.show()
         page.says("no matches any more", SHOWN, "")
+        page.tab.value("location.hash = '#3'")
+        page.says("nor its own", "document.getElementById('large').offsetHeight > 0 && document.getElementById('of-match').hidden", True)
         closed(site, page)
 
 

@@ -224,11 +224,23 @@ class Spectators extends Boards {
       if (index === list.children.length) list.append(this.matchPlace(index));
       showMatch(list.children[index].firstChild, match);
     });
+    this.showOfMatch();
+  }
+
+  matchOf(number) {
+    return this.matches.find(({ boards }) => boards.includes(number));
+  }
+
+  /** The match of the large board. */
+  showOfMatch() {
+    const match = this.matchOf(this.open);
+    at('of-match').hidden = !match;
+    if (match) showMatch(at('of-match'), match);
   }
 
   /** With a result a screen reader also reads out the score of its match. */
   troubles(board, before) {
-    const match = this.matches.find(({ boards }) => boards.includes(board.number));
+    const match = this.matchOf(board.number);
     const isNew = outcomeOf(board) !== '' && outcomeOf(board) !== outcomeOf(before);
     return match && isNew ? [partsOf(match).join(' ')] : [];
   }
@@ -238,6 +250,7 @@ class Spectators extends Boards {
     const place = element('li', 'match');
     const button = place.appendChild(element('button'));
     button.type = 'button';
+    button.title = 'To its boards';
     button.addEventListener('click', () => this.goTo(this.matches[index].boards));
     return place;
   }
@@ -258,6 +271,7 @@ class Spectators extends Boards {
     this.showAround(false);
     super.show(board);
     this.showFront();
+    this.showOfMatch();
   }
 
   showAll(elsewhere) {
