@@ -165,6 +165,8 @@ def main() -> None:
     except FileExistsError:
         sys.exit(f"play_board: {words.device} is there already: give another name, or remove it")
     except OSError as error:
+        if isinstance(error, FileNotFoundError) and not words.make:
+            sys.exit(f"play_board: there is no {words.device}: add --make, which makes it")
         sys.exit(f"play_board: {words.device}: {error.strerror}")
     except KeyboardInterrupt:
         sys.exit(1)

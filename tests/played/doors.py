@@ -223,7 +223,8 @@ def board_of_a_program(folder: pathlib.Path) -> None:
     (folder / "file").write_text("")
     for name, more, said in (
         ("file", "--make", f"play_board: {folder / 'file'} is there already: give another name, or remove it\n"),
-        ("none", "e2e4", f"play_board: {folder / 'none'}: No such file or directory\n"),
+        ("none", "e2e4", f"play_board: there is no {folder / 'none'}: add --make, which makes it\n"),
+        ("none/board", "--make", f"play_board: {folder / 'none/board'}: No such file or directory\n"),
         ("board", "Nf3", "Nf3 is no move: write both squares, as e2e4, e1g1 or e7e8q\n"),
     ):
         complaint = play_board(folder / name, more).communicate()[1]
