@@ -149,8 +149,8 @@ def main(arguments: Sequence[str]) -> int:
         print(wanted[0].path() or report(wanted[:1]), file=sys.stdout if wanted[0].path() else sys.stderr)
         return 0 if wanted[0].path() else 1
     said = install(wanted) if verb == "install" else report(wanted)
-    if said:
-        print(said)
+    if said or not verb:
+        print(said or "no outside tool is missing")
     return 1 if said and verb == "install" else 0
 
 
