@@ -14,6 +14,7 @@ from live.round.pairings import NO, YES, shown
 from live.round.encodings import known_encoding, loose_text, text_of
 from live.round.sheets import LARGEST
 
+PLACE = {"site": "place"}  # as the template has it: a site is also a folder of files
 ALSO = {"place": "site", "tournament": "event", "dates": "date"}  # other names that arbiters use for some
 FOR_A_ROUND = re.compile(r"(.*\D)\s+(\d{1,3})")  # `date 3`
 PATH = re.compile(r"~|\.{0,2}/")  # how a folder begins
@@ -80,8 +81,8 @@ def words_of(content: bytes, round_number: int, options: Sequence[str], encoding
         elif tag and normal(tag) not in ("round", "board", "white", "black"):
             typed = f"{TAG}={tag}={value}"
         else:
-            names = ", ".join(sorted(option[2:].replace("-", " ") for option in known.values() if option != "--round"))
-            there = f"there are {names}, recover, and tags as TimeControl"
+            names = [option[2:].replace("-", " ") for option in known.values() if option != "--round"]
+            there = f"there are {', '.join(sorted(PLACE.get(name, name) for name in names))}, recover, and tags as time control"
             raise Refused(REFUSED, f"line {number}: there is no setting {shown(name)}: {there}")
         if value and its_round and int(its_round) == round_number:
             for_this[word] = typed
