@@ -144,7 +144,7 @@ def _is_report(path: pathlib.Path) -> bool:
 def tournament_of(file: str, folder: str) -> Optional[Tournament]:
     """The tournament in `dgt_round cup 3`; None if a table is named. Refused if there is none yet."""
     path = pathlib.Path(file)
-    if path.is_dir() and not folder:
+    if path.is_dir() and (not folder or not NUMBER.fullmatch(folder) and (path / SETTINGS).exists()):
         raise Refused(REFUSED, f"{file} is a folder: say which round of its tournament is played, as dgt_round {file} 1")
     if not NUMBER.fullmatch(folder) or path.is_file() or path.suffix.lower() in TABLES:
         return None

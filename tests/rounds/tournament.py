@@ -320,7 +320,8 @@ def what_is_missing(folder: pathlib.Path) -> None:
     (cup / "boards.csv").write_text("board;device\n1;/dev/nowhere1\n")
     make()
     same(bytes_of(cup / "boards.csv"), b"board;device\n1;/dev/nowhere1\n")  # what is there stays
-    refuses(call("cup"), 1, "cup is a folder: say which round of its tournament is played, as dgt_round cup 1")
+    for round_name in ((), ("round1",), ("cup/round1.csv",)):
+        refuses(call("cup", *round_name), 1, "cup is a folder: say which round of its tournament is played, as dgt_round cup 1")
     refuses(call("cup", 1), 1, "cup/round1.csv has no pairs yet: fill it in, save the pairing program's table over it,")
     refuses(call("cup", 2), 1, "cup has no table of round 2: save it there as round2.csv")
     (cup / "pairs2.csv").write_text("Board;White;Black\n1;Anna;Ben\n")
