@@ -18,6 +18,7 @@ from typing import Callable, Optional, Protocol, Sequence, Tuple
 from live.beside import Worker
 from live.game.files import AnyPath
 from live.loop import ENDING, Timer, Turns
+from live.refused import printable
 
 EACH = 5.0  # least seconds between the beginnings of two runs
 LONGEST = 30.0  # seconds that a run may take
@@ -92,7 +93,7 @@ def run(words: Sequence[str], path: AnyPath, seconds: float) -> str:
     if word == "ended":
         return "" if more == "0" else last_line(tail) or _status(int(more))
     if word == "unstarted":
-        return f"the command can't be started: {more}"
+        return f"{printable(words[0])} can't be started: {more}"
     return "an earlier run of the command goes on" if word == "beside" else f"the command took more than {seconds:.0f} s, and was ended"
 
 

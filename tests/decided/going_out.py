@@ -296,7 +296,7 @@ def runs_of_a_command() -> None:
             ("import signal, sys; sys.exit(len(signal.pthread_sigmask(signal.SIG_BLOCK, [])))", ""),
         ]:
             same(program, run([*python, program], path, 60.0), said)
-        same("no such program", run(["/nowhere"], path, 60.0), "the command can't be started: No such file or directory")
+        same("no such program", run(["/nowhere"], path, 60.0), "/nowhere can't be started: No such file or directory")
         number = pathlib.Path(folder) / "number"
         slow = f"import os, subprocess, time; open({str(number)!r}, 'w').write(str(subprocess.Popen(['sleep', '99']).pid)); time.sleep(99)"
         same("one that is too slow", run([*python, slow], path, 8.0), "the command took more than 8 s, and was ended")
