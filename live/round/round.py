@@ -129,7 +129,7 @@ def all_ways(numbers: Sequence[int]) -> str:
     """What can be typed."""
     number = example(numbers)
     here = f"{number} 1-0, {number} Nf3 Nc6, {number} back, {number} help"
-    return f"type {here}, {number} (the state of board {number}), r (read the file again) or q (end)"
+    return f"type {here}, {number} (the state of board {number}), r (read the table again) or q (end)"
 
 
 def ways(text: str, numbers: Sequence[int], said: Said = Said(UNKNOWN)) -> str:
