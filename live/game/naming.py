@@ -29,7 +29,7 @@ def read_names(text: str) -> Options:
         try:
             name, value = pair_of(unquoted(pair))
         except Malformed as error:
-            raise Refused(f"{error}. {HOW.capitalize()}") from None
+            raise Refused(f"{error}. {HOW.replace('type', 'Type', 1)}") from None
         words += [OPTION_OF[name], value or UNKNOWN] if name in OPTION_OF else [TAG, f"{name}={value}"]
     if not words:
         raise Refused(HOW)

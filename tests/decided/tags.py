@@ -152,6 +152,7 @@ NOT_NAMED = {
     "name Anna": "'Anna' has no =",
     "name Result=1-0": "Result is what the game says",
     "name Colour=red": "there is no tag 'Colour'",
+    "name Whtie=Anna": ". Type name White=Anna, name Black=Ben, and so on: Event, Site, Date and Round can be put right too",
     "name WhiteElo=20x0": "WhiteElo: '20x0' is no rating",
 }
 
