@@ -9,9 +9,9 @@ _dgt() {
     case $command,$before in
         *,--first) words='white black' ;;
         *,--fen | *,--event | *,--site | *,--date | *,--round | *,--white | *,--black | *,--tag | *,--add | *,--back | *,--line | *,--to) return ;;
-        *,--linger | *,--page | *,--page-host | *,--arbiter-page | *,--delay | *,--publish | *,--output | *,--encoding | *,--embed) return ;;
+        *,--linger | *,--page | *,--page-host | *,--arbiter-page | *,--delay | *,--publish | *,--output | *,--encoding | *,--matches | *,--embed) return ;;
         dgt_live,*) words="--series --once --add --back --devices --pack $game $tags $shown" ;;
-        dgt_round,*) words="--new --encoding --embed --web --output --event --site --date --round $shown" ;;
+        dgt_round,*) words="--new --encoding --matches --embed --web --output --event --site --date --round $shown" ;;
         dgt_replay,*)
             if [ "$COMP_CWORD" -eq 1 ]; then
                 words='record follow watch recover add back show pictures check times moves positions help --help --version'
