@@ -1,7 +1,8 @@
 //! Tests of the public calls on boards and what they send. Of `watched_streams`, streams that fail; of `dgt_frame`, frames and
 //! times; of `board_captures` and `going_back`, captures that go back; of `board_asking`, what a board is sent when, and what is
 //! done with what it sends; of `board_cable`, the same with its bytes; of `board_times`, files of times; of `square_runs`, since
-//! when squares are in masks; of `board_standing`, how a board stands; of `board_game`, one game while its capture grows.
+//! when squares are in masks; of `board_standing`, how a board stands; of `board_game`, one game while its capture grows; of
+//! `board_live`, a board that is recorded.
 //!
 //! The files `NAME_page.rt` have the examples on the crates' pages, as they stand there: `tests/pages` compares them. They are here
 //! since they load the same libraries.
@@ -23,6 +24,8 @@ mod board_events_page;
 mod board_game_page;
 #[cfg(test)]
 mod board_listing_page;
+#[cfg(test)]
+mod board_live_page;
 #[cfg(test)]
 mod board_session_page;
 #[cfg(test)]
@@ -61,6 +64,8 @@ mod pair_frames_page;
 mod pgn_book_page;
 #[cfg(test)]
 mod read_times;
+#[cfg(test)]
+mod recorded;
 #[cfg(test)]
 mod recovery_page;
 #[cfg(test)]
