@@ -1,5 +1,5 @@
-mod TextLemmas
-mod LineLemmas
+pub mod TextLemmas
+pub mod LineLemmas
 mod ListingLemmas
-mod EventLemmas
+pub mod EventLemmas
 mod HeadingLemmas

@@ -9,7 +9,7 @@ use Rattle.std.proofs.lemmas.Bool.{and_parts, cases_eq, eq-eqb, ne_eqb}
 use Rattle.std.proofs.lemmas.Fmt.{decimal_injective, decimal_is_IsNumeral}
 use Rattle.std.proofs.lemmas.List.{append_assoc, append-nil}
 use Rattle.board_times.specs.declared.words.Word.{Word}
-use Rattle.board_times.specs.declared.words.Word.TheVariants.{Version, Digest, Begin, Away, Opened, Answered, Gone, Called, Heard, Added, Stopped, Asked, Took, Over}
+use Rattle.board_times.specs.declared.words.Word.TheVariants.{Version, Digest, Begin, Away, Opened, Answered, Gone, Called, Heard, Added, Stopped, Asked, Took, Over, Wake, Lent, Number, Kept, Capture}
 use Rattle.board_times.specs.declared.lines.Tail.{Tail}
 use Rattle.board_times.specs.declared.lines.Line.{Line}
 use Rattle.board_times.specs.Words.{word_text}
@@ -107,6 +107,11 @@ word_back Stopped = refl
 word_back Asked = refl
 word_back Took = refl
 word_back Over = refl
+word_back Wake = refl
+word_back Lent = refl
+word_back Number = refl
+word_back Kept = refl
+word_back Capture = refl
 
 pub word_lacks_blank : (word : Word) → lacks 32 (word_text word) ≡ true
 word_lacks_blank Version = refl
@@ -123,6 +128,11 @@ word_lacks_blank Stopped = refl
 word_lacks_blank Asked = refl
 word_lacks_blank Took = refl
 word_lacks_blank Over = refl
+word_lacks_blank Wake = refl
+word_lacks_blank Lent = refl
+word_lacks_blank Number = refl
+word_lacks_blank Kept = refl
+word_lacks_blank Capture = refl
 
 word_lacks_feed : (word : Word) → lacks 10 (word_text word) ≡ true
 word_lacks_feed Version = refl
@@ -139,6 +149,11 @@ word_lacks_feed Stopped = refl
 word_lacks_feed Asked = refl
 word_lacks_feed Took = refl
 word_lacks_feed Over = refl
+word_lacks_feed Wake = refl
+word_lacks_feed Lent = refl
+word_lacks_feed Number = refl
+word_lacks_feed Kept = refl
+word_lacks_feed Capture = refl
 
 text_or : List ℕ → Option Word → List ℕ
 text_or text None = text
@@ -167,7 +182,12 @@ word_text_read text =
     text_step text (bytes_eq text (codes "asked")) Asked _ (bytes_eq-Decides text (codes "asked")).0 (
     text_step text (bytes_eq text (codes "took")) Took _ (bytes_eq-Decides text (codes "took")).0 (
     text_step text (bytes_eq text (codes "over")) Over _ (bytes_eq-Decides text (codes "over")).0 (
-    refl))))))))))))))
+    text_step text (bytes_eq text (codes "wake")) Wake _ (bytes_eq-Decides text (codes "wake")).0 (
+    text_step text (bytes_eq text (codes "lent")) Lent _ (bytes_eq-Decides text (codes "lent")).0 (
+    text_step text (bytes_eq text (codes "number")) Number _ (bytes_eq-Decides text (codes "number")).0 (
+    text_step text (bytes_eq text (codes "kept")) Kept _ (bytes_eq-Decides text (codes "kept")).0 (
+    text_step text (bytes_eq text (codes "capture")) Capture _ (bytes_eq-Decides text (codes "capture")).0 (
+    refl)))))))))))))))))))
 
 pub word_is : (text : List ℕ) (word : Word) → word_read text ≡ Some word → text ≡ word_text word
 unfolding text_or

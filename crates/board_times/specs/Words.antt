@@ -1,7 +1,7 @@
--- The words of the file of times.
+-- The words of the file of times, and behind them those of a host alone.
 use Rattle.std.specs.Prelude.{ℕ, List, codes}
 use Rattle.board_times.specs.declared.words.Word.{Word}
-use Rattle.board_times.specs.declared.words.Word.TheVariants.{Version, Digest, Begin, Away, Opened, Answered, Gone, Called, Heard, Added, Stopped, Asked, Took, Over}
+use Rattle.board_times.specs.declared.words.Word.TheVariants.{Version, Digest, Begin, Away, Opened, Answered, Gone, Called, Heard, Added, Stopped, Asked, Took, Over, Wake, Lent, Number, Kept, Capture}
 
 abbrev pub word_text : Word → List ℕ
 word_text Version = codes "times"
@@ -18,3 +18,8 @@ word_text Stopped = codes "stopped"
 word_text Asked = codes "asked"
 word_text Took = codes "took"
 word_text Over = codes "over"
+word_text Wake = codes "wake"
+word_text Lent = codes "lent"
+word_text Number = codes "number"
+word_text Kept = codes "kept"
+word_text Capture = codes "capture"

@@ -127,7 +127,7 @@ fn what_of(tail: Tail) -> Option<What>
 }
 
 /// The line of an event.
-pub(crate) fn line_of(event: Event) -> Line
+pub fn line_of(event: Event) -> Line
     ensures { result ≡ line_of event }
 {
     Line {
@@ -137,7 +137,7 @@ pub(crate) fn line_of(event: Event) -> Line
 }
 
 /// The event of a line, if it has one.
-pub(crate) fn event_of(line: Line) -> Option<Event>
+pub fn event_of(line: Line) -> Option<Event>
     ensures { result ≡ event_of line }
 {
     match what_of(line.tail) {

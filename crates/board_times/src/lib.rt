@@ -13,8 +13,10 @@ mod reading;
 mod words;
 mod writing;
 
-pub use events::{Event, Heading, What};
+pub use events::{Event, Heading, What, event_of, line_of};
 pub use fitting::{Fit, digest, fit_of};
+pub use lines::{Line, Tail, add_line, read_line, split};
 pub use listing::listing_of;
 pub use reading::{Found, Kept, read_times};
+pub use words::Word;
 pub use writing::{event_text, heading_text};

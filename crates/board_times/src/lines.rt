@@ -45,7 +45,7 @@ fn place_of(text: &[u8], separator: u8) -> Option<usize>
 }
 
 /// What stands before the first byte like this, and behind it.
-fn split(text: &[u8], separator: u8) -> Option<(&[u8], &[u8])>
+pub fn split(text: &[u8], separator: u8) -> Option<(&[u8], &[u8])>
     ensures some { IfSome result (λ parts. (text.now ≡ parts.0.now ++ separator ∷ parts.1.now) × (lacks separator parts.0.now ≡ true)) }
     ensures none { IfNone result (lacks separator text.now ≡ true) }
 {
@@ -98,7 +98,7 @@ fn read_tail(text: &[u8]) -> Option<Tail>
 }
 
 /// The line that a text is without its line feed.
-fn read_line(text: &[u8]) -> Option<Line>
+pub fn read_line(text: &[u8]) -> Option<Line>
     ensures some { IfSome result (λ line. Fits line × (text.now ++ 10 ∷ [] ≡ line_text line)) }
     ensures none { IfNone result ((line : LineOf) → Fits line → text.now ++ 10 ∷ [] ≡ line_text line → ⊥) }
 {
@@ -143,7 +143,7 @@ fn add_number(number: Option<u64>, out: &mut Vec<u8>) -> Result<(), AllocError>
 }
 
 /// Adds the text of a line.
-pub(crate) fn add_line(line: Line, out: &mut Vec<u8>) -> Result<(), AllocError>
+pub fn add_line(line: Line, out: &mut Vec<u8>) -> Result<(), AllocError>
     ensures { IfOk result (λ _. out.new.items ≡ out.old.items ++ line_text line) }
 {
     let mut buffer = Buffer::new();

@@ -1,4 +1,4 @@
-//! The words of the file of times.
+//! The words of the file of times, and those with which a host tells a recorder more.
 ghost use Rattle.std.specs.Prelude.{◌≡◌};
 ghost use Rattle.std.specs.Str.{bytes_eq};
 ghost use Rattle.board_times.specs.Words.{word_text};
@@ -21,6 +21,12 @@ pub enum Word {
     Asked,
     Took,
     Over,
+    // of a host alone
+    Wake,
+    Lent,
+    Number,
+    Kept,
+    Capture,
 }
 
 impl Word {
@@ -43,6 +49,11 @@ impl Word {
             Word::Asked => b"asked",
             Word::Took => b"took",
             Word::Over => b"over",
+            Word::Wake => b"wake",
+            Word::Lent => b"lent",
+            Word::Number => b"number",
+            Word::Kept => b"kept",
+            Word::Capture => b"capture",
         }
     }
 }
@@ -98,6 +109,21 @@ pub(crate) fn word_of(text: &[u8]) -> Option<Word>
     }
     if are_same(text, b"over") {
         return Some(Word::Over);
+    }
+    if are_same(text, b"wake") {
+        return Some(Word::Wake);
+    }
+    if are_same(text, b"lent") {
+        return Some(Word::Lent);
+    }
+    if are_same(text, b"number") {
+        return Some(Word::Number);
+    }
+    if are_same(text, b"kept") {
+        return Some(Word::Kept);
+    }
+    if are_same(text, b"capture") {
+        return Some(Word::Capture);
     }
     None
 }

@@ -1,0 +1,15 @@
+-- What holds of each text.
+use Rattle.std.specs.Prelude.{◌≡◌, ℕ, List, ◌++◌}
+use Rattle.live_lines.specs.declared.entries.Entry.{Entry}
+use Rattle.live_lines.specs.Entries.{IsWhole, entry_text}
+use Rattle.live_lines.specs.Next.{IsUnfinished}
+
+-- A text begins with one entry at most.
+abbrev pub IsToldOnce : Type 0
+IsToldOnce = (one other : Entry) (bytes others more rest : List ℕ) → IsWhole one bytes → IsWhole other others
+    → entry_text one bytes ++ more ≡ entry_text other others ++ rest → (one ≡ other) × (bytes ≡ others) × (more ≡ rest)
+
+-- While more is wanted, no entry begins the text.
+abbrev pub WaitsForIt : Type 0
+WaitsForIt = (text : List ℕ) (entry : Entry) (bytes more : List ℕ) → IsUnfinished text → IsWhole entry bytes
+    → text ≡ entry_text entry bytes ++ more → ⊥

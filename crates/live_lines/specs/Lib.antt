@@ -1,0 +1,4 @@
+pub mod Entries
+pub mod Inside
+pub mod Laws
+pub mod Next
