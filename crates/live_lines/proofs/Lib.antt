@@ -1,2 +1,3 @@
+mod AnswerLemmas
 mod EntryLemmas
 mod NextLemmas

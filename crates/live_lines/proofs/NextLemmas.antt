@@ -2,7 +2,7 @@
 use Rattle.std.proofs.Common.{◌≡◌, ◌<◌, ◌≤◌, ◌+◌, ◌-◌, ◌^◌, ℕ, true, List, [], ◌∷◌, ◌++◌, Option, Some, None, decimal, length, suc, take, refl, sym, ap, ◌∙◌, subst, inl, inr, arith}
 use Rattle.std.proofs.Math.Seq.{take-append_seam, take-append-add}
 use Rattle.std.proofs.lemmas.Fmt.{length-decimal-le}
-use Rattle.std.proofs.lemmas.List.{append_assoc, length-append}
+use Rattle.std.proofs.lemmas.List.{append_assoc, append-nil, length-append}
 use Rattle.board_times.specs.declared.words.Word.{Word}
 use Rattle.board_times.specs.declared.words.Word.TheVariants.{Version, Digest, Begin, Away, Opened, Answered, Gone, Called, Heard, Added, Stopped, Asked, Took, Over, Wake, Lent, Number, Kept, Capture}
 use Rattle.board_times.specs.declared.lines.Tail.{Tail}
@@ -14,9 +14,11 @@ use Rattle.board_times.proofs.LineLemmas.{no_line}
 use Rattle.board_times.proofs.TextLemmas.{uncut}
 use Rattle.live_lines.specs.declared.entries.Entry.{Entry}
 use Rattle.live_lines.specs.Entries.{IsEntry, IsWhole, entry_line, entry_text, most, size_of}
-use Rattle.live_lines.specs.Next.{IsUnfinished, IsWrong}
+use Rattle.live_lines.specs.declared.next.Next.{Next}
+use Rattle.live_lines.specs.declared.next.Next.TheVariants.{Told, Waits, Wrong}
+use Rattle.live_lines.specs.Next.{IsNext, IsUnfinished, IsWrong, Tells}
 use Rattle.live_lines.specs.Inside.Reading.{entry_of}
-use Rattle.live_lines.proofs.EntryLemmas.{entry_back, its_line, no_entry, same_entry}
+use Rattle.live_lines.proofs.EntryLemmas.{entry_back, its_line, no_entry, same_entry, told_once}
 
 -- A whole line that is none.
 pub wrong_line : (text a b : List ℕ) → text ≡ a ++ 10 ∷ b → lacks 10 a ≡ true → ((line : Line) → Fits line → a ++ 10 ∷ [] ≡ line_text line → ⊥)
@@ -132,3 +134,10 @@ waits text entry bytes more (inr h) whole e =
     let same = same_entry one entry once.0 in
     fewer (length part) (length bytes) (length more) (size_of one.what) h.4 (whole.1 ∙ ap (λ (it : Entry). size_of it.what) (sym same))
     (ap length once.1 ∙ length-append bytes more)
+
+-- What was written is told.
+pub told : (entry : Entry) (bytes rest : List ℕ) (next : Next) → IsWhole entry bytes → IsNext (entry_text entry bytes ++ rest) next
+    → Tells next entry bytes rest
+told entry bytes rest (Told it) whole h = told_once it.entry entry it.bytes.now bytes it.rest.now rest h.0 whole (sym h.1)
+told entry bytes rest Waits whole h = waits (entry_text entry bytes ++ rest) entry bytes rest h whole refl
+told entry bytes rest Wrong whole h = h [] entry bytes rest whole (append-nil (entry_text entry bytes ++ rest))

@@ -2,7 +2,8 @@
 use Rattle.std.specs.Prelude.{◌≡◌, ℕ, List, ◌++◌}
 use Rattle.live_lines.specs.declared.entries.Entry.{Entry}
 use Rattle.live_lines.specs.Entries.{IsWhole, entry_text}
-use Rattle.live_lines.specs.Next.{IsUnfinished}
+use Rattle.live_lines.specs.declared.next.Next.{Next}
+use Rattle.live_lines.specs.Next.{IsNext, IsUnfinished, Tells}
 
 -- A text begins with one entry at most.
 abbrev pub IsToldOnce : Type 0
@@ -13,3 +14,8 @@ IsToldOnce = (one other : Entry) (bytes others more rest : List ℕ) → IsWhole
 abbrev pub WaitsForIt : Type 0
 WaitsForIt = (text : List ℕ) (entry : Entry) (bytes more : List ℕ) → IsUnfinished text → IsWhole entry bytes
     → text ≡ entry_text entry bytes ++ more → ⊥
+
+-- An entry that was written is told, whatever stands behind it.
+abbrev pub WrittenIsTold : Type 0
+WrittenIsTold = (entry : Entry) (bytes rest : List ℕ) (next : Next) → IsWhole entry bytes → IsNext (entry_text entry bytes ++ rest) next
+    → Tells next entry bytes rest

@@ -23,3 +23,9 @@ abbrev pub IsNext : List ℕ → Next → Type 0
 IsNext text (Told told) = IsWhole told.entry told.bytes.now × (text ≡ entry_text told.entry told.bytes.now ++ told.rest.now)
 IsNext text Waits = IsUnfinished text
 IsNext text Wrong = IsWrong text
+
+-- This entry is told, with these bytes and this rest.
+abbrev pub Tells : Next → Entry → List ℕ → List ℕ → Type 0
+Tells (Told told) entry bytes rest = (told.entry ≡ entry) × (told.bytes.now ≡ bytes) × (told.rest.now ≡ rest)
+Tells Waits entry bytes rest = ⊥
+Tells Wrong entry bytes rest = ⊥
