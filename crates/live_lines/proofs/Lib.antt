@@ -1,3 +1,4 @@
 mod AnswerLemmas
+mod ClockLemmas
 mod EntryLemmas
 mod NextLemmas

@@ -1,5 +1,5 @@
 -- What a recorder answers to an entry: lines, and behind the first one the bytes that the capture gets.
-use Rattle.std.specs.Prelude.{◌==◌, ◌+◌, ℕ, Bool, true, false, if◌then◌else◌, List, [], ◌∷◌, ◌++◌, codes, decimal, length, zero, suc, Option, Some, None}
+use Rattle.std.specs.Prelude.{◌==◌, ◌-◌, ℕ, Bool, true, false, if◌then◌else◌, List, [], ◌∷◌, ◌++◌, codes, decimal, length, zero, suc, Option, Some, None}
 use Rattle.std.specs.Int.{bit_at}
 use Rattle.board_asking.specs.declared.line.Request.{Request}
 use Rattle.board_asking.specs.declared.line.Request.TheVariants.{Dump, Numbered, Start}
@@ -37,10 +37,14 @@ kind_text SettingUp = codes "setup"
 kind_text Silent = codes "silent"
 kind_text Unplugged = codes "unplugged"
 
--- a blank, and a time or that there is none
-abbrev pub time_text : Option ℕ → List ℕ
-time_text None = codes " -"
-time_text (Some n) = codes " " ++ decimal n
+-- a blank, and how long it is from one time to another, or that there is no such time
+abbrev pub since_text : ℕ → Option ℕ → List ℕ
+since_text now None = codes " -"
+since_text now (Some since) = codes " " ++ decimal (now - since)
+
+abbrev pub until_text : ℕ → Option ℕ → List ℕ
+until_text now None = codes " -"
+until_text now (Some due) = codes " " ++ decimal (due - now)
 
 -- a blank, and what may be wrong
 abbrev pub hint_text : Option Hint → List ℕ
@@ -60,17 +64,18 @@ squares_before (suc n) mask = squares_before n mask ++ square_in mask n
 unfoldable pub squares_text : ℕ → List ℕ
 squares_text mask = squares_before 64 mask
 
--- how the board stands: since when, what may be wrong, and on which squares
-abbrev pub state_text : Option State → List ℕ
-state_text None = []
-state_text (Some state) = codes "state " ++ kind_text state.kind ++ time_text state.since ++ hint_text state.hint ++ squares_text state.squares ++ codes "\n"
+-- how the board stands: for how long, what may be wrong, and on which squares
+abbrev pub state_text : ℕ → Option State → List ℕ
+state_text now None = []
+state_text now (Some state) = codes "state " ++ kind_text state.kind ++ since_text now state.since ++ hint_text state.hint
+    ++ squares_text state.squares ++ codes "\n"
 
 -- whether the capture had no room for all bytes
 abbrev pub room_text : Bool → List ℕ
 room_text true = []
 room_text false = codes "full\n"
 
--- all of it: the last line names the time at which the recorder wants to be woken
-abbrev pub answer_text : Answer → List ℕ → List ℕ → Option ℕ → List ℕ
-answer_text answer kept lines due = handling_text answer.handling kept ++ request_text answer.request ++ lines ++ state_text answer.state
-    ++ room_text answer.is_whole ++ codes "done" ++ time_text due ++ codes "\n"
+-- all of it: the last line says in how long the recorder wants to be woken
+abbrev pub answer_text : ℕ → Answer → List ℕ → List ℕ → Option ℕ → List ℕ
+answer_text now answer kept lines due = handling_text answer.handling kept ++ request_text answer.request ++ lines ++ state_text now answer.state
+    ++ room_text answer.is_whole ++ codes "done" ++ until_text now due ++ codes "\n"

@@ -1,6 +1,7 @@
 -- What holds of each text.
-use Rattle.std.specs.Prelude.{◌≡◌, ℕ, List, ◌++◌}
+use Rattle.std.specs.Prelude.{◌≡◌, ◌≤◌, ℕ, List, ◌∷◌, ◌++◌}
 use Rattle.live_lines.specs.declared.entries.Entry.{Entry}
+use Rattle.live_lines.specs.Clock.{clock_after}
 use Rattle.live_lines.specs.Entries.{IsWhole, entry_text}
 use Rattle.live_lines.specs.declared.next.Next.{Next}
 use Rattle.live_lines.specs.Next.{IsNext, IsUnfinished, Tells}
@@ -19,3 +20,7 @@ WaitsForIt = (text : List ℕ) (entry : Entry) (bytes more : List ℕ) → IsUnf
 abbrev pub WrittenIsTold : Type 0
 WrittenIsTold = (entry : Entry) (bytes rest : List ℕ) (next : Next) → IsWhole entry bytes → IsNext (entry_text entry bytes ++ rest) next
     → Tells next entry bytes rest
+
+-- No entry has a time before that of another one that came earlier.
+abbrev pub TimesGoOn : Type 0
+TimesGoOn = (later past : List Entry) → (clock_after past).last ≤ (clock_after (later ++ past)).last

@@ -1,4 +1,5 @@
 pub mod Answers
+pub mod Clock
 pub mod Entries
 pub mod Inside
 pub mod Laws

@@ -1,7 +1,7 @@
 //! What a recorder answers, as lines.
-ghost use Rattle.std.specs.Prelude.{◌≡◌, ◌<◌, ◌==◌, ◌++◌, Some, IfOk, codes, decimal, length};
+ghost use Rattle.std.specs.Prelude.{◌≡◌, ◌-◌, ◌<◌, ◌==◌, ◌++◌, Some, IfOk, codes, decimal, length};
 ghost use Rattle.std.specs.Int.{bit_at};
-ghost use Rattle.live_lines.specs.Answers.{answer_text, handling_text, hint_text, kind_text, request_text, room_text, square_in, squares_text, state_text, time_text};
+ghost use Rattle.live_lines.specs.Answers.{answer_text, handling_text, hint_text, kind_text, request_text, room_text, square_in, since_text, squares_text, state_text, until_text};
 
 use board_asking::{Handling, Request};
 use board_live::Answer;
@@ -88,15 +88,29 @@ fn hint_text(hint: Option<Hint>) -> &'static [u8]
     }
 }
 
-fn add_time(time: Option<u64>, out: &mut Vec<u8>) -> Result<(), AllocError>
-    ensures { IfOk result (λ _. out.new.items ≡ out.old.items ++ time_text time) }
+/// Adds how long it is from the first time to the second one, if there is one.
+fn add_span(from: u64, to: u64, out: &mut Vec<u8>) -> Result<(), AllocError>
+    ensures { IfOk result (λ _. out.new.items ≡ out.old.items ++ codes " " ++ decimal (to - from)) }
 {
-    match time {
+    add(b" ", out)?;
+    add_decimal(to.saturating_sub(from), out)
+}
+
+fn add_since(now: u64, since: Option<u64>, out: &mut Vec<u8>) -> Result<(), AllocError>
+    ensures { IfOk result (λ _. out.new.items ≡ out.old.items ++ since_text now since) }
+{
+    match since {
         None => add(b" -", out),
-        Some(n) => {
-            add(b" ", out)?;
-            add_decimal(n, out)
-        }
+        Some(since) => add_span(since, now, out),
+    }
+}
+
+fn add_until(now: u64, due: Option<u64>, out: &mut Vec<u8>) -> Result<(), AllocError>
+    ensures { IfOk result (λ _. out.new.items ≡ out.old.items ++ until_text now due) }
+{
+    match due {
+        None => add(b" -", out),
+        Some(due) => add_span(now, due, out),
     }
 }
 
@@ -131,23 +145,23 @@ fn add_squares(mask: u64, out: &mut Vec<u8>) -> Result<(), AllocError>
 }
 
 /// Adds how a board stands.
-fn add_standing(state: State, out: &mut Vec<u8>) -> Result<(), AllocError>
-    ensures { IfOk result (λ _. out.new.items ≡ out.old.items ++ state_text (Some state)) }
+fn add_standing(now: u64, state: State, out: &mut Vec<u8>) -> Result<(), AllocError>
+    ensures { IfOk result (λ _. out.new.items ≡ out.old.items ++ state_text now (Some state)) }
 {
     add(b"state ", out)?;
     add(kind_text(state.kind), out)?;
-    add_time(state.since, out)?;
+    add_since(now, state.since, out)?;
     add(hint_text(state.hint), out)?;
     add_squares(state.squares, out)?;
     add(b"\n", out)
 }
 
-fn add_state(state: Option<State>, out: &mut Vec<u8>) -> Result<(), AllocError>
-    ensures { IfOk result (λ _. out.new.items ≡ out.old.items ++ state_text state) }
+fn add_state(now: u64, state: Option<State>, out: &mut Vec<u8>) -> Result<(), AllocError>
+    ensures { IfOk result (λ _. out.new.items ≡ out.old.items ++ state_text now state) }
 {
     match state {
         None => Ok(()),
-        Some(state) => add_standing(state, out),
+        Some(state) => add_standing(now, state, out),
     }
 }
 
@@ -157,29 +171,30 @@ fn room_text(is_whole: bool) -> &'static [u8]
     if is_whole { b"" } else { b"full\n" }
 }
 
-/// Adds the last line: when to wake.
-fn add_done(due: Option<u64>, out: &mut Vec<u8>) -> Result<(), AllocError>
-    ensures { IfOk result (λ _. out.new.items ≡ out.old.items ++ codes "done" ++ time_text due ++ codes "\n") }
+/// Adds the last line: in how long to wake.
+fn add_done(now: u64, due: Option<u64>, out: &mut Vec<u8>) -> Result<(), AllocError>
+    ensures { IfOk result (λ _. out.new.items ≡ out.old.items ++ codes "done" ++ until_text now due ++ codes "\n") }
 {
     add(b"done", out)?;
-    add_time(due, out)?;
+    add_until(now, due, out)?;
     add(b"\n", out)
 }
 
-/// Adds what is answered, with the bytes that the capture gets, the new lines of the report, and when to wake.
+/// Adds what is answered at this time, with the bytes that the capture gets, the new lines of the report, and when to wake.
 pub fn add_answer(
+    now: u64,
     answer: &Answer,
     kept: &[u8],
     lines: &[u8],
     due: Option<u64>,
     out: &mut Vec<u8>,
 ) -> Result<(), AllocError>
-    ensures { IfOk result (λ _. out.new.items ≡ out.old.items ++ answer_text answer.now kept.now lines.now due) }
+    ensures { IfOk result (λ _. out.new.items ≡ out.old.items ++ answer_text now answer.now kept.now lines.now due) }
 {
     add_handling(answer.handling, kept, out)?;
     add(request_text(answer.request), out)?;
     add(lines, out)?;
-    add_state(answer.state, out)?;
+    add_state(now, answer.state, out)?;
     add(room_text(answer.is_whole), out)?;
-    add_done(due, out)
+    add_done(now, due, out)
 }

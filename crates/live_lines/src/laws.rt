@@ -1,5 +1,5 @@
 //! What holds of each text.
-ghost use Rattle.live_lines.specs.Laws.{IsToldOnce, WaitsForIt, WrittenIsTold};
+ghost use Rattle.live_lines.specs.Laws.{IsToldOnce, TimesGoOn, WaitsForIt, WrittenIsTold};
 
 /// A text begins with one entry at most.
 pub fn is_told_once()
@@ -14,4 +14,9 @@ pub fn waits_for_it()
 /// An entry that was written is told, whatever stands behind it.
 pub fn written_is_told()
     ensures { WrittenIsTold }
+{}
+
+/// No entry has a time before that of another one that came earlier.
+pub fn times_go_on()
+    ensures { TimesGoOn }
 {}
