@@ -2,3 +2,4 @@ mod AnswerLemmas
 mod ClockLemmas
 mod EntryLemmas
 mod NextLemmas
+mod RecorderLemmas

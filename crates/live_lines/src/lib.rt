@@ -1,16 +1,20 @@
 //! What a host tells a recorder that is a child of it, line by line, and what the recorder answers.
 //!
-//! `entries.rt` has what is told, and `next.rt` reads the next entry of what came so far; `clock.rt`
-//! counts on from one call to the next; `answers.rt` writes what is answered. `laws.rt` says that it is read in one way.
+//! `entries.rt` has what is told, and `next.rt` reads the next entry of what came so far. `recorder.rt` takes it: `clock.rt` counts
+//! on from one call to the next, `meaning.rt` says what an entry is to the board, and `answers.rt` writes what is answered. `laws.rt`
+//! says that a text is read in one way, and that times go on.
 #![tactic(auto)]
 
 mod answers;
 mod clock;
 mod entries;
 pub mod laws;
+mod meaning;
 mod next;
+mod recorder;
 
 pub use answers::add_answer;
 pub use clock::Clock;
 pub use entries::{Entry, What, entry_line};
 pub use next::{Next, Told, next_entry};
+pub use recorder::Recorder;

@@ -1,0 +1,55 @@
+-- What an entry is to a board that is recorded. Entries are listed with the latest first.
+use Rattle.std.specs.Prelude.{ℕ, List, [], ◌∷◌, if◌then◌else◌}
+use Rattle.board_asking.specs.Serial.{is_serial}
+use Rattle.board_cable.specs.declared.happened.What.{What as AtCable}
+use Rattle.board_cable.specs.declared.happened.What.TheVariants.{Begins as CallBegins, Opens as LineOpens, Answers as ServerAnswers, Closes, HangsUp, Hears as BoardSends, Interrupts, Takes as BoardTaken, Owns as HasNumber, Lends as IsLent, Wakes as TimeCame}
+use Rattle.board_live.specs.declared.happened.What.{What as ToBoard}
+use Rattle.board_live.specs.declared.happened.What.TheVariants.{Cable, Adds as AddsBytes}
+use Rattle.board_live.specs.Moments.{Moment}
+use Rattle.board_times.specs.declared.events.What.{What as Happening}
+use Rattle.board_times.specs.declared.events.What.TheVariants.{Begins, Opens, Answers, Goes, Calls, Hears, Adds, Stops, Takes}
+use Rattle.live_lines.specs.declared.entries.What.{What}
+use Rattle.live_lines.specs.declared.entries.What.TheVariants.{Happens, Lends, Owns}
+use Rattle.live_lines.specs.declared.entries.Entry.{Entry}
+use Rattle.live_lines.specs.Clock.{clock_after}
+
+-- Nobody listened for a while: an answer that comes may be old, and frames are read anew. That nobody was there before a call, what
+-- was asked and that the game is over only name a time.
+abbrev pub happening_of : Happening → ToBoard
+happening_of (Begins n) = Cable CallBegins
+happening_of Opens = Cable LineOpens
+happening_of Answers = Cable ServerAnswers
+happening_of Goes = Cable Closes
+happening_of Calls = Cable HangsUp
+happening_of (Hears n) = Cable BoardSends
+happening_of (Adds n) = AddsBytes
+happening_of (Stops n) = Cable Interrupts
+happening_of Takes = Cable BoardTaken
+happening_of _ = Cable TimeCame
+
+-- the number of the game's board, if these bytes are one
+abbrev pub owned : List ℕ → ToBoard
+owned bytes = if is_serial 145 bytes then Cable (HasNumber bytes) else Cable TimeCame
+
+abbrev pub meaning_of : What → List ℕ → ToBoard
+meaning_of (Happens what) bytes = happening_of what
+meaning_of Lends bytes = Cable IsLent
+meaning_of (Owns n) bytes = owned bytes
+meaning_of _ bytes = Cable TimeCame
+
+-- an entry, with the bytes behind it
+pub record Heard : Type 0 where
+  pub entry : Entry
+  pub bytes : List ℕ
+
+abbrev pub entries_of : List Heard → List Entry
+entries_of [] = []
+entries_of (heard ∷ past) = heard.entry ∷ entries_of past
+
+-- what happened at the board, on the clock of all calls
+abbrev pub moment_by : ℕ → Heard → Moment
+moment_by at heard = record { at = at; what = meaning_of heard.entry.what heard.bytes; bytes = heard.bytes }
+
+abbrev pub moments : List Heard → List Moment
+moments [] = []
+moments (heard ∷ past) = moment_by (clock_after (entries_of (heard ∷ past))).last heard ∷ moments past
