@@ -1,5 +1,5 @@
 -- The clock counts on.
-use Rattle.std.proofs.Common.{◌≤◌, ◌+◌, ◌-◌, ◌^◌, max, min, ℕ, List, [], ◌∷◌, ◌++◌, arith}
+use Rattle.std.proofs.Common.{◌≤◌, ◌+◌, max, ℕ, List, [], ◌∷◌, ◌++◌, arith}
 use Rattle.live_lines.specs.declared.entries.Entry.{Entry}
 use Rattle.live_lines.specs.Clock.{began_by, capped, clock_after}
 

@@ -1,5 +1,5 @@
 -- Entries and their lines.
-use Rattle.std.proofs.Common.{◌≡◌, ◌<◌, ◌≤◌, ℕ, Bool, true, false, List, [], ◌∷◌, ◌++◌, Option, Some, None, length, take, drop, refl, sym, ap, ◌∙◌, subst}
+use Rattle.std.proofs.Common.{◌≡◌, ℕ, Bool, true, false, List, ◌++◌, Option, Some, None, length, take, drop, refl, sym, ap, ◌∙◌}
 use Rattle.std.proofs.Math.Seq.{take-append_seam, drop-append_seam}
 use Rattle.std.proofs.lemmas.List.{append_assoc}
 use Rattle.board_times.specs.declared.words.Word.{Word}
@@ -145,9 +145,9 @@ same_entry one other e = entry_eq one other (sym (entry_back one) ∙ ap entry_o
 -- Texts of one length that begin a text are the same.
 same_front : (a b c d : List ℕ) → length a ≡ length c → a ++ b ≡ c ++ d → (a ≡ c) × (b ≡ d)
 same_front a b c d n e = (
-      sym (take-append_seam a b) ∙ ap (λ k. take k (a ++ b)) n ∙ ap (take (length c)) e ∙ take-append_seam c d,
-      sym (drop-append_seam a b) ∙ ap (λ k. drop k (a ++ b)) n ∙ ap (drop (length c)) e ∙ drop-append_seam c d,
-    )
+  sym (take-append_seam a b) ∙ ap (λ k. take k (a ++ b)) n ∙ ap (take (length c)) e ∙ take-append_seam c d,
+  sym (drop-append_seam a b) ∙ ap (λ k. drop k (a ++ b)) n ∙ ap (drop (length c)) e ∙ drop-append_seam c d,
+)
 
 -- A line that begins the text of an entry, with whatever follows, is its line.
 pub its_line : (line : Line) (b : List ℕ) (entry : Entry) (bytes more : List ℕ) → Fits line → IsWhole entry bytes

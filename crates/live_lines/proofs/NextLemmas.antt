@@ -5,7 +5,6 @@ use Rattle.std.proofs.lemmas.Fmt.{length-decimal-le}
 use Rattle.std.proofs.lemmas.List.{append_assoc, append-nil, length-append}
 use Rattle.board_times.specs.declared.words.Word.{Word}
 use Rattle.board_times.specs.declared.words.Word.TheVariants.{Version, Digest, Begin, Away, Opened, Answered, Gone, Called, Heard, Added, Stopped, Asked, Took, Over, Wake, Lent, Number, Kept, Capture}
-use Rattle.board_times.specs.declared.lines.Tail.{Tail}
 use Rattle.board_times.specs.declared.lines.Line.{Line}
 use Rattle.board_times.specs.Words.{word_text}
 use Rattle.board_times.specs.Lines.{Fits, NumberFits, line_text, number_text, tail_text}
@@ -13,7 +12,7 @@ use Rattle.board_times.specs.Inside.Reading.{lacks}
 use Rattle.board_times.proofs.LineLemmas.{no_line}
 use Rattle.board_times.proofs.TextLemmas.{uncut}
 use Rattle.live_lines.specs.declared.entries.Entry.{Entry}
-use Rattle.live_lines.specs.Entries.{IsEntry, IsWhole, entry_line, entry_text, most, size_of}
+use Rattle.live_lines.specs.Entries.{IsWhole, entry_line, entry_text, most, size_of}
 use Rattle.live_lines.specs.declared.next.Next.{Next}
 use Rattle.live_lines.specs.declared.next.Next.TheVariants.{Told, Waits, Wrong}
 use Rattle.live_lines.specs.Next.{IsNext, IsUnfinished, IsWrong, Tells}

@@ -1,5 +1,5 @@
 -- What holds of each text.
-use Rattle.std.specs.Prelude.{◌≡◌, ◌≤◌, ℕ, List, ◌∷◌, ◌++◌}
+use Rattle.std.specs.Prelude.{◌≡◌, ◌≤◌, ℕ, List, ◌++◌}
 use Rattle.live_lines.specs.declared.entries.Entry.{Entry}
 use Rattle.live_lines.specs.Clock.{clock_after}
 use Rattle.live_lines.specs.Entries.{IsWhole, entry_text}

@@ -51,11 +51,26 @@ impl Recorder {
         let at = self.clock.take(entry);
         let what = meaning_of(entry.what, bytes);
         self.lines.clear();
-        let answer = self.live.take(Happened { at, what }, bytes, &mut self.lines)?;
+        let answer = self
+            .live
+            .take(Happened { at, what }, bytes, &mut self.lines)?;
         let due = self.live.due(at);
         let kept = self.live.kept();
         add_answer(at, &answer, kept, self.lines.as_slice(), due, out)?;
         Ok(())
+    }
+
+    /// Appends the first line of the report: the position at the start.
+    ///
+    /// # Errors
+    ///
+    /// Where there is no memory for it.
+    pub fn first_line(&self, out: &mut Vec<u8>) -> Result<(), AllocError>
+        ensures { (setting : Setting) (recovers : Bool) (past : List Heard) (text : List ℕ) → StandsFor self.now setting recovers past text
+            → OnOk result (out.new.items ≡ out.old.items ++ first_line setting) }
+    {
+        let game = self.live.game();
+        game.first_line(out)
     }
 
     /// The board.

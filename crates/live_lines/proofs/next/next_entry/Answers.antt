@@ -1,4 +1,4 @@
-use Rattle.std.proofs.Common.{sym, ap, ◌∙◌, ◌++◌, ◌≡◌, List, ℕ}
+use Rattle.std.proofs.Common.{sym, ap, ◌∙◌, ◌++◌}
 use Rattle.board_times.specs.declared.lines.Line.{Line}
 use Rattle.board_times.specs.Lines.{line_text}
 use Rattle.board_times.proofs.LineLemmas.{a_line}

@@ -1,4 +1,4 @@
-use Rattle.std.proofs.Common.{rules, ◌≡◌, ◌∷◌, ◌++◌, ℕ, List, ap, ◌∙◌, subst}
+use Rattle.std.proofs.Common.{◌≡◌, ◌∷◌, ◌++◌, ℕ, List, ap, ◌∙◌, subst}
 use Rattle.board_live.specs.Live.{StandsFor as LiveStands}
 use Rattle.board_live.specs.Moments.{Moment}
 use Rattle.live_lines.specs.declared.clock.Clock.{Clock}
