@@ -2,7 +2,7 @@
 //! times; of `board_captures` and `going_back`, captures that go back; of `board_asking`, what a board is sent when, and what is
 //! done with what it sends; of `board_cable`, the same with its bytes; of `board_times`, files of times; of `square_runs`, since
 //! when squares are in masks; of `board_standing`, how a board stands; of `board_game`, one game while its capture grows; of
-//! `board_live`, a board that is recorded.
+//! `board_live`, a board that is recorded; of `live_lines`, what a host tells a recorder, and what it is answered.
 //!
 //! The files `NAME_page.rt` have the examples on the crates' pages, as they stand there: `tests/pages` compares them. They are here
 //! since they load the same libraries.
@@ -84,6 +84,8 @@ mod states;
 mod text_subcommands_page;
 #[cfg(test)]
 mod times;
+#[cfg(test)]
+mod told_lines;
 #[cfg(test)]
 mod typed_lines_page;
 #[cfg(test)]
