@@ -3,3 +3,4 @@ mod ClockLemmas
 mod EntryLemmas
 mod NextLemmas
 mod RecorderLemmas
+mod HistoryLemmas

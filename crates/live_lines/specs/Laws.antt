@@ -1,9 +1,11 @@
 -- What holds of each text.
 use Rattle.std.specs.Prelude.{◌≡◌, ◌≤◌, ℕ, List, ◌++◌}
+use Rattle.board_times.specs.declared.events.Event.{Event}
 use Rattle.live_lines.specs.declared.entries.Entry.{Entry}
 use Rattle.live_lines.specs.Clock.{clock_after}
 use Rattle.live_lines.specs.Entries.{IsWhole, entry_text}
 use Rattle.live_lines.specs.declared.next.Next.{Next}
+use Rattle.live_lines.specs.History.{bytes_in, history_of}
 use Rattle.live_lines.specs.Next.{IsNext, IsUnfinished, Tells}
 
 -- A text begins with one entry at most.
@@ -24,3 +26,7 @@ WrittenIsTold = (entry : Entry) (bytes rest : List ℕ) (next : Next) → IsWhol
 -- No entry has a time before that of another one that came earlier.
 abbrev pub TimesGoOn : Type 0
 TimesGoOn = (later past : List Entry) → (clock_after past).last ≤ (clock_after (later ++ past)).last
+
+-- Whatever the file of times says, each byte of the capture comes once, and in its order: what is lost there costs times and no move.
+abbrev pub EachByteComesOnce : Type 0
+EachByteComesOnce = (events : List Event) (capture : List ℕ) → bytes_in (history_of events capture) ≡ capture

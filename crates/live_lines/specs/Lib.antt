@@ -1,6 +1,7 @@
 pub mod Answers
 pub mod Clock
 pub mod Entries
+pub mod History
 pub mod Inside
 pub mod Laws
 pub mod Meaning

@@ -1,5 +1,5 @@
 //! What holds of each text.
-ghost use Rattle.live_lines.specs.Laws.{IsToldOnce, TimesGoOn, WaitsForIt, WrittenIsTold};
+ghost use Rattle.live_lines.specs.Laws.{EachByteComesOnce, IsToldOnce, TimesGoOn, WaitsForIt, WrittenIsTold};
 
 /// A text begins with one entry at most.
 pub fn is_told_once()
@@ -19,4 +19,9 @@ pub fn written_is_told()
 /// No entry has a time before that of another one that came earlier.
 pub fn times_go_on()
     ensures { TimesGoOn }
+{}
+
+/// Whatever the file of times says, each byte of the capture comes once, and in its order.
+pub fn each_byte_comes_once()
+    ensures { EachByteComesOnce }
 {}

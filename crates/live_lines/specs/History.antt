@@ -1,0 +1,48 @@
+-- What was kept of the calls before, by their capture and its file of times. Events stand in their order, moments with the latest
+-- first.
+use Rattle.std.specs.Prelude.{◌-◌, ℕ, List, [], ◌∷◌, ◌++◌, Option, Some, None, drop, take}
+use Rattle.board_live.specs.Laws.{with_kept, with_told}
+use Rattle.board_live.specs.Moments.{Moment}
+use Rattle.board_standing.specs.declared.heard.Heard.{Heard}
+use Rattle.board_standing.specs.declared.heard.Heard.TheVariants.{Begins as RecorderBegins, Plugs, Unplugs}
+use Rattle.board_times.specs.declared.events.Event.{Event}
+use Rattle.board_times.specs.declared.events.What.{What as Happening}
+use Rattle.board_times.specs.declared.events.What.TheVariants.{Begins, Opens, Goes, Hears, Adds}
+use Rattle.board_times.specs.Fitting.{covered_after}
+use Rattle.live_lines.specs.declared.clock.Clock.{Clock}
+use Rattle.live_lines.specs.declared.entries.What.TheVariants.{Happens}
+use Rattle.live_lines.specs.Clock.{clock_after, next_clock}
+
+-- what an event tells of the line
+abbrev pub news_of : Happening → Option Heard
+news_of (Begins n) = Some RecorderBegins
+news_of Opens = Some Plugs
+news_of Goes = Some Unplugs
+news_of _ = None
+
+-- How many bytes come with an event, if so many have come. Bytes without a time came when the next call began.
+abbrev pub coming : Happening → ℕ → ℕ
+coming (Begins size) covered = size - covered
+coming (Hears n) covered = n
+coming (Adds n) covered = n
+coming _ covered = 0
+
+abbrev pub clock_at : Event → Clock → Clock
+clock_at event clock = next_clock (record { at = event.at; what = Happens event.what }) clock
+
+-- What these events tell, behind what was told before: their bytes are the next of the capture. What is left of it came at last.
+abbrev pub merged : Clock → ℕ → List ℕ → List Event → List Moment → List Moment
+merged clock covered rest [] past = with_kept clock.last rest past
+merged clock covered rest (event ∷ events) past = merged (clock_at event clock) (covered_after event.what covered)
+    (drop (coming event.what covered) rest) events
+    (with_told (clock_at event clock).last (news_of event.what)
+    (with_kept (clock_at event clock).last (take (coming event.what covered) rest) past))
+
+-- the history of a capture, by the events of its file of times
+abbrev pub history_of : List Event → List ℕ → List Moment
+history_of events capture = merged (clock_after []) 0 capture events []
+
+-- all bytes of these moments, in the order in which they came
+abbrev pub bytes_in : List Moment → List ℕ
+bytes_in [] = []
+bytes_in (moment ∷ past) = bytes_in past ++ moment.bytes
