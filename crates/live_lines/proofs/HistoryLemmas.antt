@@ -1,6 +1,10 @@
 -- The bytes of a history are those of its capture.
-use Rattle.std.proofs.Common.{◌≡◌, ℕ, List, [], ◌∷◌, ◌++◌, Option, Some, None, drop, take, refl, sym, ap, ◌∙◌}
+use Rattle.std.proofs.Common.{◌≡◌, ℕ, ◌<◌, ◌+◌, length, List, [], ◌∷◌, ◌++◌, Bool, Option, Some, None, drop, take, get_or, add-one, drop-cons, refl, sym, ap, ◌∙◌, subst}
 use Rattle.std.proofs.lemmas.List.{append_assoc, append-nil, take-append-drop}
+use Rattle.board_events.specs.Settings.{Setting}
+use Rattle.board_live.specs.declared.happened.What.TheVariants.{Keeps, Tells}
+use Rattle.board_live.specs.declared.live.Live.{Live}
+use Rattle.board_live.specs.Live.{StandsFor}
 use Rattle.board_live.specs.Laws.{with_kept, with_told}
 use Rattle.board_live.specs.Moments.{Moment}
 use Rattle.board_standing.specs.declared.heard.Heard.{Heard}
@@ -32,3 +36,57 @@ all_bytes (event ∷ events) clock covered rest past =
 
 pub comes_once : (events : List Event) (capture : List ℕ) → bytes_in (history_of events capture) ≡ capture
 comes_once events capture = all_bytes events (clock_after []) 0 capture []
+
+kept_some : (at : ℕ) (bytes : List ℕ) (past : List Moment) → (bytes ≡ [] → ⊥)
+    → with_kept at bytes past ≡ (let m : Moment = record { at = at; what = Keeps; bytes = bytes } in m) ∷ past
+kept_some at [] past h = absurd (h refl)
+kept_some at (byte ∷ bytes) past h = refl
+
+-- A board to which nothing is told stands for what it stood for.
+pub stays_so : (live : Live) (setting : Setting) (recovers : Bool) (past other : List Moment) (text : List ℕ) → past ≡ other
+    → StandsFor live setting recovers past text → StandsFor live setting recovers other (text ++ [])
+stays_so live setting recovers past other text e s =
+    let P : List Moment → Type 0 = λ p. StandsFor live setting recovers p text in
+    let T : List ℕ → Type 0 = λ t. StandsFor live setting recovers other t in
+    subst T (sym (append-nil text)) (subst P e s)
+
+pub stands_by : (live : Live) (setting : Setting) (recovers : Bool) (past other : List Moment) (text : List ℕ) → past ≡ other
+    → StandsFor live setting recovers past text → StandsFor live setting recovers other text
+stands_by live setting recovers past other text e s =
+    let P : List Moment → Type 0 = λ p. StandsFor live setting recovers p text in
+    subst P e s
+
+pub none_kept : (at : ℕ) (bytes : List ℕ) (past : List Moment) → bytes ≡ [] → past ≡ with_kept at bytes past
+none_kept at bytes past e = sym (ap (λ b. with_kept at b past) e)
+
+pub some_kept : (at : ℕ) (bytes : List ℕ) (past : List Moment) → (bytes ≡ [] → ⊥)
+    → (let m : Moment = record { at = at; what = Keeps; bytes = bytes } in m) ∷ past ≡ with_kept at bytes past
+some_kept at bytes past h = sym (kept_some at bytes past h)
+
+pub some_told : (at : ℕ) (news : Option Heard) (heard : Heard) (past : List Moment) → news ≡ Some heard
+    → (let m : Moment = record { at = at; what = Tells heard; bytes = [] } in m) ∷ past ≡ with_told at news past
+some_told at news heard past e = sym (ap (λ it. with_told at it past) e)
+
+pub merged_step : (clock new : Clock) (covered now-covered : ℕ) (rest now later : List ℕ) (event : Event) (events left : List Event) (at : ℕ)
+    (news : Option Heard) (past : List Moment) → new ≡ clock_at event clock → at ≡ new.last → now-covered ≡ covered_after event.what covered
+    → now ≡ take (coming event.what covered) rest → later ≡ drop (coming event.what covered) rest → news ≡ news_of event.what
+    → events ≡ event ∷ left
+    → merged new now-covered later left (with_told at news (with_kept at now past)) ≡ merged clock covered rest events past
+merged_step clock new covered now-covered rest now later event events left at news past e1 e2 e3 e4 e5 e6 e7 =
+    let c : Clock = clock_at event clock in
+    let v : ℕ = covered_after event.what covered in
+    let r : List ℕ = drop (coming event.what covered) rest in
+    ap (λ (k : Clock). merged k now-covered later left (with_told at news (with_kept at now past))) e1
+    ∙ ap (λ x. merged c x later left (with_told at news (with_kept at now past))) e3
+    ∙ ap (λ x. merged c v x left (with_told at news (with_kept at now past))) e5
+    ∙ ap (λ x. merged c v r left (with_told x news (with_kept x now past))) (e2 ∙ ap (λ (k : Clock). k.last) e1)
+    ∙ ap (λ x. merged c v r left (with_told c.last x (with_kept c.last now past))) e6
+    ∙ ap (λ x. merged c v r left (with_told c.last (news_of event.what) (with_kept c.last x past))) e4
+    ∙ sym (ap (λ x. merged clock covered rest x past) e7)
+
+pub three : (a b c d : List ℕ) → ((a ++ b) ++ c) ++ d ≡ a ++ (b ++ (c ++ d))
+three a b c d = append_assoc (a ++ b) c d ∙ append_assoc a b (c ++ d)
+
+pub cut_at : (events : List Event) (i : ℕ) (event : Event) → i < length events → event ≡ get_or events i event
+    → drop i events ≡ event ∷ drop (i + 1) events
+cut_at events i event lt e = rw (add-one, drop-cons events i event, ← e) refl

@@ -36,10 +36,18 @@ impl Clock {
     /// Takes the next entry. The result is its time on this clock.
     pub fn take(&mut self, entry: Entry) -> u64
         ensures stands { (past : List EntryOf) → self.old ≡ clock_after past → self.new ≡ clock_after (entry ∷ past) }
+        ensures next { self.new ≡ next_clock entry self.old }
         ensures time { result ≡ self.new.last }
     {
         self.began = began_by(entry.what, self.last, self.began);
         self.last = self.last.max(self.began.saturating_add(entry.at));
+        self.last
+    }
+
+    /// The time of the last entry.
+    pub fn last(&self) -> u64
+        ensures { result ≡ self.now.last }
+    {
         self.last
     }
 }

@@ -1,13 +1,15 @@
 //! What a host tells a recorder that is a child of it, line by line, and what the recorder answers.
 //!
 //! `entries.rt` has what is told, and `next.rt` reads the next entry of what came so far. `recorder.rt` takes it: `clock.rt` counts
-//! on from one call to the next, `meaning.rt` says what an entry is to the board, and `answers.rt` writes what is answered. `laws.rt`
+//! on from one call to the next, `meaning.rt` says what an entry is to the board, and `answers.rt` writes what is answered. `history.rt` tells a board what
+//! was kept of the calls before. `laws.rt`
 //! says that a text is read in one way, and that times go on.
 #![tactic(auto)]
 
 mod answers;
 mod clock;
 mod entries;
+mod history;
 pub mod laws;
 mod meaning;
 mod next;
@@ -16,5 +18,6 @@ mod recorder;
 pub use answers::add_answer;
 pub use clock::Clock;
 pub use entries::{Entry, What, entry_line};
+pub use history::tell_history;
 pub use next::{Next, Told, next_entry};
 pub use recorder::Recorder;

@@ -1,0 +1,14 @@
+use Rattle.std.proofs.Common.{◌≡◌, ◌++◌, [], ℕ, Bool, List, drop}
+use Rattle.board_events.specs.Settings.{Setting}
+use Rattle.board_live.specs.Live.{HasBegun, StandsFor}
+use Rattle.board_live.specs.Moments.{Moment}
+use Rattle.live_lines.specs.History.{history_of, merged}
+use Rattle.live_lines.proofs.history.tell_history.Given as goal
+
+abbrev pub invariant-events : goal.invariant-events
+invariant-events l = record {
+  begun : HasBegun l.live;
+  told : (setting : Setting) (recovers : Bool) (text : List ℕ) → StandsFor l.fn.live setting recovers [] text
+      → (past : List Moment) × (more : List ℕ) × (l.lines.items ≡ l.fn.lines.items ++ more) × StandsFor l.live setting recovers past (text ++ more)
+      × (merged l.clock l.covered l.rest (drop l.event-index l.events) past ≡ history_of l.events l.fn.capture);
+}

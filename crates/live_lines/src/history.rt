@@ -1,0 +1,143 @@
+//! What was kept of the calls before.
+ghost use Rattle.std.specs.Prelude.{◌≡◌, ◌↔◌, ◌++◌, [], ℕ, Bool, IsTrue, List, OnOk, drop, take};
+ghost use Rattle.board_events.specs.Settings.{Setting};
+ghost use Rattle.board_live.specs.Laws.{with_kept, with_told};
+ghost use Rattle.board_live.specs.Live.{HasBegun, StandsFor};
+ghost use Rattle.board_live.specs.Moments.{Moment};
+ghost use Rattle.board_times.specs.Fitting.{covered_after};
+ghost use Rattle.live_lines.specs.History.{coming, history_of, news_of};
+
+use crate::clock::Clock;
+use crate::entries::{Entry, What};
+use board_live::{Happened, Live, What as ToBoard};
+use board_standing::Heard;
+use board_times::{Event, What as Happening};
+use std::alloc::AllocError;
+
+fn news_of(what: Happening) -> Option<Heard>
+    ensures { result ≡ news_of what }
+{
+    match what {
+        Happening::Begins(_) => Some(Heard::Begins),
+        Happening::Opens => Some(Heard::Plugs),
+        Happening::Goes => Some(Heard::Unplugs),
+        _ => None,
+    }
+}
+
+fn coming(what: Happening, covered: u64) -> u64
+    ensures { result ≡ coming what covered }
+{
+    match what {
+        Happening::Begins(size) => size.saturating_sub(covered),
+        Happening::Hears(n) => n,
+        Happening::Adds(n) => n,
+        _ => 0,
+    }
+}
+
+fn covered_after(what: Happening, covered: u64) -> u64
+    ensures { result ≡ covered_after what covered }
+{
+    match what {
+        Happening::Begins(size) => size,
+        Happening::Hears(n) => covered.saturating_add(n),
+        Happening::Adds(n) => covered.saturating_add(n),
+        _ => covered,
+    }
+}
+
+/// The first bytes, so many, and those behind them.
+fn cut(bytes: &[u8], count: u64) -> (&[u8], &[u8])
+    ensures first { result.0.now ≡ take count bytes.now }
+    ensures rest { result.1.now ≡ drop count bytes.now }
+{
+    if (bytes.len() as u64) < count {
+        return (bytes, &[]);
+    }
+    let count = count as usize;
+    (&bytes[..count], &bytes[count..])
+}
+
+fn is_nothing(bytes: &[u8]) -> bool
+    ensures { IsTrue result ↔ (bytes.now ≡ []) }
+{
+    bytes.is_empty()
+}
+
+/// Tells a board that its capture got these bytes, if there are any.
+fn keep(live: &mut Live, at: u64, bytes: &[u8], lines: &mut Vec<u8>) -> Result<(), AllocError>
+    requires begun { HasBegun live.old }
+    ensures told { (setting : Setting) (recovers : Bool) (past : List Moment) (text : List ℕ) → StandsFor live.old setting recovers past text
+        → OnOk result ((more : List ℕ) × (lines.new.items ≡ lines.old.items ++ more)
+        × StandsFor live.new setting recovers (with_kept at bytes.now past) (text ++ more)) }
+    ensures begun { OnOk result (HasBegun live.new) }
+{
+    if is_nothing(bytes) {
+        return Ok(());
+    }
+    let what = ToBoard::Keeps;
+    live.take(Happened { at, what }, bytes, lines)?;
+    Ok(())
+}
+
+/// Tells a board news of its line, if there are any.
+fn tell(
+    live: &mut Live,
+    at: u64,
+    news: Option<Heard>,
+    lines: &mut Vec<u8>,
+) -> Result<(), AllocError>
+    requires begun { HasBegun live.old }
+    ensures told { (setting : Setting) (recovers : Bool) (past : List Moment) (text : List ℕ) → StandsFor live.old setting recovers past text
+        → OnOk result ((more : List ℕ) × (lines.new.items ≡ lines.old.items ++ more)
+        × StandsFor live.new setting recovers (with_told at news past) (text ++ more)) }
+    ensures begun { OnOk result (HasBegun live.new) }
+{
+    let Some(heard) = news else {
+        return Ok(());
+    };
+    let what = ToBoard::Tells(heard);
+    live.take(Happened { at, what }, &[], lines)?;
+    Ok(())
+}
+
+fn copy(event: &Event) -> Event
+    ensures { result ≡ event.now }
+{
+    *event
+}
+
+/// Tells a board, of which nothing was told, what was kept of the calls before, and appends the lines of the report. The result is
+/// the clock, which goes on.
+pub fn tell_history(
+    live: &mut Live,
+    events: &[Event],
+    capture: &[u8],
+    lines: &mut Vec<u8>,
+) -> Result<Clock, AllocError>
+    requires begun { HasBegun live.old }
+    ensures told { (setting : Setting) (recovers : Bool) (text : List ℕ) → StandsFor live.old setting recovers [] text
+        → OnOk result ((more : List ℕ) × (lines.new.items ≡ lines.old.items ++ more)
+        × StandsFor live.new setting recovers (history_of events.now capture.now) (text ++ more)) }
+    ensures begun { OnOk result (HasBegun live.new) }
+{
+    let mut clock = Clock::new();
+    let mut covered: u64 = 0;
+    let mut rest = capture;
+    'events: for event in events {
+        let happened = copy(event);
+        let entry = Entry {
+            at: happened.at,
+            what: What::Happens(happened.what),
+        };
+        let at = clock.take(entry);
+        let (now, later) = cut(rest, coming(happened.what, covered));
+        keep(live, at, now, lines)?;
+        tell(live, at, news_of(happened.what), lines)?;
+        covered = covered_after(happened.what, covered);
+        rest = later;
+    }
+    keep(live, clock.last(), rest, lines)?;
+    Ok(clock)
+}
