@@ -30,6 +30,12 @@ BESIDE_MARKS = frozenset("çðñþß")  # letters that stand beside accented vow
 NO_LETTERS = "ªºµƒˆ"  # what Unicode takes for letters, and no name has
 JOINS = "\xa0\xad´·°’‘–—"  # signs that stand between a name's letters: O’Neill
 NOT_FIRST, NOT_LAST = "™µ", "‚„‰"  # signs that begin no word, and that end none
+LETTERS_FIRST = "¡¦¨©«¬®¯±¶¸»"  # signs that are capitals in ISO-8859-2, ISO-8859-5 or Windows-1251: ©imek is Šimek
+LETTERS_LAST = "±¶»"  # and small letters
+LETTERS_OF_CAPITALS = "¦©¬®¯"  # and those with which a word of capitals ends: KOVÁ©
+BEFORE_CYRILLIC = "°´·"  # signs that are capitals in ISO-8859-5
+IN_QUOTES = re.compile(r"(?<![A-Za-z\xc0-\xff])(?:«([^«»]*)»|»([^«»]*)«)(?![A-Za-z\xc0-\xff])")
+WITH_DIAERESIS = frozenset(("aïe", "gaïa", "haïk", "maïa", "maïeul", "taïeb", "zoïa"))  # as in France, but Naďa and Laďka
 WORD = re.compile(r"[A-Za-z\x80-\xff]+")  # of bytes, read as Latin-1
 
 
@@ -118,7 +124,8 @@ def doubtful(content: bytes) -> List[bytes]:
     of_dos: List[bytes] = []
     looks = set()
     for name in dict.fromkeys(part.strip() for part in re.split(rb'[,;\t"\r\n]+|  +', content)):
-        found = [look for word in WORD.findall(name.decode("latin-1")) for look in [look_of(word)] if look]
+        unquoted = IN_QUOTES.sub(lambda quoted: f" {quoted[1] or quoted[2] or ''} ", name.decode("latin-1"))
+        found = [look for word in WORD.findall(unquoted) for look in [look_of(word)] if look]
         looks.update(found)
         if found and found != [Looks.WESTERN]:
             names.append(name)
@@ -145,6 +152,8 @@ def _look_at(word: str, place: int) -> Optional[Looks]:
         return None
     western, central = byte.decode(WESTERN, "replace"), byte.decode("cp1250", "replace")
     before, after = (part.encode("latin-1").decode(WESTERN, "replace").lower() for part in (word[:place][-1:], word[place + 1 :][:1]))
+    if _is_letter_elsewhere(western, before, after, word):
+        return Looks.OTHER
     if not western.isalpha() or western in NO_LETTERS:
         within = (before.isalpha() or western in NOT_FIRST) and (after.isalpha() or western in NOT_LAST)
         return _look_of_sign(western, word, place) if within or western != central or western == UNDEFINED else None
@@ -152,7 +161,14 @@ def _look_at(word: str, place: int) -> Optional[Looks]:
         return None
     if _beside_another(western.lower(), before) or _beside_another(western.lower(), after):
         return Looks.OTHER
-    return _look_of_letter(western, before, after)
+    return _look_of_letter(western.lower(), before, after, word, place)
+
+
+def _is_letter_elsewhere(letter: str, before: str, after: str, word: str) -> bool:
+    """Whether no Western word has this letter or sign first or last, and words in another encoding have: ©imek, ¨æ, ßí."""
+    if not before and after.isalpha():
+        return letter in LETTERS_FIRST + "ß" or (letter in BEFORE_CYRILLIC and after > "\x7f")
+    return not after and before.isalpha() and (letter in LETTERS_LAST or (letter in LETTERS_OF_CAPITALS and word.isupper()))
 
 
 def _look_of_sign(sign: str, word: str, place: int) -> Optional[Looks]:
@@ -170,10 +186,12 @@ def _beside_another(letter: str, other: str) -> bool:
     return bool(other) and other > "\x7f" and other.isalpha() and other != letter and not {letter, other} & BESIDE_MARKS
 
 
-def _look_of_letter(western: str, before: str, after: str) -> Looks:
+def _look_of_letter(letter: str, before: str, after: str, word: str, place: int) -> Looks:
     """By the letters beside it. What is a vowel in the West is often a consonant in Central Europe: è and č, ø and ř, æ and ć."""
-    letter = western.lower()
-    if letter in "àå":  # ŕ and ĺ are rare
+    rest = word[place + 1 :].lower()
+    if letter == "à":  # Àlex, Joàn and Carlà; Vŕba and Sànchez could be either
+        return Looks.EITHER if before and after and not {before, after} & VOWELS else Looks.WESTERN
+    if letter == "å":  # ĺ is rare
         return Looks.WESTERN
     if letter == "ÿ" or (letter == "œ" and after != "u"):  # ź and ś; but cœur
         return Looks.OTHER
@@ -181,17 +199,32 @@ def _look_of_letter(western: str, before: str, after: str) -> Looks:
         return Looks.WESTERN if after in VOWELS and after else Looks.OTHER
     if letter in "ìù":  # Forlì, but Němec and Růžička
         return Looks.OTHER if after else Looks.WESTERN
-    if letter == "ï":  # Loïc, but Ďurica
-        return Looks.WESTERN if before in VOWELS and before else Looks.OTHER
+    if letter == "ï":
+        return _look_of_diaeresis(before, after, word.lower())
     if letter in "ãõ" and after and after in "oe":  # João, Magalhães, Simões
         return Looks.WESTERN
     if letter == "ð" and not before:  # Đorđe; ð begins no word
         return Looks.OTHER
+    if letter == "ð" and (rest == "ur" or (before in VOWELS | {"r"} and after not in VOWELS)):  # Sigurður, Guðmundur; but Srđan
+        return Looks.WESTERN
+    if letter == "þ" and re.match("(?:[áéíóúýæö]|or)[a-z]|[rj][a-záéíóúýæö]", rest):  # Þórhallur, Þráinn; but Ţurcanu
+        return Looks.WESTERN
     if letter == "ø" and after == "y":  # Øystein
         return Looks.WESTERN
+    if letter == "æ" and (before in VOWELS or (not before and after and after in "chkwz")):  # Maćkowiak and Ćwik, but Ægir
+        return Looks.OTHER
     if letter in "øæò" or (letter == "è" and after):  # Lefèvre, but Kučera; Krč could be either
         vowels = sum(beside in VOWELS for beside in (before, after) if beside)
         consonants = sum(beside not in VOWELS for beside in (before, after) if beside)
         if vowels != consonants:
             return Looks.OTHER if vowels > consonants else Looks.WESTERN
     return Looks.WESTERN if letter == "œ" else Looks.EITHER
+
+
+def _look_of_diaeresis(before: str, after: str, word: str) -> Looks:
+    """Of an ï: Loïc, Anaïs and Tolstoï, but Ďurica, Maďar and Laďka."""
+    if before not in VOWELS:
+        return Looks.OTHER
+    if word in WITH_DIAERESIS or (not after and before != "o"):
+        return Looks.EITHER
+    return Looks.OTHER if after and (after in VOWELS or after in "hk") else Looks.WESTERN

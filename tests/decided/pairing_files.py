@@ -308,6 +308,8 @@ WESTERN_NAMES = (
     *("Miloš", "Šimon", "Žižek", "Žarko", "Tomaž", "Dražen", "Kašpar", "Anna\xa0Ley;Jan\xa0de\xa0Boer", "ANNA\xa0LEY", "Andrea\xa0pia"),
     *("MUÑOZ", "PEÑA", "LEÓN", "GÓMEZ", "ASUNCIÓN", "KÖNIG", "SJÖSTRÖM", "MÖLLER", "BJØRN", "SØREN", "NÆSS", "FRANÇOIS", "LOURENÇO"),
     *("GONÇALVES", "ÇELIK", "NICCOLÒ", "SIMÕES", "ŽIŽEK", "DRAŽEN", "GAL·LA", "’t Hooft", "N‘Diaye", "Meyer–Schmidt", "½ – ½;Ben"),
+    *("Guðmundur", "Þórhallsson", "Sigurður", "Þorsteinn", "Þráinn", "Davíð", "Ærø", "Raïssa", "Zoë", "Héloïse", "Tolstoï", "Àlex", "Joàn"),
+    *("«Jörg Müller»", "Jörg «Max Power» Müller", "»Max« Müller", "© Müller", "Müller ®", "Ünal;Maïa;Loïc", "Sànchez;Niccolò", "´t Hooft"),
     *("“Max” Meyer", "‚Tom’ Kern", "„Max“ Meyer", "Jäger;Koç", "Schäfer;Weiß;Bartoç", "Müller;Gaál", "Club d'échecs;Anna"),
 )
 # Not Western, and not asked about: nothing shows it.
@@ -317,7 +319,10 @@ UNCERTAIN_NAMES = ("Koç", "Saraç", "Gaál", "Štefan")
 CENTRAL_NAMES = (
     *("Świercz", "Dvořák", "Kučera", "Čech", "Němec", "Růžička", "Kamiński", "Wałęsa", "Łukasz", "Jiří", "Ćirić", "Petrović"),
     *("Đorđević", "Szőke", "Erdős", "Brăila", "Mureş", "Węgrzyn", "Žák, Jiří", "Vaněk", "Hodaň"),
+    *("Maďar", "Naďa", "Laďka", "Raďo", "Vŕba", "Ćwik", "Maćkowiak", "Anđela", "Ţurcanu"),
+    "Maďar;Tomáš\n2;Müller;Smith\n3;Szabó;Novák\n4;Žák;Šimek",
 )
+LATIN_2_NAMES = ("Šimek", "Žák", "Ťok", "Śliwa", "Źrebiec", "Żak", "Ľuboš", "Łoś", "Bartoś", "Chuť", "KOVÁŠ", "MATJAŽ", "Ťok;Ťapák")
 DOS_NAMES = {
     "cp437": ("Jörg Müller", "Müller", "Jörg", "Größ", "René", "Zoë", "Özil", "É. Voss", "Åse", "García", "López", "Muñoz", "Benoît", "Bräuer", "Ünal",
               "MÜLLER", "MÄRZ", "BÄUMER", "Ärmel", "Übel", "Lefèvre", "Sánchez", "Hernández", "Adrián", "Weiß", "Heß", "Großmann", "Preuße",
@@ -330,7 +335,8 @@ DOS_NAMES = {
               "Baťa", "Kovač", "Kovář", "Đuro", "SRĐAN", "SZŐKE", "VAŇEK", "Brăila", "Ionuţ", "Němec", "Tomáš", "Saša;Dvořák", "Dobrý;Novák", "Čech",
               "Žák", "Śliwa"),
 }
-CYRILLIC_NAMES = ("Петров", "Ли", "Каспаров", "Юдасин")
+CYRILLIC_NAMES = ("Петров", "Ли", "Каспаров", "Юдасин", "Ян", "Ёж")
+ISO_CYRILLIC_NAMES = ("Петров", "Ли", "Ан", "Ян", "Ёж")
 
 
 def encodings() -> None:
@@ -338,7 +344,10 @@ def encodings() -> None:
     encoding that is given is used."""
     for name in WESTERN_NAMES:
         same(name, text_of(name.encode("cp1252")), name)
-    for codec, names in (("cp1250", CENTRAL_NAMES), ("cp1251", CYRILLIC_NAMES), *DOS_NAMES.items()):
+    for codec, names in (
+        ("cp1250", CENTRAL_NAMES), ("iso-8859-2", LATIN_2_NAMES), ("cp1251", CYRILLIC_NAMES), ("iso-8859-5", ISO_CYRILLIC_NAMES),
+        *DOS_NAMES.items(),
+    ):  # fmt: skip
         for name in names:
             content = f"board;white;black\n1;{name};Müller\n".encode(codec, "replace")
             asked = refused(name, Refused, text_of, content)
