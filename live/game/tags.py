@@ -8,7 +8,8 @@ from __future__ import annotations
 
 import re
 import unicodedata
-from typing import Callable, Dict, List, Mapping, Optional, Tuple
+from dataclasses import dataclass, replace
+from typing import Callable, Dict, List, Mapping, Optional, Sequence, Tuple
 
 from live.refused import JOINERS
 
@@ -31,13 +32,14 @@ TITLES = ("GM", "IM", "FM", "CM", "WGM", "WIM", "WFM", "WCM", "AGM", "AIM", "AFM
 NONE = ("", "-", "0")  # what pairing programs write if a player has no rating, title or FIDE id
 HIGHEST_RATING = 3999
 PAIR = re.compile(r'\[(\w+) "((?:[^"\\]|\\.)*)"\]')
-TIME_CONTROL = re.compile(r"(?:\d+/)?\d+(?:\+\d+)?(?::(?:\d+/)?\d+(?:\+\d+)?)*|\*\d+|[?-]", re.ASCII)
-PERIOD = re.compile(  # as an arbiter writes it: 40 moves in 90 minutes, with 30 seconds for each move
-    r"(?:(?P<moves>\d{1,3}) ?/ ?)?(?P<base>\d{1,3}) ?(?P<mark>['’′]|m|min|minutes|Min\.?)?"
-    r"(?: ?\+ ?(?P<increment>\d{1,2}) ?(?:''|’’|′′|[\"”″]|s|sec|seconds|Sek\.?)?(?: ?/ ?(?:move|Zug))?)?",
+TIME_CONTROL = re.compile(r"\*\d+|[?-]|", re.ASCII)  # what PGN has beside periods
+PERIOD = re.compile(  # as an arbiter or PGN writes it: 40 moves in 90 minutes, with 30 seconds for each move
+    r"(?:(?P<moves>\d{1,3}) ?/ ?)?(?P<base>\d{1,6}) ?(?:(?P<minutes>['’′]|m|min|minutes|Min\.?)|(?P<seconds>''|’’|′′|[\"”″]|s|sec|seconds|Sek\.?))?"
+    r"(?: ?\+ ?(?P<increment>\d{1,3}) ?(?:''|’’|′′|[\"”″]|s|sec|seconds|Sek\.?)?(?: ?/ ?(?:move|Zug))?)?",
     re.ASCII,
 )
-MOST_MINUTES = 150  # base times without a mark, but with moves or an increment, count as minutes if none is more than this
+MOST_MINUTES, MOST_MINUTES_FOR_MOVES = 100, 150  # base times without a unit are in minutes up to these
+LEAST_SECONDS = 300  # and in seconds from this
 
 
 class Malformed(Exception):
@@ -103,28 +105,69 @@ def _fide_id(text: str) -> str:
 
 def _time_control(text: str) -> str:
     """In seconds, as PGN has it; `40/90+30` is 40 moves in 90 minutes, and 30 seconds for each move."""
-    in_seconds = _from_minutes(text)
-    if not in_seconds and text and not TIME_CONTROL.fullmatch(text):
+    if TIME_CONTROL.fullmatch(text):
+        return text
+    periods = [Period.of(part) for part in re.split("[:,]", text)]
+    found = [period for period in periods if period]
+    if len(found) < len(periods) or not all(period.moves for period in found[:-1]):
         how = "type 90+30 (minutes and seconds a move), 40/90+30:30+30, or as PGN has it, 40/5400+30:1800+30"
         raise Malformed(f"{text!r} is no time control: {how}")
-    return in_seconds or text
+    known = _with_units(found)
+    if not all(period.unit for period in known):
+        ways = [":".join(period.typed(unit) for period in known) for unit in UNITS]
+        raise Malformed(f"{text!r} can be in minutes or seconds: type {' or '.join(ways)}")
+    for given, period in zip(found, known):
+        if period.moves > period.base and not given.unit:
+            turned = replace(period, moves=period.base, base=period.moves, unit="").typed("")
+            raise Malformed(f"{text!r} has {period.moves} moves in {period.base}{period.unit}: type {turned}, or {period.typed(period.unit)}")
+    return ":".join(period.in_seconds for period in known)
 
 
-def _from_minutes(text: str) -> str:
-    """The periods in seconds, if their base times are in minutes; else empty."""
-    periods = [PERIOD.fullmatch(part.strip()) for part in re.split("[:,]", text)]
-    found = [period.groupdict() for period in periods if period]
-    is_meant = any(period["mark"] or period["moves"] or period["increment"] for period in found)
-    is_short = all(int(period["base"]) <= MOST_MINUTES or period["mark"] for period in found)
-    if len(found) < len(periods) or not is_meant or not is_short or not all(int(period["base"]) for period in found):
-        return ""
-    return ":".join(map(_in_seconds, found))
+UNITS = MINUTES, SECONDS = "min", "s"
 
 
-def _in_seconds(period: Mapping[str, Optional[str]]) -> str:
-    moves = f"{int(period['moves'])}/" if period["moves"] else ""
-    increment = f"+{int(period['increment'])}" if period["increment"] else ""
-    return f"{moves}{int(period['base'] or 0) * 60}{increment}"
+@dataclass(frozen=True)
+class Period:
+    """A period of a time control; no moves are 0, and an unknown unit is empty."""
+
+    moves: int
+    base: int
+    increment: str
+    unit: str = ""
+
+    @staticmethod
+    def of(text: str) -> Optional[Period]:
+        """As it is written; None if it is something else."""
+        found = PERIOD.fullmatch(text.strip())
+        if not found or (found["minutes"] and not int(found["base"])):
+            return None
+        unit = MINUTES if found["minutes"] else SECONDS if found["seconds"] else ""
+        increment = f"+{int(found['increment'])}" if found["increment"] else ""
+        return Period(int(found["moves"] or 0), int(found["base"]), increment, unit)
+
+    @property
+    def in_seconds(self) -> str:
+        """As PGN has it."""
+        return replace(self, base=self.base * (60 if self.unit == MINUTES else 1), unit="").typed("")
+
+    def typed(self, unit: str) -> str:
+        """As it may be typed, in this unit if its own isn't known."""
+        shown = "" if self.is_long and self.unit != MINUTES else self.unit or unit
+        return (f"{self.moves}/" if self.moves else "") + f"{self.base}{shown}{self.increment}"
+
+    @property
+    def is_long(self) -> bool:
+        """Whether a base time without a unit is in seconds."""
+        return self.base == 0 or self.base >= LEAST_SECONDS
+
+
+def _with_units(periods: Sequence[Period]) -> List[Period]:
+    """The periods with their units. A number alone has none, nor has a small one beside large ones."""
+    most = MOST_MINUTES_FOR_MOVES if periods[0].moves else MOST_MINUTES
+    are_short = all(period.unit or (0 < period.base <= most) for period in periods)
+    is_meant = any(period.moves or period.increment or period.unit == MINUTES for period in periods)
+    rest = MINUTES if are_short and is_meant and not any(period.unit == SECONDS for period in periods) else ""
+    return [replace(one, unit=one.unit or (SECONDS if one.is_long else rest)) for one in periods]
 
 
 CHECKS: Dict[str, Callable[[str], str]] = {

@@ -77,6 +77,7 @@ def read_report(content: bytes, round_number: Optional[int], encoding: str = "",
     teams: Dict[int, str] = {}
     wrong: List[Wrong] = []
     unknown: List[str] = []
+    told_of_control: List[str] = []
     for number, line in enumerate(re.split("\r\n|\r|\n", text_of(content, encoding)), 1):
         code = line.lstrip("\ufeff")[:3]
         if code == PLAYER:
@@ -88,19 +89,30 @@ def read_report(content: bytes, round_number: Optional[int], encoding: str = "",
                 wrong.append(Wrong(number, None, f"it {why}: {shown(line[:40].strip())}"))
             else:
                 players[player.number] = player
+        elif code == TIME_CONTROL:
+            told_of_control += no_time_control(number, line)
         elif code == TEAM_OF_2026:
             raise Refused(REFUSED, *of_matches(number))
         elif code == TEAM and not no_matches:
             raise Refused(REFUSED, *question(number))
         elif code == TEAM:
             teams.update(dict.fromkeys(map(int, re.findall(r"\d+", line[36:])), cleaned(line[4:36])))
-        elif line.strip() and code not in (EVENT, SITE, TIME_CONTROL, DATES, *NOT_NEEDED) and not EXTENSION.fullmatch(code):
+        elif line.strip() and code not in (EVENT, SITE, DATES, *NOT_NEEDED) and not EXTENSION.fullmatch(code):
             unknown.append(f"line {number} isn't known, and isn't used: {shown(line.strip())}")
     rounds = max((len(player.games) for player in players.values()), default=0)
     if not 0 < round_number <= rounds:
         raise Refused(REFUSED, f"it has no pairs of round {round_number}: {told_of_rounds(rounds)}")
-    told = [*unknown[:MOST_UNKNOWN], *more_lines(len(unknown) - MOST_UNKNOWN)]
+    told = [*told_of_control[:1], *unknown[:MOST_UNKNOWN], *more_lines(len(unknown) - MOST_UNKNOWN)]
     return _pairs(players, teams, round_number, wrong, told)
+
+
+def no_time_control(number: int, line: str) -> List[str]:
+    """The message about a time control that isn't understood."""
+    try:
+        value_of("TimeControl", cleaned(line[4:]))
+    except Malformed as error:
+        return [f"line {number}, time control: {error}; it isn't used"]
+    return []
 
 
 def of_matches(line: int) -> Tuple[str, str]:
@@ -225,7 +237,7 @@ def _player(number: int, line: str, written: str = "") -> Optional[Player]:
 
 @dataclass(frozen=True)
 class Head:
-    """What a report says about the whole tournament, as the options of a round."""
+    """What a report says about the whole tournament, as the options of a round: it is what may be typed for them."""
 
     event: str = ""
     site: str = ""
@@ -245,7 +257,7 @@ def head_of(content: bytes, round_number: int, encoding: str = "") -> Head:
             day = re.fullmatch(r"(\d\d)/(\d\d)/(\d\d)", line[first : first + 8].strip(), re.ASCII)
             values[code] = "20" + ".".join(day.groups()) if day else ""
     try:
-        control = value_of("TimeControl", values.get(TIME_CONTROL, ""))
+        value_of("TimeControl", values.get(TIME_CONTROL, ""))
     except Malformed:
-        control = ""  # text for readers
-    return Head(values.get(EVENT, ""), values.get(SITE, ""), values.get(DATES, ""), control)
+        values[TIME_CONTROL] = ""  # that is said when the pairs are read
+    return Head(values.get(EVENT, ""), values.get(SITE, ""), values.get(DATES, ""), values.get(TIME_CONTROL, ""))

@@ -209,7 +209,11 @@ def reports() -> None:
     same("round 4", refused("4", Refused, read_report, content, 4, "", True), "it has no pairs of round 4: it has rounds 1 to 3")
     no_number = "it is the report of a tournament: say which round is played, as --round 3"
     same("no round", refused("none", Refused, read_report, content, None), no_number)
-    same("head", head_of(content, 3), Head("Basel Open", "Basel", "2024.06.01", "5400+30"))
+    same("head", head_of(content, 3), Head("Basel Open", "Basel", "2024.06.01", "90+30"))
+    odd = REPORT.replace("122 90+30", "122 90")
+    same("an odd time control", (head_of(odd.encode(), 3).time_control, read_report(odd.encode(), 3, no_matches=True).remarks[0]), (
+        "", "line 4, time control: '90' can be in minutes or seconds: type 90min or 90s; it isn't used",
+    ))  # fmt: skip
     same("cp1252", [of(pairing) for pairing in read_report(REPORT.encode("cp1252"), 3, no_matches=True).boards], boards)
     # A program that counts the bytes of a name, and not its letters: Ü has two.
     by_bytes = REPORT.replace("Ünal, Ben" + " " * 24, "Ünal, Ben" + " " * 23)
