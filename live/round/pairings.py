@@ -9,6 +9,9 @@ from typing import Dict, List, Optional, Sequence, Tuple, Union
 from live.device.network_address import HOW, is_network, read_address
 from live.device.protocol import SERIAL_LENGTH
 from live.game.file_names import OF_A_GAME, OF_A_ROUND
+from live.game.forfeits import BLACK as FORFEIT_OF_WHITE
+from live.game.forfeits import BOTH as BOTH_ABSENT
+from live.game.forfeits import WHITE as FORFEIT_OF_BLACK
 from live.game.forfeits import in_a_table, in_one_word, score_of
 from live.game.options import FEN, FIRST, PLAYERS, RECOVER, STRICT, TAG, assigned
 from live.game.tags import OTHERS, Malformed, cleaned, is_seen, value_of
@@ -22,6 +25,9 @@ DRAW = "1/2-1/2"
 RESULTS = {
     "1-0": "1-0", "0-1": "0-1", DRAW: DRAW, "1/2": DRAW, "½": DRAW, "½-½": DRAW, "0.5-0.5": DRAW, ".5-.5": DRAW, "=-=": DRAW,
 }  # fmt: skip
+FORFEITS = {"+/-": FORFEIT_OF_BLACK, "-/+": FORFEIT_OF_WHITE, "-/-": BOTH_ABSENT}
+STILL_TO_COME = "result is '--', which some programs write before a game: type 0-0 FF if neither player came"
+WRITTEN = "1-0, 0-1, 1/2-1/2, +-, -+ or --"  # what may be in the column result
 NOT_YET = ("", "*", "-", "--", "---")
 BYES = (  # what pairing programs write instead of an opponent, as `normal` makes it
     *("", "bye", "pairingallocatedbye", "notpaired", "unpaired", "absent", "spielfrei", "freilos", "nichtausgelost", "abwesend"),
@@ -160,6 +166,8 @@ def read_pairings(content: bytes, encoding: str = "") -> Pairings:
             taken.wrong.append(read)
         else:
             left_out.append(read.why)
+    open_games = [remark for remark in remarks if STILL_TO_COME in remark]
+    remarks = [remark for remark in remarks if remark not in open_games[1:]]  # once for all
     remarks += [*left_out[:MOST_UNKNOWN], *more_lines(len(left_out) - MOST_UNKNOWN)]
     in_order = tuple(taken.boards[board] for board in sorted(taken.boards))
     lacking = nameless(in_order) if has_devices else []
@@ -181,7 +189,7 @@ def _read(number: int, line: str, sheet: Sheet) -> Union[Pairing, Wrong, LeftOut
         return Wrong(number, None, f"{shown(values['board'] or 'nothing')} is no number of a board: type 1 to {HIGHEST}")
     if any(fields[len(roles) :]):
         return Wrong(number, board, f"it has {len(fields)} fields, and the first line has {len(roles)}")
-    result, why_none = result_of(values["result"])
+    result, why_none = result_of(values["result"], has_devices)
     if not has_devices:
         no_game = without_a_game(board, values["white"], values["black"])
         if no_game:
@@ -190,8 +198,6 @@ def _read(number: int, line: str, sheet: Sheet) -> Union[Pairing, Wrong, LeftOut
     if why:
         return Wrong(number, board, why)
     tags, remarks = _tags(number, values)
-    if why_none and has_devices:
-        return Wrong(number, board, why_none)
     if why_none:
         remarks = (*remarks, f"line {number}, column result: {why_none}; it isn't used")
     return Pairing(
@@ -212,17 +218,19 @@ def _read(number: int, line: str, sheet: Sheet) -> Union[Pairing, Wrong, LeftOut
     )
 
 
-def result_of(text: str) -> Tuple[str, str]:
-    """The result in a table, or how the game was forfeited, as a pairing program writes it; empty if there is none. And what is
-    wrong with it, if anything."""
+def result_of(text: str, is_by_hand: bool = True) -> Tuple[str, str]:
+    """The result in a table, or how the game was forfeited, as an arbiter or a pairing program writes it; empty if there is none. And
+    what is wrong with it, if anything."""
     result = in_one_word(text).replace(",", ".")
+    if text.strip() == BOTH_ABSENT:  # programs may write it before a game
+        return (BOTH_ABSENT, "") if is_by_hand else ("", STILL_TO_COME)
     if result in NOT_YET:
         return "", ""
-    found = RESULTS.get(result) or in_a_table(text)
+    found = RESULTS.get(result) or FORFEITS.get(result) or in_a_table(text)
     if found:
         return found, ""
-    hint = "; if neither player came, 0-0 FF" if result == NOUGHTS else ""
-    return "", f"result is {shown(text)}: type 1-0, 0-1 or 1/2-1/2{hint}"
+    hint = f"{BOTH_ABSENT} if neither player came, or leave it empty" if result == NOUGHTS else WRITTEN
+    return "", f"result is {shown(text)}: type {hint}"
 
 
 def without_a_game(board: int, white: str, black: str) -> str:

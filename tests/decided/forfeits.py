@@ -6,7 +6,7 @@ from live.game.forfeits import Forfeit, fits, in_a_table, read_typed, refuse_pla
 from live.game.game import is_unplayed
 from live.game.reply import Refused
 from live.game.typed import Added
-from live.round.pairings import result_of
+from live.round.pairings import read_pairings, result_of
 from live.round.trf import outcome_of
 
 from decided.table import accepted, refused, same
@@ -47,10 +47,16 @@ def in_tables() -> None:
     for text, expected in (
         ("1-0", ("1-0", "")), ("½ - ½", ("1/2-1/2", "")), ("+ - -", (WHITE, "")), ("0-1 FF", (BLACK, "")), ("0F-0F", (BOTH, "")),
         ("", ("", "")), ("*", ("", "")), ("- : -", ("", "")), ("---", ("", "")),
-        ("0-0", ("", "result is '0-0': type 1-0, 0-1 or 1/2-1/2; if neither player came, 0-0 FF")),
-        ("2-0", ("", "result is '2-0': type 1-0, 0-1 or 1/2-1/2")),
+        ("0-0", ("", "result is '0-0': type -- if neither player came, or leave it empty")),
+        ("2-0", ("", "result is '2-0': type 1-0, 0-1, 1/2-1/2, +-, -+ or --")), ("- -", ("", "")),
+        ("+/-", (WHITE, "")), ("-/+", (BLACK, "")), ("- / +", (BLACK, "")), ("-/-", (BOTH, "")), ("--", (BOTH, "")), (" -- ", (BOTH, "")),
     ):  # fmt: skip
         same(repr(text), result_of(text), expected)
+    still = "result is '--', which some programs write before a game: type 0-0 FF if neither player came"
+    for text, expected in (("--", ("", still)), ("-/-", (BOTH, "")), ("0-0 FF", (BOTH, "")), ("- : -", ("", ""))):
+        same(f"{text!r} of a program", result_of(text, False), expected)
+    read = read_pairings(b"board;white;black;result\n1;A;B;--\n2;C;D;--\n3;E;F;+/-\n")
+    same("a program's table", ([one.result for one in read.boards], read.remarks), (["", "", "+-"], (f"line 2, column result: {still}; it isn't used",)))
 
 
 def codes_of_reports() -> None:

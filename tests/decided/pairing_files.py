@@ -124,7 +124,7 @@ def what_is_not_understood() -> None:
     ))  # fmt: skip
     same("said", read.remarks, (
         "line 4, column WhiteElo: '2O50' is no rating: type up to four digits, as 2050, or nothing; the board is recorded without it",
-        "line 4, column result: result is '2-0': type 1-0, 0-1 or 1/2-1/2; it isn't used",
+        "line 4, column result: result is '2-0': type 1-0, 0-1, 1/2-1/2, +-, -+ or --; it isn't used",
         "line 6: board 3: nobody has no opponent (nobody), and no game is recorded",
         "line 7: board 4: Emil has no opponent (nobody), and no game is recorded",
     ))  # fmt: skip

@@ -62,7 +62,6 @@ def wrong_lines(_: pathlib.Path) -> None:
         ("3,d,A,B,,red", 3, "first is 'red'"),
         ("3,d,A,B,,,../x", 3, "name is '../x'"),
         ("3,d,A,B,,,round", 3, "name is 'round': the files of the round itself are called so"),
-        ("3,d,A,B,,,,2-0", 3, "result is '2-0'"),
         ("3,d,A,B,,,,,,more", 3, "it has 10 fields, and the first line has 9"),
         ('3,d,"A', 3, "a quotation mark isn't closed"),
         ("3,d,A\x00,B", 3, "can't be seen"),
@@ -75,6 +74,10 @@ def wrong_lines(_: pathlib.Path) -> None:
         same([pairing.board for pairing in read.boards], [1, 4])
         same([(wrong.line, wrong.board) for wrong in read.wrong], [(3, board)])
         assert part in read.wrong[0].why, (line, read.wrong)
+    for written, result in ("2-0", ""), ("0-0", ""), ("+/-", "+-"), ("-/+", "-+"), ("--", "--"), ("-/-", "--"):
+        read = read_pairings(f"{header}\n3,d,A,B,,,,{written}\n".encode())
+        same(([(pairing.board, pairing.result) for pairing in read.boards], read.wrong), ([(3, result)], ()))
+        same([remark.partition(": type")[0] for remark in read.remarks], [] if result else [f"line 2, column result: result is '{written}'"])
 
 
 def tags(_: pathlib.Path) -> None:
