@@ -65,6 +65,9 @@ def first_pairings(source: Source) -> Pairings:
         raise Refused(FAILED, why) from None
     except Refused as refused:
         raise Refused(REFUSED, f"{file}: {refused.lines[0]}", *refused.lines[1:]) from None
+    if read.absent and not read.boards and not read.wrong:
+        why = f"none of its boards has a device in {source.boards}: write a line for each there"
+        raise Refused(REFUSED, f"{file}: {why}, with the columns board and device")
     if not read.boards and not read.wrong:
         raise Refused(REFUSED, f"{file} names no board: each line after the first is one, as {EXAMPLE}")
     return read

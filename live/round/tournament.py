@@ -66,7 +66,10 @@ class Tournament:
             return []  # that is said when the pairs are read
         if not is_report(content):
             return []
-        head = head_of(content, self.number, encoding)
+        try:
+            head = head_of(content, self.number, encoding)
+        except Refused as refused:
+            raise Refused(REFUSED, f"{table}: {refused.lines[0]}", *refused.lines[1:]) from None
         said = (("--event", head.event), ("--site", head.site), ("--date", head.date))
         words = [f"{option}={value}" for option, value in said if value]
         return [*words, f"{TAG}=TimeControl={head.time_control}"] if head.time_control else words

@@ -171,7 +171,10 @@ def _pairs(players: Dict[int, Player], teams: Dict[int, str], of: int, wrong: Li
         boards.append(
             Pairing(white.line, number, "", white.name, black.name, result=outcome_of(*codes), tags=tags, remarks=remarks)
         )
-    return Pairings(tuple(boards), tuple(wrong), (*told, *told_of_byes(players, of)), False)
+    byes = told_of_byes(players, of)
+    if not boards and not wrong:
+        raise Refused(REFUSED, f"it has no pair of round {of}: save it again when the round is paired", *byes)
+    return Pairings(tuple(boards), tuple(wrong), (*told, *byes), False)
 
 
 def outcome_of(white: str, black: str) -> str:

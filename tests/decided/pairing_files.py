@@ -207,6 +207,9 @@ def reports() -> None:
     same("wrong", read.wrong, ())
     same("round 1", [pairing.white for pairing in read_report(content, 1, no_matches=True).boards], ["Kern, Anna", "Ünal, Ben", "Roth, Carl", "Ott, Dora"])
     same("round 4", refused("4", Refused, read_report, content, 4, "", True), "it has no pairs of round 4: it has rounds 1 to 3")
+    unpaired = "\n".join([player(1, "", "Kern, Anna", "", "", "", "1.0", "   2 w 1", "0000 - H"), player(2, "", "Ott, Dora", "", "", "", "0.0", "   1 b 0")])
+    told = refused("no pair", Refused, read_report, unpaired.encode(), 2)
+    same("no pair", told, "it has no pair of round 2: save it again when the round is paired")
     no_number = "it is the report of a tournament: say which round is played, as --round 3"
     same("no round", refused("none", Refused, read_report, content, None), no_number)
     same("head", head_of(content, 3), Head("Basel Open", "Basel", "2024.06.01", "90+30"))

@@ -345,6 +345,14 @@ def what_is_missing(folder: pathlib.Path) -> None:
     refuses(call("cup", 2, "--encoding", "windows"), 2, "there is no encoding 'windows'")
     (cup / "report.trf").write_text(REPORT, encoding="utf-8")
     (cup / "round2.csv").write_text("Board;White;Black\n")  # no pair: the report has them
+    (cup / "report.trf").write_bytes(player(1, "", "Dvořák, Jan", "", "   2 w 1").encode("cp1250"))
+    refuses(call("cup", 2), 1, "cup/report.trf: it isn't Unicode, and its names can be read in more than one way:")
+    unpaired = [player(1, "", "Anna", "", "   2 w 1", "0000 - H"), player(2, "", "Ben", "", "   1 b 0")]
+    (cup / "report.trf").write_text("\n".join(unpaired))
+    refuses(call("cup", 2), 1, "cup/report.trf: it has no pair of round 2: save it again when the round is paired")
+    (cup / "report.trf").write_text(REPORT, encoding="utf-8")
+    (cup / "boards.csv").write_text("board,device\n9,/dev/null\n")
+    refuses(call("cup", 2), 1, "cup/report.trf: none of its boards has a device in cup/boards.csv")
     (cup / "boards.csv").unlink()
     refuses(call("cup", 2), 1, "cup/report.trf: it doesn't say where its boards are plugged in: write cup/boards.csv")
     for lines in ("013 SC Turm", "013 SC Turm                             1    9"):  # no player, and one that isn't there
