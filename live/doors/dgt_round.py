@@ -89,6 +89,7 @@ class Asked:
     outputs: Tuple[Output, ...] = ()  # beside the first one
     known: Tuple[str, ...] = ()  # the names of outputs that the tournament's settings have
     encoding: str = ""  # of tables that aren't Unicode; empty if none is given
+    is_encoding_typed: bool = False  # and not set
     no_matches: bool = False  # the teams of a report play none
     tournament: Optional[Tournament] = None  # the one whose round is played
     new: bool = False  # the files of a tournament are to be made
@@ -175,7 +176,10 @@ def of_tournament(arguments: Sequence[str], tournament: Tournament, typed: Seque
     known = tuple(filter(None, map(name_in, words)))
     words = without_those(words, [output.name for output in typed])
     asked = parse([assigned("--round", str(tournament.number)), *words, *arguments])
-    return replace(asked, file=str(table), folder=tournament.games, known=known, tournament=tournament)
+    is_typed = bool(encoding_in(arguments))
+    return replace(
+        asked, file=str(table), folder=tournament.games, known=known, tournament=tournament, is_encoding_typed=is_typed
+    )
 
 
 def folder_of(asked: Asked) -> Tuple[pathlib.Path, int]:
@@ -228,6 +232,8 @@ def play(asked: Asked, program: Program, signals: Signals) -> Outcome:
     file = pathlib.Path(asked.file)
     source = Source(file, round_of(asked.options.round), encoding=asked.encoding, no_matches=asked.no_matches)
     source.in_tournament = asked.tournament is not None
+    if asked.tournament and not asked.is_encoding_typed:
+        source.encoding_set = asked.tournament.encoding
     read = first_pairings(source)
     folder, _ = folder_of(asked)
     files = Paths(str(folder / ROUND))

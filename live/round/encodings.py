@@ -23,6 +23,7 @@ READINGS = (  # what is typed, Python's name, where it is used
     ("cp850", "cp850", "DOS, Western Europe"),
     ("cp852", "cp852", "DOS, Central Europe"),
 )
+NOT_SURE = "it isn't Unicode, and its names can be read in more than one way:"
 MOST_SHOWN = 3  # names
 LONGEST_NAME = 30  # characters of one
 VOWELS = frozenset("aeiouy" + "áâäéíîóôöúüýë")  # accented ones that are the same in both of Europe's encodings
@@ -107,11 +108,16 @@ def _decoded(content: bytes, encoding: str) -> str:
         raise Refused(REFUSED, f"line {line} isn't in the encoding {encoding}: give another one, or save it as UTF-8") from None
 
 
+def is_question(lines: Sequence[str]) -> bool:
+    """Whether this is said of a text that may be in more than one encoding."""
+    return lines[0] == NOT_SURE
+
+
 def question(doubted: Sequence[bytes]) -> List[str]:
     """What to ask: these names in each way."""
     ways = [f"{typed} ({place}): {', '.join(name.decode(codec, 'replace') for name in doubted)}" for typed, codec, place in READINGS]
     return [
-        "it isn't Unicode, and its names can be read in more than one way:",
+        NOT_SURE,
         *ways,
         f"say which is right, as --encoding {READINGS[1][0]} (in tournament.txt: encoding = {READINGS[1][0]}),",
         "or save it as UTF-8",

@@ -34,6 +34,7 @@ from live.guard import traced
 from live.loop import Loop
 from live.refused import DONE, FAILED, REFUSED, Refused
 from live.round.display import Display
+from live.round.encodings import is_question
 from live.round.joining import not_plugged_in, with_some
 from live.round.pairings import EXAMPLE, Pairing, Pairings, Wrong, device_twice
 from live.round.published import Published
@@ -204,19 +205,29 @@ class Round:
 
     # The file.
 
-    def read_again(self) -> str:
-        """Reads the file again. If it can't be read, nothing changes. Returns a message."""
+    def read_again(self) -> None:
+        """Reads the file again, and says what came of it. If it can't be read, nothing changes."""
         try:
             read = self._source.read()
         except OSError as error:
-            return f"refused: {self._file} can't be read ({text_of(error)}): nothing is changed"
+            return self.say(f"refused: {self._file} can't be read ({text_of(error)}): nothing is changed")
         except Refused as refused:
-            return f"refused: {self._file}: {' '.join(refused.lines)}: nothing is changed"
+            return self._refuses_file(refused.lines)
         if not read.boards:
-            return f"refused: {self._file} has no line that is right: nothing is changed"
+            return self.say(f"refused: {self._file} has no line that is right: nothing is changed")
         self._take(read)
         self._look_for_boards()
-        return f"{self._file} is read again: {counted(len(self._right), 'board')}{lines_are_wrong(len(self._wrong))}"
+        return self.say(f"{self._file} is read again: {counted(len(self._right), 'board')}{lines_are_wrong(len(self._wrong))}")
+
+    def _refuses_file(self, lines: Sequence[str]) -> None:
+        """Says why the file isn't taken; a question has a line for each answer."""
+        if not is_question(lines):
+            return self.say(f"refused: {self._file}: {' '.join(lines)}: nothing is changed")
+        for line in (f"refused: {self._file}: {lines[0]}", *lines[1:]):
+            self.say(line)
+        how = "tournament.txt is read again at r" if self._source.in_tournament else "for the option end with q, and start again"
+        self.say(f"nothing is changed; {how}")
+        return None
 
     def _look_for_boards(self) -> None:
         """Finds out which boards are plugged in, if some that are named only by serial number weren't found. This takes a while,
@@ -239,7 +250,7 @@ class Round:
                 self.trouble(traced(plugged))
             elif any(serial in plugged for serial in self._source.wants) and not self._ending:
                 self._source.found(plugged)
-                self.say(self.read_again())
+                self.read_again()
 
         self._looker.do(look, found)
 
@@ -354,7 +365,7 @@ class Round:
                 self.end()
                 return
         elif words[0].lower() == "r" and len(words) == 1:
-            self.say(self.read_again())
+            self.read_again()
         elif words[0].lower() in HELPS:
             self.say(all_ways(sorted(self.rows)).replace("type", "Type", 1))
         elif words[0].isascii() and words[0].isdigit() and not SCORE.fullmatch(text.strip()):
@@ -432,7 +443,7 @@ class Round:
             self.end()
             return
         try:
-            self.say(self.read_again())
+            self.read_again()
         except Exception as error:
             self.refuses("HUP", error)
 

@@ -51,8 +51,7 @@ def words_of(content: bytes, round_number: int, options: Sequence[str], encoding
     for_all: Dict[str, str] = {}
     for_this: Dict[str, str] = {}
     outputs: Dict[Tuple[str, str], int] = {}  # the lines of outputs, by name and round
-    own = re.search(r"(?im)^[^\S\r\n]*encoding[^\S\r\n]*=[^\S\r\n]*(\S+)", loose_text(content))
-    text = text_of(content, encoding or (known_encoding(own.group(1)) if own else ""))
+    text = text_of(content, encoding or encoding_set(content, round_number))
     for number, line in enumerate(re.split("\r\n|\r|\n", text), 1):
         if not line.strip() or line.lstrip().startswith("#"):
             continue
@@ -89,6 +88,15 @@ def words_of(content: bytes, round_number: int, options: Sequence[str], encoding
         elif value and not its_round:
             for_all[word] = typed
     return list({**for_all, **for_this}.values())
+
+
+def encoding_set(content: bytes, round_number: int) -> str:
+    """The encoding that the settings set for a round; empty if they set none. Refused if there is none of that name."""
+    for behind in (rf"[^\S\r\n]+0*{round_number}", ""):
+        own = re.search(rf"(?im)^[^\S\r\n]*encoding{behind}[^\S\r\n]*=[^\S\r\n]*(\S+)", loose_text(content))
+        if own:
+            return known_encoding(own.group(1))
+    return ""
 
 
 def _output(line: int, name: str, value: str) -> Tuple[str, str]:

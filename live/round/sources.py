@@ -39,6 +39,7 @@ class Source:
         self.file = file
         self.boards = file.parent / BOARDS
         self._round, self._looks = round_number, looks
+        self.encoding_set: Callable[[], str] = lambda: ""  # the one that settings have now, where none is typed
         self._encoding = encoding  # of files that aren't Unicode; empty if none is given
         self._no_matches = no_matches  # the teams of a report play none
         self.in_tournament = False  # the round's number is in its file's name
@@ -47,6 +48,7 @@ class Source:
 
     def read(self) -> Pairings:
         """Reads the files. Raises OSError if one can't be read; refused if one isn't a table."""
+        self._encoding = self.encoding_set() or self._encoding
         content = files.beginning(self.file, LARGEST + 1)
         if is_report(content):
             read = read_report(content, self._round, self._encoding, self._no_matches)

@@ -58,6 +58,15 @@ class Tournament:
         words = self._set(options, encoding)
         return [*self._reported(table, encoding or encoding_in(words)), *words]
 
+    def encoding(self) -> str:
+        """The encoding that the settings have now; empty if they have none."""
+        try:
+            return settings.encoding_set(files.beginning(self.settings, LARGEST + 1), self.number)
+        except OSError:
+            return ""
+        except Refused as refused:
+            raise Refused(REFUSED, f"{self.settings}: {refused.lines[0]}") from None
+
     def _reported(self, table: pathlib.Path, encoding: str) -> List[str]:
         """What the tournament's report says about the round, if the pairs are read from one."""
         try:

@@ -8,7 +8,7 @@ from live.refused import Refused
 from live.round.encodings import ENCODING, encoding_in, known_encoding, text_of
 from live.round.joining import joined, placed, with_some
 from live.round.pairings import Pairing, Pairings, Wrong, read_pairings
-from live.round.settings import TEMPLATE, words_of
+from live.round.settings import TEMPLATE, encoding_set, words_of
 from live.round.trf import Head, head_of, is_report, read_matches, read_report
 
 from decided.table import refused, same
@@ -392,6 +392,8 @@ def encodings() -> None:
     same("settings", words_of("encoding = Windows-1250\nevent = Wałęsa".encode("cp1250"), 1, ("--event", ENCODING)), [
         "--encoding=Windows-1250", "--event=Wałęsa",
     ])  # fmt: skip
+    both = "encoding = cp852\nencoding 2 = cp1250\nplace = Łódź".encode("cp1250")
+    same("settings of one round", [encoding_set(both, number) for number in (1, 2, 12)], ["cp852", "cp1250", "cp852"])
     same("typed", encoding_in(["--page", "1", ENCODING, "latin2", "--encoding=cp1250"]), "cp1250")
     same("of DOS", [known_encoding(name) for name in DOS_NAMES], list(DOS_NAMES))
     same("settings of DOS", words_of("encoding = cp850\nplace = Köln".encode("cp850"), 1, ("--site", ENCODING)), [

@@ -199,6 +199,37 @@ def three_rounds(folder: pathlib.Path) -> None:
     read_elsewhere(folder, whole)
 
 
+def encoding_set_later(folder: pathlib.Path) -> None:
+    """A table that is saved in another encoding is asked about over several lines when it is read again; then the setting is read
+    again with it. An encoding that was typed stays."""
+    cup = Cup(folder)
+    table = cup.folder / "round1.csv"
+    table.write_text("board;white;black\n1;Anna;Ben\n")
+    live = cup.round(1)
+    until_line(live, "  1  agrees")
+    table.write_bytes("board;white;black\n1;Świercz;Dvořák\n".encode("cp1250"))
+    live.type("r")
+    for part in (
+        "round1.csv: it isn't Unicode, and its names can be read in more than one way:\n", "  windows-1250 (Central Europe): Świercz, Dvořák\n",
+        "  or save it as UTF-8\n", "  nothing is changed; tournament.txt is read again at r\n",
+    ):  # fmt: skip
+        until_line(live, part)
+    (cup.folder / "tournament.txt").write_text(f"{SETTINGS}\nencoding = windows-1250\n", encoding="utf-8")
+    live.type("r")
+    until_line(live, "is read again: 1 board")
+    until(lambda: '[White "Świercz"]'.encode() in cup.published(1), "the name as it is set to be read")
+    same(stop(live), 0)
+
+    live = cup.round(1, "--encoding", "cp1250")
+    until_line(live, "  1  agrees")
+    (cup.folder / "tournament.txt").write_text(f"{SETTINGS}\nencoding = windows-1251\n", encoding="utf-8")
+    table.write_bytes("board;white;black\n1;Wałęsa;Dvořák\n".encode("cp1250"))
+    live.type("r")
+    until_line(live, "is read again: 1 board")
+    until(lambda: '[White "Wałęsa"]'.encode() in cup.published(1), "the name as it is set to be read")
+    same(stop(live), 0)
+
+
 # Starts the recorder so that it looks at the tournament's files each so many seconds, and publishes quickly.
 LOOKS_EACH = """
 import runpy, sys
