@@ -11,6 +11,7 @@ HOW = "type tcp://HOST:PORT, as tcp://192.168.1.20:2001"
 HIGHEST_PORT = 65535
 LONGEST_HOST = 253
 _FORM = re.compile(r"(?i:tcp)://(?:\[([0-9A-Fa-f:.%\w-]+)\]|([^\[\]:/?#@\s]+)):([0-9]{1,5})/?")
+_NO_DEVICE = re.compile(r"(?i:tcp):.*|(?:[\w-]+(?:\.[\w-]+)+|(?i:localhost)|\[[0-9A-Fa-f:.]+\]):[0-9]{1,5}/?", re.ASCII)  # pi.local:2001
 
 
 @dataclass(frozen=True)
@@ -26,7 +27,7 @@ class Address:
 
 def is_network(device: str) -> bool:
     """Whether a device is the address of a serial server, well written or not."""
-    return device[: len(SCHEME)].lower() == SCHEME
+    return bool(_NO_DEVICE.fullmatch(device))
 
 
 def read_address(device: str) -> Optional[Address]:

@@ -140,6 +140,8 @@ def parse(arguments: Sequence[str]) -> Asked:
     page, arbiter_page = (values.pop(option, None) for option in ("--page", "--arbiter-page"))
     refuse_hosts(page or arbiter_page, hosts, SEE_HELP)
     embed, web = values.pop(EMBED, None), values.pop(WEB, "")
+    if embed and not embed.isascii():
+        raise Refused(ARGUMENTS, f"{EMBED} {embed!r}: {told_of_letters(embed)}")
     if embed and not page:
         raise Refused(ARGUMENTS, f"{EMBED} lets a site show the page, and there is none without --page PORT: {SEE_HELP}")
     delay, publish, encoding = (values.pop(option, None) for option in ("--delay", "--publish", ENCODING))
@@ -161,6 +163,16 @@ def parse(arguments: Sequence[str]) -> Asked:
         no_matches=no_matches,
         new=is_new,
     )
+
+
+def told_of_letters(site: str) -> str:
+    """How a site with letters beyond ASCII is typed."""
+    try:
+        scheme, _, rest = site.strip().lower().rpartition("://")
+        host, colon, port = rest.rstrip("/").partition(":")
+        return f"type it as browsers send it, as {scheme or 'https'}://{host.encode('idna').decode()}{colon}{port}"
+    except UnicodeError:
+        return "type it as browsers send it: open the site, and copy its address, as https://xn--bcher-kva.example"
 
 
 def of_tournament(arguments: Sequence[str], tournament: Tournament, typed: Sequence[Output]) -> Asked:

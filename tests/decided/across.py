@@ -39,6 +39,9 @@ def addresses() -> None:
         same(f"{text} is in the network", is_network(text), text.lower().startswith("tcp:"))
         if expected:
             same(f"{text} written again", read_address(str(expected)), expected)
+    for text in "192.168.1.20:2001", "pi.local:2001", "[::1]:2001", "localhost:2001", "tcp:/192.168.1.20:2001":
+        same(f"{text} is meant for one", (is_network(text), read_address(text)), (True, None))
+    same("cables", [is_network(text) for text in ("usb-1", "pci-0000:00:14.0-usb-0:1:1.0-port0", "/dev/a.b:1", "d", "")], [False] * 5)
     same("one name", same_line("TCP://PI:2001/"), "tcp://pi:2001")
     same("a malformed one", same_line("tcp://PI"), "tcp://PI")
     same("a device", same_line("/dev/../dev/null"), "/dev/null")

@@ -295,6 +295,9 @@ def reports_of_teams() -> None:
     for words, is_none in (["t"], False), (["t", "--matches", "no"], True), (["t", "--matches=yes"], False):
         same(f"typed {words}", parse(words).no_matches, is_none)
     same("set", words_of(b"matches = no", 1, VALUED), ["--matches=no"])
+    for site, typed in ("https://bücher.example", "https://xn--bcher-kva.example"), ("https://Bücher.example:8443/", "https://xn--bcher-kva.example:8443"):
+        told = refused(site, Refused, parse, ["cup.csv", "--page", "8000", f"--embed={site}"])
+        same(site, told, f"--embed {site!r}: type it as browsers send it, as {typed}")
     for no_matches in (False, True):
         later = "\n".join([*PAIRED, "310   1 Team A"]).encode()
         told = refused("the later edition", Refused, read_report, later, 2, "", no_matches)

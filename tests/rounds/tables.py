@@ -67,6 +67,8 @@ def wrong_lines(_: pathlib.Path) -> None:
         ("3,d,A\x00,B", 3, "can't be seen"),
         ("1,d", 1, "board 1 is in line 2 already: type another"),
         ("3,/dev/a", 3, "/dev/a is the device of board 1, line 2: each has its own"),
+        ("3,192.168.1.20:2001,A,B", 3, "device is '192.168.1.20:2001': type tcp://HOST:PORT, as tcp://192.168.1.20:2001"),
+        ("3,tcp:/192.168.1.20:2001,A,B", 3, "device is 'tcp:/192.168.1.20:2001': type tcp://HOST:PORT, as tcp://192.168.1.20:2001"),
         ("3,tcp://pi,A,B", 3, "device is 'tcp://pi': type tcp://HOST:PORT, as tcp://192.168.1.20:2001"),
         ("3,d,A,B,,,01", 3, "01 is the name of the game of board 1: type another"),
     ):
