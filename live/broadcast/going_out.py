@@ -4,6 +4,7 @@ game of the round or series for which it was given."""
 from __future__ import annotations
 
 import math
+import os
 from dataclasses import dataclass
 from typing import Optional, Sequence, Tuple
 
@@ -42,7 +43,7 @@ def read_delay(text: str) -> float:
 
 
 def read_command(text: str, option: str = "--publish") -> Tuple[str, ...]:
-    """The words of a command. Refused if it has none."""
+    """The words of a command; `~/` before it is the home folder. Refused if it has none."""
     import shlex  # only a few calls need it
 
     try:
@@ -54,7 +55,12 @@ def read_command(text: str, option: str = "--publish") -> Tuple[str, ...]:
         why = "it is a command, as /home/anna/copy.sh"
     if not words:
         raise Refused(ARGUMENTS, f"{option}: {why}")
-    return words
+    return (in_home(words[0]), *words[1:])
+
+
+def in_home(text: str) -> str:
+    """A path whose `~/` is the home folder, as a shell has it."""
+    return os.path.expanduser(text) if text == "~" or text.startswith("~/") else text
 
 
 def minutes(seconds: float) -> str:

@@ -9,7 +9,7 @@ import re
 from dataclasses import dataclass
 from typing import List, Optional, Sequence, Tuple
 
-from live.broadcast.going_out import GoingOut, minutes, read_command, seconds_in
+from live.broadcast.going_out import GoingOut, in_home, minutes, read_command, seconds_in
 from live.game.file_names import OF_AN_OUTPUT
 from live.game.files import new_of, remove, text_of
 from live.refused import ARGUMENTS, REFUSED, Refused
@@ -75,7 +75,7 @@ def read_output(text: str) -> Output:
     words = read_command(command, f"{OPTION} {name}") if command else ()
     if words and words[0].endswith(","):
         raise _refused(name, f"a comma is behind the minutes and behind web FOLDER alone, as {LONG_EXAMPLE}")
-    return Output(name, GoingOut(seconds, words, name), web)
+    return Output(name, GoingOut(seconds, words, name), in_home(web))
 
 
 def _refused(name: str, why: str) -> Refused:

@@ -1,11 +1,12 @@
 """`--publish COMMAND`: runs the command with the path of the broadcast's file after each change, beside the loop.
 
 `Plan` decides when it runs, and is pure. The command's standard output is dropped; if it fails, the last line of its standard
-error is reported. The command's own words are never reported: they may contain a secret.
+error is reported. Of the command's own words only its program is ever reported: the others may contain a secret.
 """
 
 from __future__ import annotations
 
+import errno
 import os
 import select
 import signal
@@ -93,8 +94,20 @@ def run(words: Sequence[str], path: AnyPath, seconds: float) -> str:
     if word == "ended":
         return "" if more == "0" else last_line(tail) or _status(int(more))
     if word == "unstarted":
-        return f"{printable(words[0])} can't be started: {more}"
+        return f"the command {shown(words[0])} can't be started: {_why_unstarted(words[0], more)}"
     return "an earlier run of the command goes on" if word == "beside" else f"the command took more than {seconds:.0f} s, and was ended"
+
+
+def _why_unstarted(program: str, reason: str) -> str:
+    """Why a program can't be started, in plain words if it isn't there."""
+    if reason != os.strerror(errno.ENOENT):
+        return reason
+    return "its first line names a program that isn't there" if os.path.exists(program) else "there is no such file"
+
+
+def shown(text: str) -> str:
+    """Safe to show on a terminal."""
+    return "".join(letter if letter.isprintable() else "?" for letter in text)[:LONGEST_LINE]
 
 
 def argument(path: AnyPath) -> str:
@@ -135,7 +148,7 @@ def last_line(text: bytes) -> str:
     """The last line that isn't empty, safe to show on a terminal."""
     lines = [line.strip() for line in text.decode("utf-8", "replace").replace("\r", "\n").split("\n")]
     said = next((line for line in reversed(lines) if line), "")
-    return "".join(letter if letter.isprintable() else "?" for letter in said)[:LONGEST_LINE]
+    return shown(said)
 
 
 def _status(status: int) -> str:

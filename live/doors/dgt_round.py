@@ -9,7 +9,7 @@ from dataclasses import dataclass, replace
 from typing import Dict, List, Optional, Sequence, Tuple
 
 from live.broadcast.broadcast import Broadcast
-from live.broadcast.going_out import GoingOut, delay_of, minutes, read_command, read_delay
+from live.broadcast.going_out import GoingOut, delay_of, in_home, minutes, read_command, read_delay
 from live.broadcast.named_output import OPTION as OUTPUT
 from live.broadcast.named_output import (
     Output, left_in, name_in, read_outputs, refuse_games_in_site, refuse_links, refuse_shared_sites, refuse_unknown, removed, told_of,
@@ -33,7 +33,7 @@ from live.round.display import terminal_of_lines
 from live.round.encodings import ENCODING, encoding_in, known_encoding
 from live.round.round import Round, first_pairings, refuse_another_round
 from live.round.row import Hall
-from live.round.site import SiteFiles
+from live.round.site import SiteFiles, kept_rounds
 from live.round.sources import Source
 from live.round.tournament import Tournament, made, tournament_of
 from live.round.tournament_files import RESULTS, TournamentFiles, all_text, results_text
@@ -87,6 +87,7 @@ class Asked:
     publish: Tuple[str, ...] = ()  # a command
     web: str = ""  # the folder of the static site
     outputs: Tuple[Output, ...] = ()  # beside the first one
+    moved: Tuple[Tuple[str, str], ...] = ()  # the folder of a site in a tournament's, and the one that its path alone names
     known: Tuple[str, ...] = ()  # the names of outputs that the tournament's settings have
     encoding: str = ""  # of tables that aren't Unicode; empty if none is given
     is_encoding_typed: bool = False  # and not set
@@ -99,6 +100,13 @@ class Asked:
 
 def parse(arguments: Sequence[str]) -> Asked:
     """What the arguments ask for. Refused with status 2 if they make no sense."""
+    asked = each_read(arguments)
+    refuse_shared_sites(asked.web, asked.outputs)
+    return asked
+
+
+def each_read(arguments: Sequence[str]) -> Asked:
+    """The same, wherever their sites are."""
     left = list(arguments)
     plain: List[str] = []
     words: List[str] = []
@@ -139,7 +147,7 @@ def parse(arguments: Sequence[str]) -> Asked:
     linger = linger_of(values.pop("--linger", str(LINGER)))
     page, arbiter_page = (values.pop(option, None) for option in ("--page", "--arbiter-page"))
     refuse_hosts(page or arbiter_page, hosts, SEE_HELP)
-    embed, web = values.pop(EMBED, None), values.pop(WEB, "")
+    embed, web = values.pop(EMBED, None), in_home(values.pop(WEB, ""))
     if embed and not embed.isascii():
         raise Refused(ARGUMENTS, f"{EMBED} {embed!r}: {told_of_letters(embed)}")
     if embed and not page:
@@ -147,8 +155,6 @@ def parse(arguments: Sequence[str]) -> Asked:
     delay, publish, encoding = (values.pop(option, None) for option in ("--delay", "--publish", ENCODING))
     no_matches = read_matches(values.pop(MATCHES, ""))
     words += [assigned(option, value) for option, value in values.items()]
-    named = read_outputs(outputs)
-    refuse_shared_sites(web, named)
     return Asked(
         plain[0],
         "".join(plain[1:]),
@@ -158,7 +164,7 @@ def parse(arguments: Sequence[str]) -> Asked:
         None if delay is None else read_delay(delay),
         () if publish is None else read_command(publish),
         web,
-        named,
+        read_outputs(outputs),
         encoding=known_encoding(encoding) if encoding else "",
         no_matches=no_matches,
         new=is_new,
@@ -175,23 +181,42 @@ def told_of_letters(site: str) -> str:
         return "type it as browsers send it: open the site, and copy its address, as https://xn--bcher-kva.example"
 
 
-def of_tournament(arguments: Sequence[str], tournament: Tournament, typed: Sequence[Output]) -> Asked:
-    """The round of a tournament: what its settings say, and what is typed in addition, with these outputs."""
+def of_tournament(arguments: Sequence[str], tournament: Tournament, typed: Asked) -> Asked:
+    """The round of a tournament: what its settings say, and what is typed in addition. A relative path of a site in the settings
+    begins at the tournament's folder."""
     table = tournament.table()
     words = tournament.words(table, VALUED, encoding_in(arguments))
     if RECOVER in arguments or STRICT in arguments:
         words = [word for word in words if word not in (RECOVER, STRICT)]
     try:
-        parse([*words, str(table)])
+        with_sites_in(each_read([*words, str(table)]), tournament.folder, Asked())
     except Refused as refused:
         raise Refused(REFUSED, f"{tournament.settings}: {refused.lines[0].replace(f': {SEE_HELP}', '')}") from None
     known = tuple(filter(None, map(name_in, words)))
-    words = without_those(words, [output.name for output in typed])
-    asked = parse([assigned("--round", str(tournament.number)), *words, *arguments])
+    words = without_those(words, [output.name for output in typed.outputs])
+    asked = each_read([assigned("--round", str(tournament.number)), *words, *arguments])
+    asked = with_sites_in(asked, tournament.folder, typed)
     is_typed = bool(encoding_in(arguments))
     return replace(
         asked, file=str(table), folder=tournament.games, known=known, tournament=tournament, is_encoding_typed=is_typed
     )
+
+
+def with_sites_in(asked: Asked, folder: pathlib.Path, typed: Asked) -> Asked:
+    """With the sites that aren't typed in this folder, unless their paths are absolute. Refused if one is in another's folder."""
+    names = [output.name for output in typed.outputs]
+    moved: List[Tuple[str, str]] = []
+
+    def placed(web: str, is_typed: bool) -> str:
+        place = str(folder / web) if web and not is_typed else web
+        if place != web:
+            moved.append((place, web))
+        return place
+
+    web = placed(asked.web, bool(typed.web))
+    outputs = tuple(replace(output, web=placed(output.web, output.name in names)) for output in asked.outputs)
+    refuse_shared_sites(web, outputs)
+    return replace(asked, web=web, outputs=outputs, moved=tuple(moved))
 
 
 def folder_of(asked: Asked) -> Tuple[pathlib.Path, int]:
@@ -289,6 +314,8 @@ def play(asked: Asked, program: Program, signals: Signals) -> Outcome:
         games.say("type help to see what can be typed, and q to end")
     signals.tell(loop, games.end, games.hung_up)
     more = files_of(asked.tournament, loop, games) if asked.tournament else None
+    for line in told_of_sites(asked):
+        games.say(line)
     sites = sites_of(asked, loop, games, Title(shown, given.round or "", late))
     loop.run()
     pages.close()
@@ -307,6 +334,21 @@ def files_of(tournament: Tournament, loop: Loop, games: Round) -> TournamentFile
     kept = TournamentFiles(loop, texts, games.say, games.trouble)
     games.broadcast.take_along(kept)
     return kept
+
+
+def told_of_sites(asked: Asked) -> List[str]:
+    """Where each site is; and where an earlier version has begun it, which took a relative path from here, and `~` for a name."""
+    lines = []
+    home, moved = os.path.expanduser("~"), dict(asked.moved)
+    for whose, web in (("", asked.web), *((f" of output {output.name}", output.web) for output in asked.outputs if output.out)):
+        if not web:
+            continue
+        place = os.path.abspath(web)
+        lines.append(f"the site{whose} is in {place}")
+        earlier = moved.get(web) or (f"~{place[len(home):]}" if place.startswith(f"{home}/") else web)
+        if kept_rounds(pathlib.Path(earlier)) and not kept_rounds(pathlib.Path(place)):
+            lines.append(f"an earlier site{whose} is in {os.path.abspath(earlier)}: to go on with it, end this, and move it to {place}")
+    return lines
 
 
 def sites_of(asked: Asked, loop: Loop, games: Round, title: Title) -> List[SiteFiles]:
@@ -339,7 +381,7 @@ def main(arguments: Sequence[str], here: str) -> int:
             return DONE, ()
         tournament = tournament_of(asked.file, asked.folder)
         if tournament:
-            asked = of_tournament(arguments, tournament, asked.outputs)
+            asked = of_tournament(arguments, tournament, asked)
         return play(asked, Program.find(here), signals)
 
     return through("dgt_round", answered)

@@ -186,6 +186,8 @@ def kept_delays() -> None:
     for text in ("", "-1", "1e3", "x", "15m", "1441", "nan", "inf", "٣", "0x5", "1 5", "."):
         refused(f"--delay {text}", Refused, read_delay, text)
     same("--publish", read_command("curl --config '/home/anna/my file' -T"), ("curl", "--config", "/home/anna/my file", "-T"))
+    home = os.path.expanduser("~")
+    same("--publish ~/", read_command("~/copy.sh ~/x a~/b"), (f"{home}/copy.sh", "~/x", "a~/b"))
     for text in ("", "  ", "cp '"):
         refused(f"--publish {text!r}", Refused, read_command, text)
     same("nothing is said", GoingOut(), GoingOut(0.0, ()))
@@ -296,7 +298,13 @@ def runs_of_a_command() -> None:
             ("import signal, sys; sys.exit(len(signal.pthread_sigmask(signal.SIG_BLOCK, [])))", ""),
         ]:
             same(program, run([*python, program], path, 60.0), said)
-        same("no such program", run(["/nowhere"], path, 60.0), "/nowhere can't be started: No such file or directory")
+        same("no such program", run(["/nowhere", "secret"], path, 60.0), "the command /nowhere can't be started: there is no such file")
+        script = pathlib.Path(folder) / "copy.sh"
+        script.write_text("#!/nowhere\n")
+        same("a script that may not run", run([str(script)], path, 60.0), f"the command {script} can't be started: Permission denied")
+        script.chmod(0o700)
+        why = "its first line names a program that isn't there"
+        same("a script of nothing", run([str(script)], path, 60.0), f"the command {script} can't be started: {why}")
         number = pathlib.Path(folder) / "number"
         slow = f"import os, subprocess, time; open({str(number)!r}, 'w').write(str(subprocess.Popen(['sleep', '99']).pid)); time.sleep(99)"
         same("one that is too slow", run([*python, slow], path, 8.0), "the command took more than 8 s, and was ended")

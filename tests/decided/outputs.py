@@ -20,6 +20,7 @@ from live.round.settings import TEMPLATE, words_of
 
 from decided.table import refused, same
 
+HOME = os.path.expanduser("~")
 GIVEN: List[Tuple[str, Output]] = [
     ("agency=3", Output("agency", GoingOut(180.0, (), "agency"))),
     ("agency = 3 minutes, /home/anna/agency.sh", Output("agency", GoingOut(180.0, ("/home/anna/agency.sh",), "agency"))),
@@ -28,6 +29,8 @@ GIVEN: List[Tuple[str, Output]] = [
     ("hall-2 = 1 minute, scp -o A=b,c", Output("hall-2", GoingOut(60.0, ("scp", "-o", "A=b,c"), "hall-2"))),
     ("public = 15, web /srv/my site, /home/anna/public.sh", Output("public", GoingOut(900.0, ("/home/anna/public.sh",), "public"), "/srv/my site")),
     ("public = 15, web /srv/www", Output("public", GoingOut(900.0, (), "public"), "/srv/www")),
+    ("public = 15, web ~/my site, ~/public.sh", Output("public", GoingOut(900.0, (f"{HOME}/public.sh",), "public"), f"{HOME}/my site")),
+    ("public = 15, web ./~", Output("public", GoingOut(900.0, (), "public"), "./~")),
     ("public=15,", Output("public", GoingOut(900.0, (), "public"))),
     ("public = 15, website.sh", Output("public", GoingOut(900.0, ("website.sh",), "public"))),
     ("public = no", Output("public")),
