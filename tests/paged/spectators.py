@@ -184,6 +184,14 @@ CUT = """[...document.querySelectorAll('.tile :is(.player, .about, .team, .clock
   const [place, card] = [one, one.closest('.tile')].map((where) => where.getBoundingClientRect());
   return one.scrollWidth > one.clientWidth + 1 || one.scrollHeight > one.clientHeight + 1 || place.right > card.right || place.bottom > card.bottom;
 }).map((one) => one.textContent).join('; ')"""
+RATING_BEHIND = """(() => {{
+  const place = document.querySelector('{}');
+  const rating = place.querySelector('.rating');
+  const range = document.createRange();
+  range.setStart(place.querySelector('.rating').parentNode, 0);
+  range.setEndBefore(rating);
+  return rating.getBoundingClientRect().left >= range.getBoundingClientRect().right - 1;
+}})()"""
 LINES = """[...document.querySelectorAll('.tile .seat')].every((seat) => {
   const lines = ['.player', '.clock', '.team:not(:empty)'].map((where) => seat.querySelector(where)).filter((one) => one);
   return lines.every((line, at) => at === 0 || line.getBoundingClientRect().top >= lines[at - 1].getBoundingClientRect().bottom - 1);
@@ -219,7 +227,17 @@ def halls() -> None:
             page.says("nothing to the side", "document.documentElement.scrollWidth <= innerWidth", True)
             page.tab.value("location.hash = '#1'")
             page.reads("one board", "#title", "Board 1")
-            page.says("nothing is cut there", CUT.replace(".tile :is", "#play :is").replace("closest('.tile')", "closest('#play')"), "")
+            site.show(a_spectators_board(1, 4, white="Sankaranarayanan, Lakshmi Priyadarshini", black="محمد بن عبد الله", titles=["WIM", ""],
+                                         ratings=["2345", "2512"]))  # fmt: skip
+            for media in ("screen", "print"):
+                page.tab.call("Emulation.setEmulatedMedia", media=media)
+                page.reads(f"title, name and rating, {media}", "#lower .player", "White: WIM Sankaranarayanan, Lakshmi Priyadarshini 2345")
+                page.says(f"nothing is cut there, {media}", CUT.replace(".tile :is", "#play :is").replace("closest('.tile')", "closest('#play')"), "")
+                page.says(f"an Arabic name has its rating behind it, {media}", RATING_BEHIND.format("#upper"), True)
+            page.tab.call("Emulation.setEmulatedMedia", media="")
+            page.tab.look(1440, 900)  # so that they are in one line
+            page.tab.value("location.hash = '#results'")
+            page.says("in the results too", RATING_BEHIND.format("#result-rows td:last-child"), True)
             closed(site, page)
 
 

@@ -47,6 +47,6 @@ export function showPlayer(where, board, index) {
   const [title, name, rating] = partsOf(board, index);
   where.replaceChildren();
   if (title) where.append(element('span', 'title', title), ' ');
-  where.append(name);
+  where.append(element('bdi', '', name));
   if (rating) where.append(' ', element('span', 'rating', rating));
 }
