@@ -153,6 +153,8 @@ def view_of(game: Game) -> BoardView:
         name=game.name,
         white=written_name(game, "White"),
         black=written_name(game, "Black"),
+        titles=(game.tags.get("WhiteTitle", ""), game.tags.get("BlackTitle", "")),
+        ratings=(game.tags.get("WhiteElo", ""), game.tags.get("BlackElo", "")),
         teams=(game.tags.get("WhiteTeam", ""), game.tags.get("BlackTeam", "")),
         federations=(game.tags.get("WhiteFed", ""), game.tags.get("BlackFed", "")),
         result=board.result,

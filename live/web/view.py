@@ -22,13 +22,15 @@ class BoardView:
 
     `positions` are FENs: of the start and after each ply, as far as they are known. `state` is in words, without a time;
     `since` is when it began, in the time of `Loop.now`. `mend` is what an arbiter may type about it. The clocks are White's and
-    Black's, empty if unknown; so are teams and federations.
+    Black's, empty if unknown; so are titles, ratings, teams and federations.
     """
 
     number: int
     name: str
     white: str = ""
     black: str = ""
+    titles: Tuple[str, str] = ("", "")
+    ratings: Tuple[str, str] = ("", "")
     teams: Tuple[str, str] = ("", "")
     federations: Tuple[str, str] = ("", "")
     result: str = "*"
@@ -100,6 +102,8 @@ def board_text(board: BoardView, offset: float, before: Optional[BoardView] = No
         "name": board.name,
         "white": board.white,
         "black": board.black,
+        "titles": board.titles,
+        "ratings": board.ratings,
         "teams": board.teams,
         "federations": board.federations,
         "result": board.result,

@@ -161,8 +161,8 @@ def team_matches(folder: pathlib.Path) -> None:
     """Two matches of teams, one with a forfeit: the list, each page and its JSON have their scores, and each player his team and his
     federation, also the arbiter's. A game that goes on doesn't count; its result does."""
     hall, www, page, arbiter = Hall(folder, 4), folder / "www", free_port(), free_port()
-    hall.extra = {1: ",Nord & Co,Süd,GER,SUI,", 2: ",Süd,Nord & Co,,,0-1 FF", 3: ",Ost,West,,,", 4: ",West,Ost,,,"}
-    hall.write(header="board,device,white,black,WhiteTeam,BlackTeam,WhiteFed,BlackFed,result")
+    hall.extra = {1: ",Nord & Co,Süd,GER,SUI,,WIM,2345,,2010", 2: ",Süd,Nord & Co,,,0-1 FF,,,,", 3: ",Ost,West,,,,,,,", 4: ",West,Ost,,,,,,,"}
+    hall.write(header="board,device,white,black,WhiteTeam,BlackTeam,WhiteFed,BlackFed,result,WhiteTitle,WhiteElo,BlackTitle,BlackElo")
     live = hall.record("--web", str(www), "--page", str(page), "--arbiter-page", str(arbiter), typed=True)
     hall.play(0, 2, [0])
 
@@ -179,6 +179,8 @@ def team_matches(folder: pathlib.Path) -> None:
     same(json.loads(asked(page, "/state.json"))["matches"], wanted)
     same([board["teams"] + board["federations"] for board in json.loads(asked(arbiter, "/state.json"))["boards"]],
          [["Nord & Co", "Süd", "GER", "SUI"], ["Süd", "Nord & Co", "", ""], ["Ost", "West", "", ""], ["West", "Ost", "", ""]])  # fmt: skip
+    first, second = json.loads(asked(arbiter, "/state.json"))["boards"][:2]
+    same(first["titles"] + first["ratings"] + second["titles"] + second["ratings"], ["WIM", "", "2345", "2010", "", "", "", ""])
     same(stop(live), 0)
 
 
