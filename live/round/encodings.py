@@ -172,7 +172,7 @@ def _look_at(word: str, place: int) -> Optional[Looks]:
 
 def _is_letter_elsewhere(letter: str, before: str, after: str, word: str) -> bool:
     """Whether no Western word has this letter or sign first or last, and words in another encoding have: ©imek, ¨æ, ßí."""
-    if not before and after.isalpha():
+    if (not before or before in LETTERS_FIRST) and after.isalpha():
         return letter in LETTERS_FIRST + "ß" or (letter in BEFORE_CYRILLIC and after > "\x7f")
     return not after and before.isalpha() and (letter in LETTERS_LAST or (letter in LETTERS_OF_CAPITALS and word.isupper()))
 

@@ -332,7 +332,7 @@ CENTRAL_NAMES = (
     *("Maďar", "Naďa", "Laďka", "Raďo", "Vŕba", "Ćwik", "Maćkowiak", "Anđela", "Ţurcanu"),
     "Maďar;Tomáš\n2;Müller;Smith\n3;Szabó;Novák\n4;Žák;Šimek",
 )
-LATIN_2_NAMES = ("Šimek", "Žák", "Ťok", "Śliwa", "Źrebiec", "Żak", "Ľuboš", "Łoś", "Bartoś", "Chuť", "KOVÁŠ", "MATJAŽ", "Ťok;Ťapák")
+LATIN_2_NAMES = ("Šimek", "Žák", "Ťok", "Śliwa", "Źrebiec", "Żak", "Ľuboš", "Łoś", "Bartoś", "Chuť", "KOVÁŠ", "MATJAŽ", "Ťok;Ťapák", "Šťastný")
 DOS_NAMES = {
     "cp437": ("Jörg Müller", "Müller", "Jörg", "Größ", "René", "Zoë", "Özil", "É. Voss", "Åse", "García", "López", "Muñoz", "Benoît", "Bräuer", "Ünal",
               "MÜLLER", "MÄRZ", "BÄUMER", "Ärmel", "Übel", "Lefèvre", "Sánchez", "Hernández", "Adrián", "Weiß", "Heß", "Großmann", "Preuße",
