@@ -19,7 +19,6 @@ from typing import Callable, Optional, Protocol, Sequence, Tuple
 from live.beside import Worker
 from live.game.files import AnyPath
 from live.loop import ENDING, Timer, Turns
-from live.refused import printable
 
 EACH = 5.0  # least seconds between the beginnings of two runs
 LONGEST = 30.0  # seconds that a run may take
