@@ -227,7 +227,6 @@ class Round:
             self.say(line)
         how = "tournament.txt is read again at r" if self._source.in_tournament else "for the option end with q, and start again"
         self.say(f"nothing is changed; {how}")
-        return None
 
     def _look_for_boards(self) -> None:
         """Finds out which boards are plugged in, if some that are named only by serial number weren't found. This takes a while,
