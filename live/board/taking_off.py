@@ -12,7 +12,7 @@ from live.game import answers
 from live.game.answers import Said
 from live.game.course import Course
 from live.game.game import Game, end_mark
-from live.game.made_anew import ask_first, go_back_closed, no_result, put_way, reopen
+from live.game.made_anew import ask_first, go_back_closed, put_way, reopen, unforfeited
 from live.game.opening import Opened
 from live.game.reading import game_of, read_game
 from live.game.reply import Answer
@@ -66,7 +66,12 @@ def _put(obeying: Obeying, to: str) -> Steps[str]:
         raise refuse(said, to, games.course.plies)
     paths = games.game.paths
     if way.changes_nothing:
-        raise no_result(paths, way.plies) if to == ALL else nothing_goes(way, to)
+        if to != ALL:
+            raise nothing_goes(way, to)
+        done = unforfeited(paths, way.plies)
+        obeying.screen.say(done)
+        obeying.hears.placed()
+        return f"{paths.name}: {done}"
     yield from obeying.beside(functools.partial(ask_first, paths, way))
     obeying.recorded(TAKEN_OFF).close()
     try:

@@ -16,7 +16,7 @@ from live.game.answers import Said
 from live.game.course import Course
 from live.game.edited import told_of_edit
 from live.game.files import Capture, Paths, existing, put_in_place, sync_folder
-from live.game.forfeiting import kept_forfeit
+from live.game.forfeiting import drop_forfeit, kept_forfeit
 from live.game.front import keep_front
 from live.game.game import Game, end_mark, forget_question, mark_end, unmark_end
 from live.game.making_pgn import Made, Text
@@ -131,7 +131,7 @@ def reopen(game: Game, listens: bool = False) -> str:
     mark, course = end_mark(game.paths), _course(game)
     had, total, goes_on = course.result, len(course.plies), f"{game.paths.name} goes on"
     if mark is None and had == NO_RESULT:
-        raise no_result(game.paths, course.plies)
+        return unforfeited(game.paths, course.plies)
     said = _said(game, game.capture.bytes(), str(total) if had == NO_RESULT else ALL)
     if said.put and said.words[-1] == NO_RESULT != had:
         return f"{goes_on}, without the result" + _open_again(game)
@@ -145,10 +145,12 @@ def reopen(game: Game, listens: bool = False) -> str:
     return f"{goes_on}, without the result. {_put_closed(game, way, says=False)}"
 
 
-def no_result(paths: Paths, plies: Sequence[Move]) -> Refused:
-    """The message for a game that goes on and has no result."""
-    is_forfeited = not plies and kept_forfeit(paths)
-    return Refused("the game has no result" + (": if it is played after all, just play" if is_forfeited else ""))
+def unforfeited(paths: Paths, plies: Sequence[Move]) -> str:
+    """A game that goes on and has no result isn't forfeited any more. Returns the message. Refused if it wasn't."""
+    if plies or not kept_forfeit(paths):
+        raise Refused("the game has no result")
+    drop_forfeit(paths)
+    return "the game isn't forfeited any more"
 
 
 def _course(game: Game) -> Course:

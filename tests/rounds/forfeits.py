@@ -45,7 +45,9 @@ def not_played(folder: pathlib.Path) -> None:
     live.type("4 --")
     until_line(live, f"4: {hall.games}/04: forfeit 0-0: it isn't played")
     for text, answer in (
-        ("4 *", "4 refused: *: the game has no result: if it is played after all, just play"),
+        ("4 *", f"4: {hall.games}/04: the game isn't forfeited any more"),
+        ("4 *", "4 refused: *: the game has no result"),
+        ("4 --", f"4: {hall.games}/04: forfeit 0-0: it isn't played"),
         ("4 0-0", "4 refused: 0-0: do both lose? PGN has no such result: leave the game without one, and note it. Castling is O-O"),
         ("4 0-0", "If neither player has come, type --"),
         ("4 help", "* (no result), ok, or +- (Black has not come; -+ White, -- both)"),

@@ -13,7 +13,7 @@ const TRIES = 4; // calls for one line, if the board sends something while each 
 const REOPENS = Symbol('a result is to be taken off');
 const AGAIN = Symbol('the board has sent something meanwhile');
 const ENDING = 'the pieces are at the start, so the game is just being ended. Nothing was done: look, and type it again';
-const JUST_PLAY = 'the game has no result: if it is played after all, just play';
+const PLAYED_AFTER_ALL = 'the game isn\'t forfeited any more';
 const STAYS_OVER = 'The board still shows it, so the game stays over';
 const KEPT = 'What the board had sent is kept';
 const UNKEPT = '. The browser can\'t keep it yet: don\'t reload this page, and make room on the disk';
@@ -179,7 +179,7 @@ export class Typing {
     const { recorder } = this;
     const { asked } = this;
     this.asked = '';
-    if (to === '*' && recorder.forfeit === BOTH) throw new Refused(JUST_PLAY);
+    if (to === '*' && recorder.forfeit === BOTH) return PLAYED_AFTER_ALL; // the forfeit goes with whatever else is typed
     const decide = ({ capture, size, end }) =>
       recorder.arbiter.back(recorder.options, capture.bytes(recorder.isAltered ? end : size), this.plyOf(to));
     try {
