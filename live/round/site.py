@@ -12,7 +12,7 @@ import os
 import pathlib
 import re
 import time
-from typing import Any, Callable, Dict, List, Mapping, Sequence
+from typing import Any, Callable, Dict, FrozenSet, List, Mapping, Sequence
 
 from live.beside import Worker
 from live.board.state import trouble_of
@@ -31,6 +31,7 @@ AGAIN = 5.0  # seconds until it is tried again after an error
 RENEWED = 30.0  # seconds after which a state that hasn't changed is written again: a page that finds it older says so
 STATE = "state.json"
 ROUND_FOLDER = re.compile(r"round([0-9]{0,3})")
+GAME = re.compile(r"round[0-9]{0,3}/[0-9]{2,}\.pgn")  # the file of one board
 POLICY = "default-src 'self'; img-src 'self' data:; base-uri 'none'; form-action 'none'"
 REFRESH = '<meta http-equiv="refresh" content="60">'
 Texts = Dict[str, bytes]  # by path in the folder, in the order of their writing
@@ -157,6 +158,7 @@ class SiteFiles:
         self._state = f"{self._round}/{STATE}"
         self._offset = time.time() - loop.now()
         self._written: Texts = {}  # each state without its time
+        self._games: FrozenSet[str] = frozenset()  # the files of the round's games
         self._renewed_at = -RENEWED
         self._told = ""
         self._closed = False
@@ -179,6 +181,8 @@ class SiteFiles:
         if not boards:
             return {}
         of_round = round_texts(self._round, self._title, boards, self._offset)
+        self._games = frozenset(self._round + pgn_path(board.number) for board in boards)
+        self._written = {name: text for name, text in self._written.items() if name in self._games or not GAME.fullmatch(name)}
         texts = of_round if self._written else {**page_files(), **of_round}
         changed = {name for name, text in texts.items() if self._written.get(name) != text}
         if changed or renews:
@@ -203,7 +207,7 @@ class SiteFiles:
         """Writes these files; the state has the time."""
         state = self._state
         of_now = {name: stamped(text, time.time(), ended) if name == state else text for name, text in texts.items()}
-        return written(self._folder, self._title.event, self._round, of_now)
+        return written(self._folder, self._title.event, self._round, of_now, self._games)
 
     def _take(self, texts: Texts, made: Made, now: float) -> None:
         if made.trouble:
@@ -235,13 +239,18 @@ class SiteFiles:
         return [f"the site in {self._folder} can't be written ({self._told})"] if self._told else []
 
 
-def written(folder: pathlib.Path, event: str, this_round: str, texts: Texts) -> Made:
-    """Writes these files, each whole, and the list last. Returns the outcome."""
+def written(folder: pathlib.Path, event: str, this_round: str, texts: Texts, games: FrozenSet[str]) -> Made:
+    """Writes these files, each whole, and the list behind them. Last the games of boards that are no longer in the round go, which
+    nothing names any more. Returns the outcome."""
     try:
         os.makedirs(folder / this_round, exist_ok=True)
         for name, text in texts.items():
             put_in_place(folder / name, text)
         put_in_place(folder / "index.html", list_page(event, kept_rounds(folder)))
+        for path in (folder / this_round).iterdir():
+            name = f"{this_round}/{path.name}"
+            if GAME.fullmatch(name) and name not in games:
+                path.unlink()
         return Made()
     except OSError as error:
         return Made.of_error(error)

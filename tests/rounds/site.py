@@ -375,4 +375,30 @@ def carried_away(folder: pathlib.Path) -> None:
     same((board()["result"], state_of(www / "round")), ("1-0", state_of(carried)))
 
 
-CASES = [two_rounds, team_matches, live_or_not, late_site, killed_between, full_site, carried_away]
+def withdrawn(folder: pathlib.Path) -> None:
+    """The game of a board whose line is taken out of the table leaves the site, once nothing there names it, and a file that somebody
+    has put beside it stays. With its line the game is there again; it goes too where the line was taken out between two calls."""
+    hall, www = Hall(folder, 2), folder / "www"
+    game, other, both = www / "round" / "02.pgn", www / "round" / "notes.pgn", hall.file.read_text()
+    one = "\n".join(both.splitlines()[:2]) + "\n"
+    live = hall.record("--web", str(www), typed=True)
+    hall.begun(live)
+    hall.play(0, 2)
+    until(lambda: hall.text(2) in texts_of(bytes_of(game)), "the game of board 2")
+    other.write_text("[Event \"?\"]\n\n*\n\n")
+    for table, there in ((one, False), (both, True)):
+        hall.file.write_text(table)
+        live.type("r")
+        until(lambda: game.exists() == there, f"{game}: {there}")
+        is_whole(www)
+    until(lambda: hall.text(2) in texts_of(bytes_of(game)), "the game of board 2 again")
+    same(stop(live), 0)
+    hall.file.write_text(one)
+    live = hall.record("--web", str(www))
+    until(lambda: not game.exists(), "that it is gone")
+    same(stop(live), 0)
+    is_whole(www)
+    same(other.exists(), True)
+
+
+CASES = [two_rounds, team_matches, live_or_not, late_site, killed_between, full_site, carried_away, withdrawn]
