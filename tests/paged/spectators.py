@@ -274,6 +274,7 @@ def chosen() -> None:
         page.reads("and is behind", "#lower .points", "+8")
         page.tab.open(f"{site.url}?compact")
         page.says("without a heading", "getComputedStyle(document.querySelector('h1')).display", "none")
+        page.says("it leads to the whole page", "document.getElementById('whole').offsetHeight >= 24 && document.getElementById('whole').href", site.url)
         closed(site, page)
 
 

@@ -95,6 +95,7 @@ class Spectators extends Boards {
     at('show-all').addEventListener('click', () => this.showFinished());
     at('front').addEventListener('click', () => this.pin(this.open));
     if (window.top !== window.self || new URLSearchParams(window.location.search).has('compact')) document.body.classList.add('compact');
+    at('whole').href = window.location.pathname; // in a window of its own
     this.large.keys.n = () => this.go(1);
     this.large.keys.p = () => this.go(-1);
     this.large.keys.f = () => this.pin(this.open);
