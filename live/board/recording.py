@@ -46,7 +46,7 @@ class Reason(enum.Enum):
     """Why a game is over."""
 
     RESULT = "it has a result"
-    TYPED = "its result was typed"
+    TYPED = "its result was given"
     SET_UP = "the pieces are at the start again"
     LIMIT = "its capture is full"
 

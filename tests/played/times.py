@@ -124,7 +124,7 @@ def times_of_a_game(folder: pathlib.Path) -> None:
     until_dumped(board, live.name)
     live.type("1-0")
     until_line(live, "added by hand: the result 1-0")
-    until_line(live, "is over: its result was typed")
+    until_line(live, "is over: its result was given")
     same(stop(live), 0)
     end = int(bytes_of(f"{live.name}.end"))
     found = accounted(live.name)
@@ -170,7 +170,7 @@ def times_of_the_way_back(folder: pathlib.Path) -> None:
     again = go_on(board, live, typed=True)
     until_line(again, words.AGREES)
     again.type("1/2-1/2")
-    until_line(again, "is over: its result was typed")
+    until_line(again, "is over: its result was given")
     over = [int(bytes_of(f"{live.name}.end"))]
     until(lambda: read(live.name).numbers("over") == over and read(live.name).total() == len(bytes_of(f"{live.name}.dgt")), "all times")
     again.type("*")

@@ -119,7 +119,7 @@ def answered_once(folder: pathlib.Path) -> None:
     hall.play(0, 3)
     hall.boards[1].pull()
     until_line(live, words.UNPLUGGED)
-    for typed, answer in (("1-0", "is over: its result was typed"), ("*", "goes on, without the result"), ("ok", "there is no LOOK here")):
+    for typed, answer in (("1-0", "is over: its result was given"), ("*", "goes on, without the result"), ("ok", "there is no LOOK here")):
         live.type(f"2 {typed}")
         until(lambda: answer in last_screen(live), f"{answer}, after 2 {typed}")
         live.type("help")
