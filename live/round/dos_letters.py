@@ -1,7 +1,7 @@
 """Whether a text that isn't Unicode may be in an encoding of DOS: whether its words look like names in one of them. Pure.
 
-A byte that is an `Ü` in DOS is an `š` in Windows, and an `ß` is an `á`. So a letter that a letter of Windows could be has a rule: what
-stands beside it in names, and seldom beside the letter of Windows.
+A byte that is an `Ü` in DOS is an `š` in Windows, and an `ß` is an `á`. Where a byte is a letter in both, RULES says between which
+letters names have the one of DOS, and seldom the one of Windows.
 """
 
 from __future__ import annotations
