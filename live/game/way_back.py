@@ -81,6 +81,8 @@ def refuse(said: Said, to: str, plies: Sequence[Move]) -> Refused:
         return Refused(WHICH_PLY)
     if said.kind == NEAREST:
         near = " ".join(said.words)
+        if near == reached(plies):
+            return Refused(f"{to} is no ply of the game, which ends with {near}. Type back alone to take that off")
         return Refused(f"{to} is no ply of the game. The nearest is {near}: type back {near}")
     if said.kind == NO_PLY:
         return Refused("the game has no ply that could be taken off" if to else "the game has no move")

@@ -21,12 +21,16 @@ const NONE = ['', '-', '0']; // what pairing programs write if a player has no r
 const HIGHEST_RATING = 3999;
 const JOINERS = '\u200c\u200d'; // they can't be seen, and Persian and Indian scripts need them
 const PAIR = /\[(\w+) "((?:[^"\\]|\\.)*)"\]/g;
-const TIME_CONTROL = /^(?:(?:\d+\/)?\d+(?:\+\d+)?(?::(?:\d+\/)?\d+(?:\+\d+)?)*|\*\d+|[?-])$/;
-const PERIOD = new RegExp( // as an arbiter writes it: 40 moves in 90 minutes, with 30 seconds for each move
-  "^(?:(?<moves>\\d{1,3}) ?/ ?)?(?<base>\\d{1,3}) ?(?<mark>['’′]|m|min|minutes|Min\\.?)?" +
-    "(?: ?\\+ ?(?<increment>\\d{1,2}) ?(?:''|’’|′′|[\"”″]|s|sec|seconds|Sek\\.?)?(?: ?/ ?(?:move|Zug))?)?$",
+const TIME_CONTROL = /^(?:\*\d+|[?-]|)$/; // what PGN has beside periods
+const PERIOD = new RegExp( // as an arbiter or PGN writes it: 40 moves in 90 minutes, with 30 seconds for each move
+  "^(?:(?<moves>\\d{1,3}) ?/ ?)?(?<base>\\d{1,6}) ?" +
+    "(?:(?<minutes>['’′]|m|min|minutes|Min\\.?)|(?<seconds>''|’’|′′|[\"”″]|s|sec|seconds|Sek\\.?))?" +
+    "(?: ?\\+ ?(?<increment>\\d{1,3}) ?(?:''|’’|′′|[\"”″]|s|sec|seconds|Sek\\.?)?(?: ?/ ?(?:move|Zug))?)?$",
 );
-const MOST_MINUTES = 150; // base times without a mark, but with moves or an increment, count as minutes if none is more than this
+const [MOST_MINUTES, MOST_MINUTES_FOR_MOVES] = [100, 150]; // base times without a unit are in minutes up to these
+const LEAST_SECONDS = 300; // and in seconds from this
+const [MINUTES, SECONDS] = ['min', 's'];
+const UNITS = [MINUTES, SECONDS];
 
 /** A value that its tag can't have. The message says what to type; the name of the value goes before it. */
 export class Malformed extends Error {}
@@ -86,26 +90,52 @@ function fideId(text) {
 
 /** In seconds, as PGN has it; `40/90+30` is 40 moves in 90 minutes, and 30 seconds for each move. */
 function timeControl(text) {
-  const inSeconds = fromMinutes(text);
-  if (!inSeconds && text && !TIME_CONTROL.test(text)) {
+  if (TIME_CONTROL.test(text)) return text;
+  const periods = text.split(/[:,]/).map(periodOf);
+  if (!periods.every(Boolean) || !periods.slice(0, -1).every(({ moves }) => moves)) {
     const how = 'type 90+30 (minutes and seconds a move), 40/90+30:30+30, or as PGN has it, 40/5400+30:1800+30';
     throw new Malformed(`'${text}' is no time control: ${how}`);
   }
-  return inSeconds || text;
+  const known = withUnits(periods);
+  if (!known.every(({ unit }) => unit)) {
+    const ways = UNITS.map((unit) => known.map((period) => typed(period, unit)).join(':'));
+    throw new Malformed(`'${text}' can be in minutes or seconds: type ${ways.join(' or ')}`);
+  }
+  known.forEach((period, at) => {
+    const { moves, base, unit } = period;
+    if (moves <= base || periods[at].unit) return;
+    const turned = typed({ ...period, moves: base, base: moves, unit: '' }, '');
+    throw new Malformed(`'${text}' has ${moves} moves in ${base}${unit}: type ${turned}, or ${typed(period, unit)}`);
+  });
+  return known.map((period) => typed({ ...period, base: period.base * (period.unit === MINUTES ? 60 : 1), unit: '' }, '')).join(':');
 }
 
-/** The periods in seconds, if their base times are in minutes; else empty. */
-function fromMinutes(text) {
-  const periods = text.split(/[:,]/).map((part) => PERIOD.exec(part.trim()));
-  const found = periods.filter(Boolean).map((period) => period.groups);
-  const isMeant = found.some(({ mark, moves, increment }) => mark || moves || increment);
-  const isShort = found.every(({ mark, base }) => Number(base) <= MOST_MINUTES || mark);
-  if (found.length < periods.length || !isMeant || !isShort || !found.every(({ base }) => Number(base))) return '';
-  return found.map(secondsOf).join(':');
+/** A period of a time control as it is written: no moves are 0, and an unknown unit is empty. Null if it is something else. */
+function periodOf(text) {
+  const found = PERIOD.exec(text.trim());
+  if (!found) return null;
+  const { moves = '0', base, minutes, seconds, increment } = found.groups;
+  if (minutes && Number(base) === 0) return null;
+  const unit = minutes ? MINUTES : seconds ? SECONDS : '';
+  return { moves: Number(moves), base: Number(base), increment: increment ? `+${Number(increment)}` : '', unit };
 }
 
-function secondsOf({ moves, base, increment }) {
-  return `${moves ? `${Number(moves)}/` : ''}${Number(base) * 60}${increment ? `+${Number(increment)}` : ''}`;
+/** Whether a base time without a unit is in seconds. */
+const isLong = ({ base }) => base === 0 || base >= LEAST_SECONDS;
+
+/** A period as it may be typed, in this unit if its own isn't known. */
+function typed(period, unit) {
+  const shown = isLong(period) && period.unit !== MINUTES ? '' : period.unit || unit;
+  return `${period.moves ? `${period.moves}/` : ''}${period.base}${shown}${period.increment}`;
+}
+
+/** The periods with their units. A number alone has none, nor has a small one beside large ones. */
+function withUnits(periods) {
+  const most = periods[0].moves ? MOST_MINUTES_FOR_MOVES : MOST_MINUTES;
+  const areShort = periods.every(({ unit, base }) => unit || (base > 0 && base <= most));
+  const isMeant = periods.some(({ moves, increment, unit }) => moves || increment || unit === MINUTES);
+  const rest = areShort && isMeant && !periods.some(({ unit }) => unit === SECONDS) ? MINUTES : '';
+  return periods.map((period) => ({ ...period, unit: period.unit || (isLong(period) ? SECONDS : rest) }));
 }
 
 const CHECKS = [['Elo', rating], ['USCF', rating], ['Title', title], ['FideId', fideId], ['TimeControl', timeControl]];

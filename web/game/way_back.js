@@ -34,8 +34,11 @@ export const isStillShown = ({ kind }) => STILL_SHOWN.includes(kind);
 export function refuseBack({ kind, stays, rest }, to, plies) {
   const kept = plies.slice(0, stays);
   switch (kind) {
-    case 'nearest':
-      return new Refused(/^[0-9]+\./.test(to) ? `${to} is no ply of the game. The nearest is ${rest}: type back ${rest}` : WHICH_PLY);
+    case 'nearest': {
+      if (!/^[0-9]+\./.test(to)) return new Refused(WHICH_PLY);
+      const isLast = rest === reached(plies);
+      return new Refused(`${to} is no ply of the game${isLast ? `, which ends with ${rest}. Type back alone to take that off` : `. The nearest is ${rest}: type back ${rest}`}`);
+    }
     case 'none':
       return new Refused(to ? 'the game has no ply that could be taken off' : 'the game has no move');
     case 'ended':
