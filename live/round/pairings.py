@@ -91,6 +91,7 @@ class Wrong:
     board: Optional[int]
     why: str
     file: str = ""  # the name of its table, if there is more than one
+    pairing: Optional[Pairing] = field(default=None, compare=False)  # the line, if it is wrong only for its device
 
 
 @dataclass(frozen=True)
@@ -322,7 +323,7 @@ def more_lines(number: int) -> List[str]:
 def device_twice(read: Pairing, other: Pairing) -> Wrong:
     """A line whose device is on another line too."""
     why = f"{read.device} is the device of board {other.board}, line {other.line}: each has its own"
-    return Wrong(read.line, read.board, why)
+    return Wrong(read.line, read.board, why, pairing=read)
 
 
 def nameless(boards: Sequence[Pairing]) -> List[str]:

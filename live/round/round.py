@@ -17,7 +17,6 @@ from live.broadcast.broadcast import Broadcast
 from live.broadcast.games import written_name
 from live.broadcast.leaving import clock_in
 from live.broadcast.outputs import Outputs
-from live.device.line import same_line
 from live.game import answers
 from live.game.answers import ILLEGAL, MEANT, MOVES, RESULT, UNKNOWN, Said, moves_in
 from live.game.file_names import ROUND
@@ -36,10 +35,10 @@ from live.refused import DONE, FAILED, REFUSED, Refused
 from live.round.display import Display
 from live.round.encodings import is_question
 from live.round.joining import not_plugged_in, with_some
-from live.round.pairings import EXAMPLE, Pairing, Pairings, Wrong, device_twice
+from live.round.pairings import EXAMPLE, Pairing, Pairings, Wrong
 from live.round.published import Published
 from live.round.row import Hall, Row, game_of_others, was_forfeited
-from live.round.sources import Source
+from live.round.sources import Source, without_twice
 from live.round.table import NOT_RECORDED, RowView, boards_are, counted, lines_are_wrong
 from live.round.tournament_files import FORFEIT, Result
 from live.terminal.terminal import Typed
@@ -81,19 +80,6 @@ def another_folder(folder: str) -> str:
     stem = folder.rstrip("0123456789")
     number = folder[len(stem) :]
     return stem + str(int(number) + 1).zfill(len(number)) if number else f"{stem}-2"
-
-
-def without_twice(read: Pairings) -> Tuple[List[Pairing], List[Wrong]]:
-    """The boards and the wrong lines. A line is wrong if another line has its device under another name."""
-    found: Dict[str, Pairing] = {}
-    boards, wrong = [], list(read.wrong)
-    for pairing in read.boards:
-        other = found.setdefault(same_line(pairing.device), pairing) if pairing.device else pairing
-        if other is pairing:
-            boards.append(pairing)
-        else:
-            wrong.append(device_twice(pairing, other))
-    return boards, sorted(wrong, key=lambda line: line.line)
 
 
 def with_forfeited(read: Pairings, hall: Hall) -> Pairings:
@@ -256,7 +242,8 @@ class Round:
     def _take(self, read: Pairings) -> None:
         for remark in read.remarks:
             self.say(remark)
-        boards, self._wrong = without_twice(with_forfeited(read, self._hall))
+        had = {number: row.pairing.device for number, row in self.rows.items()}
+        boards, self._wrong = without_twice(with_forfeited(read, self._hall), had)
         self._absent = {pairing.board: pairing for pairing in read.absent}
         self._right = {pairing.board for pairing in boards}
         for wrong in self._wrong:

@@ -4,14 +4,16 @@ boards."""
 from __future__ import annotations
 
 import pathlib
-from typing import Callable, Dict, List, Mapping, Optional
+from types import MappingProxyType
+from typing import Callable, Dict, List, Mapping, Optional, Tuple
 
 from live.device import serial_line
+from live.device.line import same_line
 from live.device.numbers import ask
 from live.game import files
 from live.refused import REFUSED, Refused
 from live.round.joining import joined, placed, serials_wanted
-from live.round.pairings import Pairings, read_pairings
+from live.round.pairings import Pairing, Pairings, Wrong, device_twice, read_pairings
 from live.round.sheets import LARGEST
 from live.round.trf import is_report, read_report
 
@@ -23,6 +25,22 @@ def plugged_in() -> Dict[str, str]:
     found = serial_line.devices()
     names = {device: name or device for device, name in found}
     return {number: names[device] for device, number in ask(list(names)).numbers.items()}
+
+
+def without_twice(read: Pairings, had: Mapping[int, str] = MappingProxyType({})) -> Tuple[List[Pairing], List[Wrong]]:
+    """The boards and the wrong lines. Of lines with one device, also under several names, that one is right whose board `had` it, else
+    the first."""
+    wrong = [line for line in read.wrong if not line.pairing]
+    lines = sorted([*read.boards, *(line.pairing for line in read.wrong if line.pairing)], key=lambda one: one.line)
+    has = [one for one in lines if had.get(one.board) == one.device]
+    owners: Dict[str, Pairing] = {}
+    for one in [*has, *lines]:
+        owners.setdefault(same_line(one.device), one)
+    for one in lines:
+        if one.device and owners[same_line(one.device)] is not one:
+            wrong.append(device_twice(one, owners[same_line(one.device)]))
+    boards = [one for one in lines if not one.device or owners[same_line(one.device)] is one]
+    return boards, sorted(wrong, key=lambda line: line.line)
 
 
 class Source:

@@ -95,6 +95,27 @@ def round_that_is_over(folder: pathlib.Path) -> None:
     same(stop(live), 0)
 
 
+def device_of_another_board(folder: pathlib.Path) -> None:
+    """A line gets the device of another board by mistake, above and below that board's line: it is wrong, and both boards are recorded
+    as before. When it is put right, nothing has been lost."""
+    hall = Hall(folder, 2)
+    table = hall.file.read_text()
+    live = hall.record(typed=True)
+    hall.begun(live)
+    hall.play(0, 1)
+    for ply, (number, other) in enumerate(((1, 2), (2, 1)), 1):
+        device = f"{folder}/board{other}"
+        hall.file.write_text(table.replace(f"{folder}/board{number},", f"{device},"))
+        live.type("r")
+        until_line(live, f"line {number + 1} of round.csv is wrong: {device} is the device of board {other}, line {other + 1}: each has its own")
+        hall.play(ply, ply + 1)
+    hall.file.write_text(table)
+    live.type("r")
+    until_line(live, "is read again: 2 boards\n", 1)
+    hall.play(3, 4)
+    same(stop(live), 0)
+
+
 def players_exchanged(folder: pathlib.Path) -> None:
     """Boards without serial numbers, whose cables were swapped before the first start: each game has the players of another
     board. They are exchanged in the table while the games are played, and one is over: all are whole with their own players, in
