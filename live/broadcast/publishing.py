@@ -98,7 +98,9 @@ def run(words: Sequence[str], path: AnyPath, seconds: float) -> str:
 
 
 def _why_unstarted(program: str, reason: str) -> str:
-    """Why a program can't be started, in plain words if it isn't there."""
+    """Why a program can't be started, in plain words if it isn't there or may not run."""
+    if reason == os.strerror(errno.EACCES) and os.path.isfile(program):
+        return f"type chmod +x {shown(program)}"
     if reason != os.strerror(errno.ENOENT):
         return reason
     return "its first line names a program that isn't there" if os.path.exists(program) else "there is no such file"

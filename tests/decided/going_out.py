@@ -301,7 +301,7 @@ def runs_of_a_command() -> None:
         same("no such program", run(["/nowhere", "secret"], path, 60.0), "the command /nowhere can't be started: there is no such file")
         script = pathlib.Path(folder) / "copy.sh"
         script.write_text("#!/nowhere\n")
-        same("a script that may not run", run([str(script)], path, 60.0), f"the command {script} can't be started: Permission denied")
+        same("a script that may not run", run([str(script)], path, 60.0), f"the command {script} can't be started: type chmod +x {script}")
         script.chmod(0o700)
         why = "its first line names a program that isn't there"
         same("a script of nothing", run([str(script)], path, 60.0), f"the command {script} can't be started: {why}")
