@@ -2,7 +2,8 @@
 //! times; of `board_captures` and `going_back`, captures that go back; of `board_asking`, what a board is sent when, and what is
 //! done with what it sends; of `board_cable`, the same with its bytes; of `board_times`, files of times; of `square_runs`, since
 //! when squares are in masks; of `board_standing`, how a board stands; of `board_game`, one game while its capture grows; of
-//! `board_live`, a board that is recorded; of `live_lines`, what a host tells a recorder, and what it is answered.
+//! `board_live`, a board that is recorded; of `answer_lines`, the lines of an answer; of `live_lines`, what a host tells a
+//! recorder, and what it is answered.
 //!
 //! The files `NAME_page.rt` have the examples on the crates' pages, as they stand there: `tests/pages` compares them. They are here
 //! since they load the same libraries.
@@ -10,6 +11,8 @@
 
 #[cfg(test)]
 mod adding_page;
+#[cfg(test)]
+mod answer_lines_page;
 #[cfg(test)]
 mod backs;
 #[cfg(test)]

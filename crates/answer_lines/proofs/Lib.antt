@@ -1,0 +1,5 @@
+mod CutLemmas
+mod SquareLemmas
+mod WordLemmas
+mod AnswerLemmas
+mod DoneLemmas

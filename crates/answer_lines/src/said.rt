@@ -1,0 +1,19 @@
+//! What is said.
+
+use board_asking::{Handling, Request};
+use board_standing::State;
+
+/// What is answered to one event.
+#[derive(Clone, Copy)]
+pub struct Said {
+    /// What is done with what the board has sent. None: nothing was heard.
+    pub handling: Option<Handling>,
+    /// What the board is sent now.
+    pub request: Option<Request>,
+    /// Whether the capture had room for all bytes.
+    pub is_whole: bool,
+    /// How the board stands, if that is to be said.
+    pub state: Option<State>,
+    /// When to wake, if nothing happens. None: never.
+    pub due: Option<u64>,
+}
