@@ -1,5 +1,5 @@
-mod CutLemmas
+pub mod CutLemmas
 mod SquareLemmas
-mod WordLemmas
-mod AnswerLemmas
+pub mod WordLemmas
+pub mod AnswerLemmas
 mod DoneLemmas

@@ -34,8 +34,7 @@ pub struct Live {
     saying: Saying,
 }
 
-/// What is answered to what happens. In this order it is written: what is done with the bytes, the request, the lines of the
-/// report, the state.
+/// What is answered to what happens.
 #[derive(Clone, Copy)]
 pub struct Answer {
     /// What is done with what the board has sent. If it is kept, `Live::kept` has what the capture gets now.

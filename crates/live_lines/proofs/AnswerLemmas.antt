@@ -1,10 +1,227 @@
--- The squares of a state.
-use Rattle.std.proofs.Common.{◌≡◌, ◌≤◌, ℕ, ap, arith}
-use Rattle.live_lines.specs.Answers.{squares_before, squares_text}
+-- The text of an answer is read in one way.
+use Rattle.std.proofs.Common.{◌≡◌, ◌<◌, ◌≤◌, ◌^◌, ◌+◌, ◌/◌, ◌%◌, ◌==◌, ◌&&◌, ◌⊎◌, not, ℕ, zero, suc, Bool, true, false, List, [], ◌∷◌, ◌++◌, Option, Some, None, length, decimal, inl, inr, refl, sym, ap, ◌∙◌, subst, arith}
+use Rattle.std.specs.Prelude.{codes, if◌then◌else◌, nat_lt}
+use Rattle.std.specs.Fmt.{digit_glyph, digits, digits_onto}
+use Rattle.std.specs.List.{AllByRecursion}
+use Rattle.std.proofs.lemmas.Bool.{ne_eqb}
+use Rattle.std.proofs.lemmas.Fmt.{decimal_injective}
+use Rattle.std.proofs.lemmas.List.{append_assoc, append_cancel_left}
+use Rattle.board_asking.specs.declared.line.Request.{Request}
+use Rattle.board_asking.specs.declared.whose.Handling.{Handling}
+use Rattle.board_asking.specs.declared.whose.Handling.TheVariants.{Keep, Hold, Other}
+use Rattle.board_standing.specs.declared.state.State.{State}
+use Rattle.answer_lines.specs.declared.said.Said.{Said}
+use Rattle.answer_lines.specs.Answers.{answer_text as said_text, handling_line, request_line, room_line, state_line}
+use Rattle.answer_lines.specs.Laws.{IsSaid, lacks}
+use Rattle.answer_lines.proofs.AnswerLemmas.{from_done, from_request, from_room, from_state, in_parts, said_once}
+use Rattle.answer_lines.proofs.CutLemmas.{cut_once, decimal_lacks_feed, lacks_append}
+use Rattle.answer_lines.proofs.WordLemmas.{behind, first_of}
+use Rattle.watched_streams.specs.Lines.{line}
+use Rattle.live_lines.specs.Answers.{kept_text, whole_text}
+use Rattle.live_lines.specs.Laws.{HasLines, ReportLine, report_text}
+use Rattle.live_lines.proofs.EntryLemmas.{same_front}
 
-is_all : (n : ℕ) → n ≤ 64 → 64 ≤ n → n ≡ 64
-is_all n few many = omega (arith, few, many)
+-- ---- a line of the report begins with a digit, and ends at its line feed
 
-pub all_squares : (n mask : ℕ) → n ≤ 64 → 64 ≤ n → squares_before n mask ≡ squares_text mask
-unfolding squares_text
-all_squares n mask few many = ap (λ k. squares_before k mask) (is_all n few many)
+-- a digit, and no small letter
+abbrev IsDigit : ℕ → Type 0
+IsDigit byte = (47 < byte) × (byte < 97)
+
+abbrev StartsWithDigit : List ℕ → Type 0
+StartsWithDigit [] = ⊥
+StartsWithDigit (byte ∷ bytes) = byte < 97
+
+glyph : (low : Bool) (d : ℕ) → d < 10 → IsDigit (if low then 48 + d else 87 + d)
+glyph true d lt = (omega (arith, lt), omega (arith, lt))
+glyph false d lt = (omega (arith, lt), omega (arith, lt))
+
+one_of : (P : List ℕ → Type 0) (first : Bool) (xs ys : List ℕ) → P xs → P ys → P (if first then xs else ys)
+one_of P true xs ys h k = h
+one_of P false xs ys h k = k
+
+a_digit : (n : ℕ) → IsDigit (digit_glyph false (n % 10))
+a_digit n = glyph (nat_lt (n % 10) 10) (n % 10) (omega arith)
+
+onto_digits : (k n : ℕ) (text : List ℕ) → AllByRecursion IsDigit text → AllByRecursion IsDigit (digits_onto k 10 false n text)
+onto_digits zero n text h = h
+onto_digits (suc k) n text h =
+    let more = digit_glyph false (n % 10) ∷ text in
+    let next : AllByRecursion IsDigit more = (a_digit n, h) in
+    one_of (AllByRecursion IsDigit) (n / 10 == 0) more (digits_onto k 10 false (n / 10) more) next (onto_digits k (n / 10) more next)
+
+starts_onto : (k n : ℕ) (text : List ℕ) → StartsWithDigit text → StartsWithDigit (digits_onto k 10 false n text)
+starts_onto zero n text h = h
+starts_onto (suc k) n text h =
+    let more = digit_glyph false (n % 10) ∷ text in
+    let next : StartsWithDigit more = (a_digit n).1 in
+    one_of StartsWithDigit (n / 10 == 0) more (digits_onto k 10 false (n / 10) more) next (starts_onto k (n / 10) more next)
+
+starts : (k n : ℕ) → StartsWithDigit (digits_onto (suc k) 10 false n [])
+starts k n =
+    let more = digit_glyph false (n % 10) ∷ [] in
+    let next : StartsWithDigit more = (a_digit n).1 in
+    one_of StartsWithDigit (n / 10 == 0) more (digits_onto k 10 false (n / 10) more) next (starts_onto k (n / 10) more next)
+
+decimal_digits : (n : ℕ) → AllByRecursion IsDigit (decimal n)
+unfolding digits
+decimal_digits n = onto_digits 64 n [] tt
+
+decimal_starts : (n : ℕ) → StartsWithDigit (decimal n)
+unfolding digits
+decimal_starts n = starts 63 n
+
+no_feed : (byte : ℕ) → 31 < byte → byte ≡ 10 → ⊥
+no_feed byte high e = omega (arith, high, e)
+
+printed_lacks_feed : (text : List ℕ) → AllByRecursion (λ byte. 31 < byte) text → lacks 10 text ≡ true
+printed_lacks_feed [] h = refl
+printed_lacks_feed (byte ∷ text) h = ap (λ b. not b && lacks 10 text) (ne_eqb byte 10 (no_feed byte h.0)) ∙ printed_lacks_feed text h.1
+
+digit_printed : (byte : ℕ) → IsDigit byte → 31 < byte
+digit_printed byte h = let low = h.0 in omega (arith, low)
+
+digits_printed : (text : List ℕ) → AllByRecursion IsDigit text → AllByRecursion (λ byte. 31 < byte) text
+digits_printed [] h = tt
+digits_printed (byte ∷ text) h = (digit_printed byte h.0, digits_printed text h.1)
+
+-- what stands before the line feed
+abbrev body : ReportLine → List ℕ
+body told = decimal told.offset ++ codes " " ++ told.words
+
+body_lacks_feed : (told : ReportLine) → lacks 10 (body told) ≡ true
+body_lacks_feed told =
+    lacks_append 10 (decimal told.offset ++ codes " ") told.words
+    (lacks_append 10 (decimal told.offset) (codes " ") (printed_lacks_feed (decimal told.offset) (digits_printed (decimal told.offset) (decimal_digits told.offset))) refl)
+    (printed_lacks_feed told.words told.one)
+
+fed : (told : ReportLine) (more rest : List ℕ) → (line told.offset told.words ++ more) ++ rest ≡ body told ++ 10 ∷ (more ++ rest)
+fed told more rest = append_assoc (line told.offset told.words) more rest ∙ append_assoc (body told) (10 ∷ []) (more ++ rest)
+
+first_low : (text more : List ℕ) → StartsWithDigit text → first_of (text ++ more) < 97
+first_low [] more h = absurd h
+first_low (byte ∷ text) more h = h
+
+line_low : (told : ReportLine) (more rest : List ℕ) → first_of ((line told.offset told.words ++ more) ++ rest) < 97
+line_low told more rest =
+    let F : List ℕ → Type 0 = λ t. first_of t < 97 in
+    let w : List ℕ = told.words ++ 10 ∷ (more ++ rest) in
+    subst F
+    (sym (fed told more rest ∙ append_assoc (decimal told.offset ++ codes " ") told.words (10 ∷ (more ++ rest)) ∙ append_assoc (decimal told.offset) (32 ∷ []) w))
+    (first_low (decimal told.offset) (32 ∷ w) (decimal_starts told.offset))
+
+-- ---- what is said begins with a small letter, and its third one is none of `kept`
+
+abbrev third_of : List ℕ → ℕ
+third_of text = first_of (behind (behind text))
+
+abbrev Opens : List ℕ → Type 0
+Opens text = (97 ≤ first_of text) × (third_of text < 112)
+
+opens_state : (state : Option State) (text : List ℕ) → Opens text → Opens (state_line state ++ text)
+opens_state None text h = h
+opens_state (Some state) text h = (omega arith, omega arith)
+
+opens_room : (is_whole : Bool) (text : List ℕ) → Opens text → Opens (room_line is_whole ++ text)
+opens_room true text h = h
+opens_room false text h = (omega arith, omega arith)
+
+opens_request : (request : Option Request) (text : List ℕ) → Opens text → Opens (request_line request ++ text)
+opens_request None text h = h
+opens_request (Some request) text h = (omega arith, omega arith)
+
+opens_handling : (handling : Option Handling) (text : List ℕ) → Opens text → Opens (handling_line handling ++ text)
+opens_handling None text h = h
+opens_handling (Some Keep) text h = (omega arith, omega arith)
+opens_handling (Some Hold) text h = (omega arith, omega arith)
+opens_handling (Some (Other number)) text h = (omega arith, omega arith)
+
+opens_done : (said : Said) (more : List ℕ) → Opens (from_done said more)
+opens_done said more = (omega arith, omega arith)
+
+opens : (said : Said) (more : List ℕ) → Opens (said_text said ++ more)
+opens said more =
+    let O : List ℕ → Type 0 = λ t. Opens t in
+    subst O (sym (in_parts said more))
+    (opens_handling said.handling (from_request said more)
+    (opens_request said.request (from_room said more)
+    (opens_room said.is_whole (from_state said more) (opens_state said.state (from_done said more) (opens_done said more)))))
+
+-- ---- the lines of a report end where something begins with a small letter
+
+too_low : (a b : List ℕ) → 97 ≤ first_of a → first_of b < 97 → a ≡ b → ⊥
+too_low a b high low e = let same = ap first_of e in omega (arith, high, low, same)
+
+report_once : (a b : List ReportLine) (x y : List ℕ) → 97 ≤ first_of x → 97 ≤ first_of y → report_text a ++ x ≡ report_text b ++ y
+    → (report_text a ≡ report_text b) × (x ≡ y)
+report_once [] [] x y p q e = (refl, e)
+report_once [] (m ∷ b) x y p q e = absurd (too_low x (report_text (m ∷ b) ++ y) p (line_low m (report_text b) y) e)
+report_once (l ∷ a) [] x y p q e = absurd (too_low y (report_text (l ∷ a) ++ x) q (line_low l (report_text a) x) (sym e))
+report_once (l ∷ a) (m ∷ b) x y p q e =
+    let cut = cut_once 10 (body l) (report_text a ++ x) (body m) (report_text b ++ y) (body_lacks_feed l) (body_lacks_feed m)
+    (sym (fed l (report_text a) x) ∙ e ∙ fed m (report_text b) y) in
+    let next = report_once a b x y p q cut.1 in
+    (ap (λ t. (t ++ 10 ∷ []) ++ report_text a) cut.0 ∙ ap (λ t. line m.offset m.words ++ t) next.0, next.1)
+
+-- ---- the bytes that the capture gets
+
+abbrev kept_words : ℕ → List ℕ
+kept_words n = codes "kept " ++ decimal n
+
+kept_lacks_feed : (n : ℕ) → n < 2 ^ 64 → lacks 10 (kept_words n) ≡ true
+kept_lacks_feed n fits = lacks_append 10 (codes "kept ") (decimal n) refl (decimal_lacks_feed n fits)
+
+-- It doesn't begin with `kept`.
+abbrev IsOther : List ℕ → Type 0
+IsOther text = (first_of text < 97) ⊎ (third_of text < 112)
+
+is_kept : (text kept : List ℕ) → IsOther text → first_of kept ≡ 107 → third_of kept ≡ 112 → text ≡ kept → ⊥
+is_kept text kept (inl low) f t e = let same = ap first_of e in omega (arith, low, f, same)
+is_kept text kept (inr low) f t e = let same = ap third_of e in omega (arith, low, t, same)
+
+behind_line : (n : ℕ) (bytes rest : List ℕ) → ((kept_words n ++ 10 ∷ []) ++ bytes) ++ rest ≡ kept_words n ++ 10 ∷ (bytes ++ rest)
+behind_line n bytes rest = append_assoc (kept_words n ++ 10 ∷ []) bytes rest ∙ append_assoc (kept_words n) (10 ∷ []) (bytes ++ rest)
+
+some_once : (a b x y : List ℕ) → length a < 2 ^ 64 → length b < 2 ^ 64
+    → ((kept_words (length a) ++ 10 ∷ []) ++ a) ++ x ≡ ((kept_words (length b) ++ 10 ∷ []) ++ b) ++ y → (a ≡ b) × (x ≡ y)
+some_once a b x y f g e =
+    let cut = cut_once 10 (kept_words (length a)) (a ++ x) (kept_words (length b)) (b ++ y) (kept_lacks_feed (length a) f) (kept_lacks_feed (length b) g)
+    (sym (behind_line (length a) a x) ∙ e ∙ behind_line (length b) b y) in
+    let same = decimal_injective (length a) (length b) f g (append_cancel_left (codes "kept ") (decimal (length a)) (decimal (length b)) cut.0) in
+    same_front a x b y same cut.1
+
+kept_once : (a b x y : List ℕ) → length a < 2 ^ 64 → length b < 2 ^ 64 → IsOther x → IsOther y → kept_text a ++ x ≡ kept_text b ++ y
+    → (a ≡ b) × (x ≡ y)
+kept_once [] [] x y f g p q e = (refl, e)
+kept_once [] (c ∷ b) x y f g p q e = absurd (is_kept x (kept_text (c ∷ b) ++ y) p refl refl e)
+kept_once (c ∷ a) [] x y f g p q e = absurd (is_kept y (kept_text (c ∷ a) ++ x) q refl refl (sym e))
+kept_once (c ∷ a) (d ∷ b) x y f g p q e = some_once (c ∷ a) (d ∷ b) x y f g e
+
+other : (lines : List ReportLine) (text : List ℕ) → Opens text → IsOther (report_text lines ++ text)
+other [] text h = inr h.1
+other (told ∷ lines) text h = inl (line_low told (report_text lines) text)
+
+-- ---- all of it
+
+parts : (kept lines : List ℕ) (said : Said) (more : List ℕ) → whole_text kept lines said ++ more ≡ kept_text kept ++ (lines ++ (said_text said ++ more))
+parts kept lines said more =
+    append_assoc (kept_text kept ++ lines) (said_text said) more ∙ append_assoc (kept_text kept) lines (said_text said ++ more)
+
+by_lines : (kept others : List ℕ) (a b : List ReportLine) (more rest : List ℕ) (one two : Said) → length kept < 2 ^ 64 → length others < 2 ^ 64
+    → IsSaid one → IsSaid two → whole_text kept (report_text a) one ++ more ≡ whole_text others (report_text b) two ++ rest
+    → (kept ≡ others) × (report_text a ≡ report_text b) × (one ≡ two) × (more ≡ rest)
+by_lines kept others a b more rest one two f g s t e =
+    let x : List ℕ = said_text one ++ more in
+    let y : List ℕ = said_text two ++ rest in
+    let first = kept_once kept others (report_text a ++ x) (report_text b ++ y) f g (other a x (opens one more)) (other b y (opens two rest))
+    (sym (parts kept (report_text a) one more) ∙ e ∙ parts others (report_text b) two rest) in
+    let second = report_once a b x y (opens one more).0 (opens two rest).0 first.1 in
+    let third = said_once one two more rest s t second.1 in
+    (first.0, second.0, third.0, third.1)
+
+pub answered_once : (kept others lines news more rest : List ℕ) (one two : Said) → length kept < 2 ^ 64 → length others < 2 ^ 64
+    → HasLines lines → HasLines news → IsSaid one → IsSaid two → whole_text kept lines one ++ more ≡ whole_text others news two ++ rest
+    → (kept ≡ others) × (lines ≡ news) × (one ≡ two) × (more ≡ rest)
+answered_once kept others lines news more rest one two f g h k s t e =
+    let once = by_lines kept others h.0 k.0 more rest one two f g s t
+    (ap (λ l. whole_text kept l one ++ more) (sym h.1) ∙ e ∙ ap (λ l. whole_text others l two ++ rest) k.1) in
+    (once.0, h.1 ∙ once.1 ∙ sym k.1, once.2, once.3)

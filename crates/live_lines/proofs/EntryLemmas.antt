@@ -143,7 +143,7 @@ pub same_entry : (one other : Entry) → entry_line one ≡ entry_line other →
 same_entry one other e = entry_eq one other (sym (entry_back one) ∙ ap entry_of e ∙ entry_back other)
 
 -- Texts of one length that begin a text are the same.
-same_front : (a b c d : List ℕ) → length a ≡ length c → a ++ b ≡ c ++ d → (a ≡ c) × (b ≡ d)
+pub same_front : (a b c d : List ℕ) → length a ≡ length c → a ++ b ≡ c ++ d → (a ≡ c) × (b ≡ d)
 same_front a b c d n e = (
   sym (take-append_seam a b) ∙ ap (λ k. take k (a ++ b)) n ∙ ap (take (length c)) e ∙ take-append_seam c d,
   sym (drop-append_seam a b) ∙ ap (λ k. drop k (a ++ b)) n ∙ ap (drop (length c)) e ∙ drop-append_seam c d,

@@ -1,7 +1,12 @@
 -- What holds of each text.
-use Rattle.std.specs.Prelude.{◌≡◌, ◌≤◌, ℕ, List, ◌++◌}
+use Rattle.std.specs.Prelude.{◌≡◌, ◌<◌, ◌≤◌, ◌^◌, ℕ, List, [], ◌∷◌, ◌++◌, length}
+use Rattle.std.specs.List.{AllByRecursion}
+use Rattle.answer_lines.specs.declared.said.Said.{Said}
+use Rattle.answer_lines.specs.Laws.{IsSaid}
 use Rattle.board_times.specs.declared.events.Event.{Event}
+use Rattle.watched_streams.specs.Lines.{line}
 use Rattle.live_lines.specs.declared.entries.Entry.{Entry}
+use Rattle.live_lines.specs.Answers.{whole_text}
 use Rattle.live_lines.specs.Clock.{clock_after}
 use Rattle.live_lines.specs.Entries.{IsWhole, entry_text}
 use Rattle.live_lines.specs.declared.next.Next.{Next}
@@ -30,3 +35,24 @@ TimesGoOn = (later past : List Entry) → (clock_after past).last ≤ (clock_aft
 -- Whatever the file of times says, each byte of the capture comes once, and in its order: what is lost there costs times and no move.
 abbrev pub EachByteComesOnce : Type 0
 EachByteComesOnce = (events : List Event) (capture : List ℕ) → bytes_in (history_of events capture) ≡ capture
+
+-- a line of a report: the offset of a byte, and words without a control character
+pub record ReportLine : Type 0 where
+  pub offset : ℕ
+  pub words : List ℕ
+  pub one : AllByRecursion (λ byte. 31 < byte) words
+
+abbrev pub report_text : List ReportLine → List ℕ
+report_text [] = []
+report_text (told ∷ lines) = line told.offset told.words ++ report_text lines
+
+-- The text has such lines, and nothing else.
+abbrev pub HasLines : List ℕ → Type 0
+HasLines text = (lines : List ReportLine) × (text ≡ report_text lines)
+
+-- Answers that stand one behind the other are read in one way: which bytes the capture gets, which lines are the report's, and what
+-- is said.
+abbrev pub IsAnsweredInOneWay : Type 0
+IsAnsweredInOneWay = (kept others lines news more rest : List ℕ) (one other : Said) → length kept < 2 ^ 64 → length others < 2 ^ 64
+    → HasLines lines → HasLines news → IsSaid one → IsSaid other → whole_text kept lines one ++ more ≡ whole_text others news other ++ rest
+    → (kept ≡ others) × (lines ≡ news) × (one ≡ other) × (more ≡ rest)

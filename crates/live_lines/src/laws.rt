@@ -1,5 +1,5 @@
 //! What holds of each text.
-ghost use Rattle.live_lines.specs.Laws.{EachByteComesOnce, IsToldOnce, TimesGoOn, WaitsForIt, WrittenIsTold};
+ghost use Rattle.live_lines.specs.Laws.{EachByteComesOnce, IsAnsweredInOneWay, IsToldOnce, TimesGoOn, WaitsForIt, WrittenIsTold};
 
 /// A text begins with one entry at most.
 pub fn is_told_once()
@@ -24,4 +24,9 @@ pub fn times_go_on()
 /// Whatever the file of times says, each byte of the capture comes once, and in its order.
 pub fn each_byte_comes_once()
     ensures { EachByteComesOnce }
+{}
+
+/// Answers that stand one behind the other are read in one way.
+pub fn is_answered_in_one_way()
+    ensures { IsAnsweredInOneWay }
 {}

@@ -1,9 +1,9 @@
 //! What a host tells a recorder that is a child of it, line by line, and what the recorder answers.
 //!
 //! `entries.rt` has what is told, and `next.rt` reads the next entry of what came so far. `recorder.rt` takes it: `clock.rt` counts
-//! on from one call to the next, `meaning.rt` says what an entry is to the board, and `answers.rt` writes what is answered. `history.rt` tells a board what
-//! was kept of the calls before. `laws.rt`
-//! says that a text is read in one way, and that times go on.
+//! on from one call to the next, `meaning.rt` says what an entry is to the board, and `answers.rt` writes what is answered, most of
+//! it by `answer_lines`. `history.rt` tells a board what was kept of the calls before. `laws.rt` says that what is told and what is
+//! answered are read in one way, and that times go on.
 #![tactic(auto)]
 
 mod answers;

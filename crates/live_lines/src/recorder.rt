@@ -17,6 +17,7 @@ use std::alloc::{AllocError, Global};
 /// Takes what a host tells, and answers.
 #[derive(Drop)]
 pub struct Recorder {
+    alloc: Global,
     clock: Clock,
     live: Live,
     /// New lines of the report.
@@ -32,7 +33,12 @@ impl Recorder {
         let clock = Clock::new();
         let live = Live::new(alloc, method);
         let lines = Vec::new(alloc);
-        Recorder { clock, live, lines }
+        Recorder {
+            alloc,
+            clock,
+            live,
+            lines,
+        }
     }
 
     /// Takes an entry with the bytes behind it, and appends what is answered.
@@ -56,7 +62,15 @@ impl Recorder {
             .take(Happened { at, what }, bytes, &mut self.lines)?;
         let due = self.live.due(at);
         let kept = self.live.kept();
-        add_answer(at, &answer, kept, self.lines.as_slice(), due, out)?;
+        add_answer(
+            self.alloc,
+            at,
+            &answer,
+            kept,
+            self.lines.as_slice(),
+            due,
+            out,
+        )?;
         Ok(())
     }
 
