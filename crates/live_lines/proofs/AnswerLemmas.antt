@@ -24,7 +24,7 @@ use Rattle.live_lines.proofs.EntryLemmas.{same_front}
 -- ---- a line of the report begins with a digit, and ends at its line feed
 
 -- a digit, and no small letter
-abbrev IsDigit : ℕ → Type 0
+abbrev pub IsDigit : ℕ → Type 0
 IsDigit byte = (47 < byte) × (byte < 97)
 
 abbrev StartsWithDigit : List ℕ → Type 0
@@ -62,7 +62,7 @@ starts k n =
     let next : StartsWithDigit more = (a_digit n).1 in
     one_of StartsWithDigit (n / 10 == 0) more (digits_onto k 10 false (n / 10) more) next (starts_onto k (n / 10) more next)
 
-decimal_digits : (n : ℕ) → AllByRecursion IsDigit (decimal n)
+pub decimal_digits : (n : ℕ) → AllByRecursion IsDigit (decimal n)
 unfolding digits
 decimal_digits n = onto_digits 64 n [] tt
 
@@ -80,21 +80,21 @@ printed_lacks_feed (byte ∷ text) h = ap (λ b. not b && lacks 10 text) (ne_eqb
 digit_printed : (byte : ℕ) → IsDigit byte → 31 < byte
 digit_printed byte h = let low = h.0 in omega (arith, low)
 
-digits_printed : (text : List ℕ) → AllByRecursion IsDigit text → AllByRecursion (λ byte. 31 < byte) text
+pub digits_printed : (text : List ℕ) → AllByRecursion IsDigit text → AllByRecursion (λ byte. 31 < byte) text
 digits_printed [] h = tt
 digits_printed (byte ∷ text) h = (digit_printed byte h.0, digits_printed text h.1)
 
 -- what stands before the line feed
-abbrev body : ReportLine → List ℕ
+abbrev pub body : ReportLine → List ℕ
 body told = decimal told.offset ++ codes " " ++ told.words
 
-body_lacks_feed : (told : ReportLine) → lacks 10 (body told) ≡ true
+pub body_lacks_feed : (told : ReportLine) → lacks 10 (body told) ≡ true
 body_lacks_feed told =
     lacks_append 10 (decimal told.offset ++ codes " ") told.words
     (lacks_append 10 (decimal told.offset) (codes " ") (printed_lacks_feed (decimal told.offset) (digits_printed (decimal told.offset) (decimal_digits told.offset))) refl)
     (printed_lacks_feed told.words told.one)
 
-fed : (told : ReportLine) (more rest : List ℕ) → (line told.offset told.words ++ more) ++ rest ≡ body told ++ 10 ∷ (more ++ rest)
+pub fed : (told : ReportLine) (more rest : List ℕ) → (line told.offset told.words ++ more) ++ rest ≡ body told ++ 10 ∷ (more ++ rest)
 fed told more rest = append_assoc (line told.offset told.words) more rest ∙ append_assoc (body told) (10 ∷ []) (more ++ rest)
 
 first_low : (text more : List ℕ) → StartsWithDigit text → first_of (text ++ more) < 97

@@ -4,3 +4,4 @@ mod EntryLemmas
 mod NextLemmas
 mod RecorderLemmas
 mod HistoryLemmas
+mod ReportLemmas

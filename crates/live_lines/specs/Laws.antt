@@ -1,9 +1,13 @@
 -- What holds of each text.
-use Rattle.std.specs.Prelude.{◌≡◌, ◌<◌, ◌≤◌, ◌^◌, ℕ, List, [], ◌∷◌, ◌++◌, length}
+use Rattle.std.specs.Prelude.{◌≡◌, ◌<◌, ◌≤◌, ◌^◌, ℕ, Bool, List, [], ◌∷◌, ◌++◌, length}
 use Rattle.std.specs.List.{AllByRecursion}
 use Rattle.answer_lines.specs.declared.said.Said.{Said}
 use Rattle.answer_lines.specs.Laws.{IsSaid}
+use Rattle.board_events.specs.Settings.{Setting}
+use Rattle.board_game.specs.History.{Came}
+use Rattle.board_game.specs.Report.{IsReport}
 use Rattle.board_times.specs.declared.events.Event.{Event}
+use Rattle.chess_rules.specs.Valid.{Valid}
 use Rattle.watched_streams.specs.Lines.{line}
 use Rattle.live_lines.specs.declared.entries.Entry.{Entry}
 use Rattle.live_lines.specs.Answers.{whole_text}
@@ -56,3 +60,8 @@ abbrev pub IsAnsweredInOneWay : Type 0
 IsAnsweredInOneWay = (kept others lines news more rest : List ℕ) (one other : Said) → length kept < 2 ^ 64 → length others < 2 ^ 64
     → HasLines lines → HasLines news → IsSaid one → IsSaid other → whole_text kept lines one ++ more ≡ whole_text others news other ++ rest
     → (kept ≡ others) × (lines ≡ news) × (one ≡ other) × (more ≡ rest)
+
+-- From a valid start, what a report has more after more has come has such lines.
+abbrev pub ReportsHaveLines : Type 0
+ReportsHaveLines = (setting : Setting) (recovers : Bool) (past later : List Came) (text more : List ℕ) → Valid setting.start
+    → IsReport setting recovers past text → IsReport setting recovers later (text ++ more) → HasLines more

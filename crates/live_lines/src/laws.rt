@@ -1,5 +1,7 @@
 //! What holds of each text.
-ghost use Rattle.live_lines.specs.Laws.{EachByteComesOnce, IsAnsweredInOneWay, IsToldOnce, TimesGoOn, WaitsForIt, WrittenIsTold};
+ghost use Rattle.live_lines.specs.Laws.{EachByteComesOnce, IsAnsweredInOneWay, IsToldOnce, ReportsHaveLines, TimesGoOn, WaitsForIt, WrittenIsTold};
+
+use chess_text::laws::{fens_are_plain, texts_are_plain};
 
 /// A text begins with one entry at most.
 pub fn is_told_once()
@@ -30,3 +32,13 @@ pub fn each_byte_comes_once()
 pub fn is_answered_in_one_way()
     ensures { IsAnsweredInOneWay }
 {}
+
+/// From a valid start, what a report has more consists of lines that begin with an offset.
+pub fn reports_have_lines()
+    ensures { ReportsHaveLines }
+{
+    // For its clause: no text of a move has a control character.
+    texts_are_plain();
+    // For its clause: and no FEN.
+    fens_are_plain();
+}
