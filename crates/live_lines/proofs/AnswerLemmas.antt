@@ -18,7 +18,7 @@ use Rattle.answer_lines.proofs.CutLemmas.{cut_once, decimal_lacks_feed, lacks_ap
 use Rattle.answer_lines.proofs.WordLemmas.{behind, first_of}
 use Rattle.watched_streams.specs.Lines.{line}
 use Rattle.live_lines.specs.Answers.{kept_text, whole_text}
-use Rattle.live_lines.specs.Laws.{HasLines, ReportLine, report_text}
+use Rattle.live_lines.specs.Laws.{HasLines, IsPrinted, ReportLine, report_text}
 use Rattle.live_lines.proofs.EntryLemmas.{same_front}
 
 -- ---- a line of the report begins with a digit, and ends at its line feed
@@ -70,17 +70,17 @@ decimal_starts : (n : ℕ) → StartsWithDigit (decimal n)
 unfolding digits
 decimal_starts n = starts 63 n
 
-no_feed : (byte : ℕ) → 31 < byte → byte ≡ 10 → ⊥
+no_feed : (byte : ℕ) → IsPrinted byte → byte ≡ 10 → ⊥
 no_feed byte high e = omega (arith, high, e)
 
-printed_lacks_feed : (text : List ℕ) → AllByRecursion (λ byte. 31 < byte) text → lacks 10 text ≡ true
+printed_lacks_feed : (text : List ℕ) → AllByRecursion IsPrinted text → lacks 10 text ≡ true
 printed_lacks_feed [] h = refl
 printed_lacks_feed (byte ∷ text) h = ap (λ b. not b && lacks 10 text) (ne_eqb byte 10 (no_feed byte h.0)) ∙ printed_lacks_feed text h.1
 
-digit_printed : (byte : ℕ) → IsDigit byte → 31 < byte
+digit_printed : (byte : ℕ) → IsDigit byte → IsPrinted byte
 digit_printed byte h = let low = h.0 in omega (arith, low)
 
-pub digits_printed : (text : List ℕ) → AllByRecursion IsDigit text → AllByRecursion (λ byte. 31 < byte) text
+digits_printed : (text : List ℕ) → AllByRecursion IsDigit text → AllByRecursion IsPrinted text
 digits_printed [] h = tt
 digits_printed (byte ∷ text) h = (digit_printed byte h.0, digits_printed text h.1)
 

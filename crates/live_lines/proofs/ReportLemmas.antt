@@ -47,8 +47,8 @@ use Rattle.board_listing.proofs.TextLemmas.{IsPrinted, Printed, both, clock_prin
 use Rattle.board_listing.proofs.WatchLawLemmas.{with_if}
 use Rattle.board_game.specs.History.{Adds, Bytes, Came, Finds, Item, Makes, News, Noted, Pair, Sent, events_of, with_events, with_found}
 use Rattle.board_game.specs.Report.{IsReport, Reports}
-use Rattle.live_lines.specs.Laws.{HasLines, ReportLine, report_text}
-use Rattle.live_lines.proofs.AnswerLemmas.{body, body_lacks_feed, decimal_digits, digits_printed, fed}
+use Rattle.live_lines.specs.Laws.{HasLines, IsPrinted as IsOfALine, ReportLine, report_text}
+use Rattle.live_lines.proofs.AnswerLemmas.{IsDigit, body, body_lacks_feed, decimal_digits, fed}
 use Rattle.answer_lines.proofs.CutLemmas.{cut_once}
 
 -- ---- texts of lines
@@ -61,9 +61,13 @@ report_append (told ∷ a) b =
 join : (a b : List ℕ) → HasLines a → HasLines b → HasLines (a ++ b)
 join a b h k = (h.0 ++ k.0, ap (λ t. t ++ b) h.1 ∙ ap (λ t. report_text h.0 ++ t) k.1 ∙ sym (report_append h.0 k.0))
 
+stays_printed : (byte : ℕ) → IsPrinted byte → IsOfALine byte
+stays_printed byte high = omega (arith, high)
+
 one_line : (offset : ℕ) (words : List ℕ) → Printed words → HasLines (line offset words)
 one_line offset words printed =
-    let told : ReportLine = record { offset = offset; words = words; one = printed } in (told ∷ [], sym (append-nil (line offset words)))
+    let told : ReportLine = record { offset = offset; words = words; one = weaker IsPrinted IsOfALine stays_printed words printed } in
+    (told ∷ [], sym (append-nil (line offset words)))
 
 abbrev AreTold : List GameLine → Type 0
 AreTold lines = AllByRecursion (λ told. Printed told.words) lines
@@ -109,8 +113,11 @@ reading_printed (Some reading) =
     both (codes "clock ") (time_text reading.white ++ codes " " ++ time_text reading.black) (fixed (codes "clock ") refl)
     (both (time_text reading.white) (codes " " ++ time_text reading.black) (time_printed reading.white) second)
 
+digit_printed : (byte : ℕ) → IsDigit byte → IsPrinted byte
+digit_printed byte is = let low : 47 < byte = is.0 in omega (arith, low)
+
 number_printed : (n : ℕ) → Printed (decimal n)
-number_printed n = digits_printed (decimal n) (decimal_digits n)
+number_printed n = weaker IsDigit IsPrinted digit_printed (decimal n) (decimal_digits n)
 
 token_printed : (side : Side) (n : ℕ) → Printed (number_token side n)
 token_printed White n = both (decimal n) (codes ".") (number_printed n) (fixed (codes ".") refl)

@@ -40,11 +40,15 @@ TimesGoOn = (later past : List Entry) → (clock_after past).last ≤ (clock_aft
 abbrev pub EachByteComesOnce : Type 0
 EachByteComesOnce = (events : List Event) (capture : List ℕ) → bytes_in (history_of events capture) ≡ capture
 
+-- no control character
+abbrev pub IsPrinted : ℕ → Type 0
+IsPrinted byte = 31 < byte
+
 -- a line of a report: the offset of a byte, and words without a control character
 pub record ReportLine : Type 0 where
   pub offset : ℕ
   pub words : List ℕ
-  pub one : AllByRecursion (λ byte. 31 < byte) words
+  pub one : AllByRecursion IsPrinted words
 
 abbrev pub report_text : List ReportLine → List ℕ
 report_text [] = []
