@@ -218,9 +218,9 @@ def without_a_board(folder: pathlib.Path) -> None:
 
 def lines_without_a_device(_: pathlib.Path) -> None:
     """In a table that names devices, a forfeited pair needs none; a pair that has another result, or none yet, does."""
-    read = read_pairings(b"board,device,white,black,result\n1,,A,B,+-\n2,,C,D,- +\n3,,E,F,0-0 FF\n4,,G,H,1-0\n5,,I,J,--\n")
-    same([(pairing.board, pairing.result) for pairing in read.boards], [(1, "+-"), (2, "-+"), (3, "--")])
-    same([wrong.board for wrong in read.wrong], [4, 5])
+    read = read_pairings(b"board,device,white,black,result\n1,,A,B,+-\n2,,C,D,- +\n3,,E,F,0-0 FF\n4,,G,H,1-0\n5,,I,J,--\n6,,K,L,\n")
+    same([(pairing.board, pairing.result) for pairing in read.boards], [(1, "+-"), (2, "-+"), (3, "--"), (5, "--")])
+    same([wrong.board for wrong in read.wrong], [4, 6])
 
 
 CASES = [not_played, late_forfeits, by_command, results_in_a_table, without_a_board, lines_without_a_device]
