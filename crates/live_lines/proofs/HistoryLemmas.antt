@@ -11,8 +11,8 @@ use Rattle.board_standing.specs.declared.heard.Heard.{Heard}
 use Rattle.board_times.specs.declared.events.Event.{Event}
 use Rattle.board_times.specs.Fitting.{covered_after}
 use Rattle.live_lines.specs.declared.clock.Clock.{Clock}
-use Rattle.live_lines.specs.Clock.{clock_after}
-use Rattle.live_lines.specs.History.{bytes_in, clock_at, coming, history_of, merged, news_of}
+use Rattle.live_lines.specs.Clock.{clock_at, clock_over}
+use Rattle.live_lines.specs.History.{bytes_in, coming, history_of, merged, news_of}
 
 with_bytes : (at : ℕ) (bytes : List ℕ) (past : List Moment) → bytes_in (with_kept at bytes past) ≡ bytes_in past ++ bytes
 with_bytes at [] past = sym (append-nil (bytes_in past))
@@ -34,8 +34,9 @@ all_bytes (event ∷ events) clock covered rest past =
     ∙ append_assoc (bytes_in past) (take n rest) (drop n rest)
     ∙ ap (λ t. bytes_in past ++ t) (take-append-drop n rest)
 
-pub comes_once : (events : List Event) (capture : List ℕ) → bytes_in (history_of events capture) ≡ capture
-comes_once events capture = all_bytes events (clock_after []) 0 capture []
+pub comes_once : (clock : Clock) (events : List Event) (capture : List ℕ) (past : List Moment)
+    → bytes_in (history_of clock events capture past) ≡ bytes_in past ++ capture
+comes_once clock events capture past = all_bytes events clock 0 capture past
 
 kept_some : (at : ℕ) (bytes : List ℕ) (past : List Moment) → (bytes ≡ [] → ⊥)
     → with_kept at bytes past ≡ (let m : Moment = record { at = at; what = Keeps; bytes = bytes } in m) ∷ past
@@ -90,3 +91,7 @@ three a b c d = append_assoc (a ++ b) c d ∙ append_assoc a b (c ++ d)
 pub cut_at : (events : List Event) (i : ℕ) (event : Event) → i < length events → event ≡ get_or events i event
     → drop i events ≡ event ∷ drop (i + 1) events
 cut_at events i event lt e = rw (add-one, drop-cons events i event, ← e) refl
+
+pub clock_step : (clock new : Clock) (event : Event) (events left : List Event) → new ≡ clock_at event clock → events ≡ event ∷ left
+    → clock_over new left ≡ clock_over clock events
+clock_step clock new event events left e f = ap (λ (k : Clock). clock_over k left) e ∙ sym (ap (λ x. clock_over clock x) f)

@@ -5,3 +5,4 @@ mod NextLemmas
 mod RecorderLemmas
 mod HistoryLemmas
 mod ReportLemmas
+mod StreamLemmas

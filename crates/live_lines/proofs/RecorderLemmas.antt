@@ -1,5 +1,5 @@
 -- What is answered to an entry.
-use Rattle.std.proofs.Common.{◌≡◌, ℕ, Bool, List, ◌∷◌, Option, ap, ◌∙◌, subst}
+use Rattle.std.proofs.Common.{◌≡◌, ℕ, Bool, true, false, List, [], ◌∷◌, Option, ap, ◌∙◌, subst, sym, refl}
 use Rattle.board_asking.specs.Pace.{AsksAlike}
 use Rattle.board_asking.specs.Whose.{HandledAlike}
 use Rattle.board_cable.specs.Keeping.{kept}
@@ -11,9 +11,21 @@ use Rattle.board_live.specs.Coming.{came}
 use Rattle.board_live.specs.Due.{StaysAlike}
 use Rattle.board_live.specs.Live.{Answers}
 use Rattle.board_live.specs.Moments.{Moment, cabled}
-use Rattle.live_lines.specs.Answers.{answer_text}
-use Rattle.live_lines.specs.Meaning.{Heard, meaning_of, moment_by, moments}
-use Rattle.live_lines.specs.Recorder.{IsAnswered, now_of}
+use Rattle.board_times.specs.declared.events.Event.{Event}
+use Rattle.board_times.specs.declared.reading.Found.{Found}
+use Rattle.board_times.specs.Times.{IsFound}
+use Rattle.live_lines.specs.declared.entries.What.{What}
+use Rattle.live_lines.specs.declared.entries.What.TheVariants.{Happens, Wakes, Lends, Owns, KeepsTimes, KeepsBytes}
+use Rattle.live_lines.specs.Answers.{answer_text, capture_text}
+use Rattle.live_lines.specs.Clock.{clock_after, clock_of, clock_over, next_clock}
+use Rattle.live_lines.specs.Entries.{brings_capture}
+use Rattle.live_lines.specs.Heard.{AreEventsOf, HasEvents, Heard, IsHeard, events_for, waiting, waiting_by}
+use Rattle.live_lines.specs.History.{history_of}
+use Rattle.live_lines.specs.Meaning.{meaning_of, moment_by, moment_of, moments, moments_by, time_of}
+use Rattle.live_lines.specs.Recorder.{IsAnswered, IsAnsweredBy}
+
+not_so : false ≡ true → ⊥
+not_so e = cc
 
 -- the moment that the board is told
 pub same_moment : (heard : Heard) (at now : ℕ) (what : ToBoard) → at ≡ now → what ≡ meaning_of heard.entry.what heard.bytes
@@ -23,15 +35,15 @@ same_moment heard at now what e f =
     ∙ ap (λ w. let m : Moment = record { at = now; what = w; bytes = heard.bytes } in m) f
 
 pub answered : (setting : Setting) (recovers : Bool) (heard : Heard) (past : List Heard) (m : Moment) (at : ℕ) (answer : Answer) (due : Option ℕ)
-    (k ls more : List ℕ) → m ≡ moment_by (now_of heard past) heard → at ≡ now_of heard past → ls ≡ more
+    (k ls more : List ℕ) → m ≡ moment_by (time_of heard past) heard → at ≡ time_of heard past → ls ≡ more
     → ((turns : List Turn) → Told (cabled (m ∷ moments past)) turns → k ≡ kept turns)
     → ((turn : Turn) (turns : List Turn) → Told (cabled (m ∷ moments past)) (turn ∷ turns) → Answers setting recovers m (moments past) turn turns answer)
     → ((turns : List Turn) → Told (cabled (m ∷ moments past)) turns → AsksAlike at (told turns) due)
     → ((turns : List Turn) → Told (cabled (m ∷ moments past)) turns → HandledAlike at (told turns) due)
     → ((turns : List Turn) → Told (cabled (m ∷ moments past)) turns → StaysAlike setting recovers (came (m ∷ moments past) turns) at due)
-    → IsAnswered setting recovers heard past more (answer_text at answer k ls due)
+    → IsAnsweredBy false setting recovers heard past more (answer_text at answer k ls due)
 answered setting recovers heard past m at answer due k ls more em ea el keeps answers asks handles stays turn turns h =
-    let now : ℕ = now_of heard past in
+    let now : ℕ = time_of heard past in
     let ps : List Moment = moments past in
     let K : Moment → Type 0 = λ x. Told (cabled (x ∷ ps)) (turn ∷ turns) → k ≡ kept (turn ∷ turns) in
     let A : Moment → Type 0 = λ x. Told (cabled (x ∷ ps)) (turn ∷ turns) → Answers setting recovers x ps turn turns answer in
@@ -40,7 +52,7 @@ answered setting recovers heard past m at answer due k ls more em ea el keeps an
     let S : Moment → Type 0 = λ x. Told (cabled (x ∷ ps)) (turn ∷ turns) → StaysAlike setting recovers (came (x ∷ ps) (turn ∷ turns)) at due in
     let Qn : ℕ → Type 0 = λ n. AsksAlike n (told (turn ∷ turns)) due in
     let Hn : ℕ → Type 0 = λ n. HandledAlike n (told (turn ∷ turns)) due in
-    let Sn : ℕ → Type 0 = λ n. StaysAlike setting recovers (came (moments (heard ∷ past)) (turn ∷ turns)) n due in
+    let Sn : ℕ → Type 0 = λ n. StaysAlike setting recovers (came (moment_of heard past ∷ moments past) (turn ∷ turns)) n due in
     record {
       answer = answer;
       due = due;
@@ -51,3 +63,63 @@ answered setting recovers heard past m at answer due k ls more em ea el keeps an
       handling = subst Hn ea (subst H em (handles (turn ∷ turns)) h);
       state = subst Sn ea (subst S em (stays (turn ∷ turns)) h);
     }
+
+-- ---- an entry that is no capture
+
+pub is_heard : (heard : Heard) (past : List Heard) → brings_capture heard.entry.what ≡ false → heard.events ≡ [] → IsHeard heard past
+is_heard heard past other none =
+    let P : Bool → Type 0 = λ b. HasEvents b (waiting past) heard.bytes heard.events in
+    subst P (sym other) none
+
+pub is_answered : (setting : Setting) (recovers : Bool) (heard : Heard) (past : List Heard) (more said : List ℕ) → brings_capture heard.entry.what ≡ false
+    → IsAnsweredBy false setting recovers heard past more said → IsAnswered setting recovers heard past more said
+is_answered setting recovers heard past more said other h =
+    let P : Bool → Type 0 = λ b. IsAnsweredBy b setting recovers heard past more said in
+    subst P (sym other) h
+
+pub clock_goes_on : (heard : Heard) (past : List Heard) → brings_capture heard.entry.what ≡ false
+    → clock_after (heard ∷ past) ≡ next_clock heard.entry (clock_after past)
+clock_goes_on heard past other = ap (λ b. clock_of b heard (clock_after past)) other
+
+pub moments_go_on : (heard : Heard) (past : List Heard) → brings_capture heard.entry.what ≡ false
+    → moments (heard ∷ past) ≡ moment_of heard past ∷ moments past
+moments_go_on heard past other = ap (λ b. moments_by b heard past (moments past)) other
+
+-- ---- a capture
+
+pub are_events : (times waits capture : List ℕ) (found : Found) (events : List Event) → times ≡ waits → IsFound times found
+    → events ≡ events_for found capture → AreEventsOf waits capture events
+are_events times waits capture found events e h f =
+    let P : List ℕ → Type 0 = λ t. IsFound t found in
+    (found, subst P e h, f)
+
+pub capture_heard : (heard : Heard) (past : List Heard) → brings_capture heard.entry.what ≡ true
+    → AreEventsOf (waiting past) heard.bytes heard.events → IsHeard heard past
+capture_heard heard past brings h =
+    let P : Bool → Type 0 = λ b. HasEvents b (waiting past) heard.bytes heard.events in
+    subst P (sym brings) h
+
+pub capture_answered : (setting : Setting) (recovers : Bool) (heard : Heard) (past : List Heard) (more said : List ℕ) → brings_capture heard.entry.what ≡ true
+    → said ≡ capture_text more → IsAnswered setting recovers heard past more said
+capture_answered setting recovers heard past more said brings h =
+    let P : Bool → Type 0 = λ b. IsAnsweredBy b setting recovers heard past more said in
+    subst P (sym brings) h
+
+pub capture_clock : (heard : Heard) (past : List Heard) → brings_capture heard.entry.what ≡ true
+    → clock_after (heard ∷ past) ≡ clock_over (clock_after past) heard.events
+capture_clock heard past brings = ap (λ b. clock_of b heard (clock_after past)) brings
+
+pub capture_moments : (heard : Heard) (past : List Heard) → brings_capture heard.entry.what ≡ true
+    → moments (heard ∷ past) ≡ history_of (clock_after past) heard.events heard.bytes (moments past)
+capture_moments heard past brings = ap (λ b. moments_by b heard past (moments past)) brings
+
+taken_by : (what : What) (bytes before : List ℕ) → brings_capture what ≡ true → waiting_by what bytes before ≡ []
+taken_by (KeepsBytes n) bytes before e = refl
+taken_by (KeepsTimes n) bytes before e = absurd (not_so e)
+taken_by (Happens happening) bytes before e = absurd (not_so e)
+taken_by Wakes bytes before e = absurd (not_so e)
+taken_by Lends bytes before e = absurd (not_so e)
+taken_by (Owns n) bytes before e = absurd (not_so e)
+
+pub capture_waits : (heard : Heard) (past : List Heard) → brings_capture heard.entry.what ≡ true → waiting (heard ∷ past) ≡ []
+capture_waits heard past brings = taken_by heard.entry.what heard.bytes (waiting past) brings

@@ -1,5 +1,5 @@
 -- What a recorder answers to an entry: the bytes that the capture gets, the new lines of the report, and then what is said.
-use Rattle.std.specs.Prelude.{◌-◌, ℕ, List, [], ◌∷◌, ◌++◌, codes, decimal, length, Option, Some, None}
+use Rattle.std.specs.Prelude.{◌-◌, ℕ, true, List, [], ◌∷◌, ◌++◌, codes, decimal, length, Option, Some, None}
 use Rattle.answer_lines.specs.declared.said.Said.{Said}
 use Rattle.answer_lines.specs.Answers.{answer_text as said_text}
 use Rattle.board_live.specs.declared.live.Answer.{Answer}
@@ -35,3 +35,10 @@ said_of now answer due =
 
 abbrev pub answer_text : ℕ → Answer → List ℕ → List ℕ → Option ℕ → List ℕ
 answer_text now answer kept lines due = whole_text kept lines (said_of now answer due)
+
+-- Of a capture of the calls before only the report is said.
+abbrev pub nothing_said : Said
+nothing_said = record { handling = None; request = None; is_whole = true; state = None; due = None }
+
+abbrev pub capture_text : List ℕ → List ℕ
+capture_text lines = whole_text [] lines nothing_said

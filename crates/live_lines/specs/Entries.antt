@@ -1,6 +1,6 @@
 -- What a host tells a recorder: entries, one behind the other. An entry is a line, as in a file of times, and with some words so
 -- many bytes behind it. Bytes are in the order in which they stand.
-use Rattle.std.specs.Prelude.{◌≡◌, ◌≤◌, ℕ, List, ◌++◌, Some, None, length}
+use Rattle.std.specs.Prelude.{◌≡◌, ◌≤◌, ℕ, Bool, true, false, List, ◌++◌, Some, None, length}
 use Rattle.board_times.specs.declared.words.Word.TheVariants.{Wake, Lent, Number, Kept, Capture}
 use Rattle.board_times.specs.declared.lines.Tail.{Tail}
 use Rattle.board_times.specs.declared.lines.Line.{Line}
@@ -33,7 +33,16 @@ size_of (KeepsTimes n) = n
 size_of (KeepsBytes n) = n
 size_of _ = 0
 
--- at most so many do: a capture has no more
+-- They are a file of times; or a capture.
+abbrev pub brings_times : What → Bool
+brings_times (KeepsTimes n) = true
+brings_times _ = false
+
+abbrev pub brings_capture : What → Bool
+brings_capture (KeepsBytes n) = true
+brings_capture _ = false
+
+-- at most so many bytes do: a capture has no more
 abbrev pub most : ℕ
 most = 67108864
 

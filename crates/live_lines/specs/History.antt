@@ -10,8 +10,7 @@ use Rattle.board_times.specs.declared.events.What.{What as Happening}
 use Rattle.board_times.specs.declared.events.What.TheVariants.{Begins, Opens, Goes, Hears, Adds}
 use Rattle.board_times.specs.Fitting.{covered_after}
 use Rattle.live_lines.specs.declared.clock.Clock.{Clock}
-use Rattle.live_lines.specs.declared.entries.What.TheVariants.{Happens}
-use Rattle.live_lines.specs.Clock.{clock_after, next_clock}
+use Rattle.live_lines.specs.Clock.{clock_at}
 
 -- what an event tells of the line
 abbrev pub news_of : Happening → Option Heard
@@ -27,9 +26,6 @@ coming (Hears n) covered = n
 coming (Adds n) covered = n
 coming _ covered = 0
 
-abbrev pub clock_at : Event → Clock → Clock
-clock_at event clock = next_clock (record { at = event.at; what = Happens event.what }) clock
-
 -- What these events tell, behind what was told before: their bytes are the next of the capture. What is left of it came at last.
 abbrev pub merged : Clock → ℕ → List ℕ → List Event → List Moment → List Moment
 merged clock covered rest [] past = with_kept clock.last rest past
@@ -38,9 +34,9 @@ merged clock covered rest (event ∷ events) past = merged (clock_at event clock
     (with_told (clock_at event clock).last (news_of event.what)
     (with_kept (clock_at event clock).last (take (coming event.what covered) rest) past))
 
--- the history of a capture, by the events of its file of times
-abbrev pub history_of : List Event → List ℕ → List Moment
-history_of events capture = merged (clock_after []) 0 capture events []
+-- the history of a capture, by the events of its file of times, behind what was told before
+abbrev pub history_of : Clock → List Event → List ℕ → List Moment → List Moment
+history_of clock events capture past = merged clock 0 capture events past
 
 -- all bytes of these moments, in the order in which they came
 abbrev pub bytes_in : List Moment → List ℕ

@@ -6,14 +6,17 @@ use Rattle.answer_lines.specs.Laws.{IsSaid}
 use Rattle.board_events.specs.Settings.{Setting}
 use Rattle.board_game.specs.History.{Came}
 use Rattle.board_game.specs.Report.{IsReport}
+use Rattle.board_live.specs.Moments.{Moment}
 use Rattle.board_times.specs.declared.events.Event.{Event}
 use Rattle.chess_rules.specs.Valid.{Valid}
 use Rattle.watched_streams.specs.Lines.{line}
+use Rattle.live_lines.specs.declared.clock.Clock.{Clock}
 use Rattle.live_lines.specs.declared.entries.Entry.{Entry}
 use Rattle.live_lines.specs.Answers.{whole_text}
 use Rattle.live_lines.specs.Clock.{clock_after}
 use Rattle.live_lines.specs.Entries.{IsWhole, entry_text}
 use Rattle.live_lines.specs.declared.next.Next.{Next}
+use Rattle.live_lines.specs.Heard.{Heard}
 use Rattle.live_lines.specs.History.{bytes_in, history_of}
 use Rattle.live_lines.specs.Next.{IsNext, IsUnfinished, Tells}
 
@@ -34,11 +37,12 @@ WrittenIsTold = (entry : Entry) (bytes rest : List ℕ) (next : Next) → IsWhol
 
 -- No entry has a time before that of another one that came earlier.
 abbrev pub TimesGoOn : Type 0
-TimesGoOn = (later past : List Entry) → (clock_after past).last ≤ (clock_after (later ++ past)).last
+TimesGoOn = (later past : List Heard) → (clock_after past).last ≤ (clock_after (later ++ past)).last
 
 -- Whatever the file of times says, each byte of the capture comes once, and in its order: what is lost there costs times and no move.
 abbrev pub EachByteComesOnce : Type 0
-EachByteComesOnce = (events : List Event) (capture : List ℕ) → bytes_in (history_of events capture) ≡ capture
+EachByteComesOnce = (clock : Clock) (events : List Event) (capture : List ℕ) (past : List Moment)
+    → bytes_in (history_of clock events capture past) ≡ bytes_in past ++ capture
 
 -- no control character
 abbrev pub IsPrinted : ℕ → Type 0

@@ -1,9 +1,12 @@
 pub mod Answers
 pub mod Clock
 pub mod Entries
+pub mod Heard
 pub mod History
 pub mod Inside
 pub mod Laws
 pub mod Meaning
 pub mod Next
 pub mod Recorder
+pub mod Status
+pub mod Streams

@@ -1,5 +1,5 @@
 -- What an entry is to a board that is recorded. Entries are listed with the latest first.
-use Rattle.std.specs.Prelude.{ℕ, List, [], ◌∷◌, if◌then◌else◌}
+use Rattle.std.specs.Prelude.{ℕ, Bool, true, false, List, [], ◌∷◌, if◌then◌else◌}
 use Rattle.board_asking.specs.Serial.{is_serial}
 use Rattle.board_cable.specs.declared.happened.What.TheVariants.{Begins as CallBegins, Opens as LineOpens, Answers as ServerAnswers, Closes, HangsUp, Hears as BoardSends, Interrupts, Takes as BoardTaken, Owns as HasNumber, Lends as IsLent, Wakes as TimeCame}
 use Rattle.board_live.specs.declared.happened.What.{What as ToBoard}
@@ -9,11 +9,13 @@ use Rattle.board_times.specs.declared.events.What.{What as Happening}
 use Rattle.board_times.specs.declared.events.What.TheVariants.{Begins, Opens, Answers, Goes, Calls, Hears, Adds, Stops, Takes}
 use Rattle.live_lines.specs.declared.entries.What.{What}
 use Rattle.live_lines.specs.declared.entries.What.TheVariants.{Happens, Lends, Owns}
-use Rattle.live_lines.specs.declared.entries.Entry.{Entry}
-use Rattle.live_lines.specs.Clock.{clock_after}
+use Rattle.live_lines.specs.Clock.{clock_after, next_clock}
+use Rattle.live_lines.specs.Entries.{brings_capture}
+use Rattle.live_lines.specs.Heard.{Heard}
+use Rattle.live_lines.specs.History.{history_of}
 
 -- Nobody listened for a while: an answer that comes may be old, and frames are read anew. That nobody was there before a call, what
--- was asked and that the game is over only name a time.
+-- was asked and that the game is over only name a time. So does a file of times: it is of the capture that comes behind it.
 abbrev pub happening_of : Happening → ToBoard
 happening_of (Begins n) = Cable CallBegins
 happening_of Opens = Cable LineOpens
@@ -36,19 +38,21 @@ meaning_of Lends bytes = Cable IsLent
 meaning_of (Owns n) bytes = owned bytes
 meaning_of _ bytes = Cable TimeCame
 
--- an entry, with the bytes behind it
-pub record Heard : Type 0 where
-  pub entry : Entry
-  pub bytes : List ℕ
-
-abbrev pub entries_of : List Heard → List Entry
-entries_of [] = []
-entries_of (heard ∷ past) = heard.entry ∷ entries_of past
-
 -- what happened at the board, on the clock of all calls
 abbrev pub moment_by : ℕ → Heard → Moment
 moment_by at heard = record { at = at; what = meaning_of heard.entry.what heard.bytes; bytes = heard.bytes }
 
+abbrev pub time_of : Heard → List Heard → ℕ
+time_of heard past = (next_clock heard.entry (clock_after past)).last
+
+abbrev pub moment_of : Heard → List Heard → Moment
+moment_of heard past = moment_by (time_of heard past) heard
+
+-- A capture is all that it says of the calls before.
+abbrev pub moments_by : Bool → Heard → List Heard → List Moment → List Moment
+moments_by true heard past before = history_of (clock_after past) heard.events heard.bytes before
+moments_by false heard past before = moment_of heard past ∷ before
+
 abbrev pub moments : List Heard → List Moment
 moments [] = []
-moments (heard ∷ past) = moment_by (clock_after (entries_of (heard ∷ past))).last heard ∷ moments past
+moments (heard ∷ past) = moments_by (brings_capture heard.entry.what) heard past (moments past)

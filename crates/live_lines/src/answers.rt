@@ -1,6 +1,6 @@
 //! What a recorder answers: the bytes that the capture gets, the new lines of the report, and the lines of `answer_lines`.
 ghost use Rattle.std.specs.Prelude.{◌≡◌, ◌++◌, IfOk};
-ghost use Rattle.live_lines.specs.Answers.{answer_text, kept_text, lasting, said_of, state_for, wake_in};
+ghost use Rattle.live_lines.specs.Answers.{answer_text, capture_text, kept_text, lasting, said_of, state_for, wake_in};
 
 use answer_lines::{Said, add_answer as add_said};
 use board_live::Answer;
@@ -85,4 +85,19 @@ pub fn add_answer(
     add_kept(kept, out)?;
     out.extend_from_slice(lines)?;
     add_said(alloc, said_of(now, answer, due), out)
+}
+
+/// Adds what is answered to a capture of the calls before: these lines of the report.
+pub fn add_report(alloc: Global, lines: &[u8], out: &mut Vec<u8>) -> Result<(), AllocError>
+    ensures { IfOk result (λ _. out.new.items ≡ out.old.items ++ capture_text lines.now) }
+{
+    out.extend_from_slice(lines)?;
+    let said = Said {
+        handling: None,
+        request: None,
+        is_whole: true,
+        state: None,
+        due: None,
+    };
+    add_said(alloc, said, out)
 }

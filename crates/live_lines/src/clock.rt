@@ -1,7 +1,6 @@
 //! The clock of all calls.
-ghost use Rattle.std.specs.Prelude.{◌≡◌, ◌∷◌, [], List};
-ghost use Rattle.live_lines.specs.declared.entries.Entry.{Entry as EntryOf};
-ghost use Rattle.live_lines.specs.Clock.{began_by, clock_after, next_clock};
+ghost use Rattle.std.specs.Prelude.{◌≡◌};
+ghost use Rattle.live_lines.specs.Clock.{began_by, first_clock, next_clock};
 
 use crate::entries::{Entry, What};
 use board_times::What as Happening;
@@ -28,14 +27,13 @@ fn began_by(what: What, last: u64, began: u64) -> u64
 impl Clock {
     /// Nothing was told.
     pub fn new() -> Clock
-        ensures { result ≡ clock_after [] }
+        ensures { result ≡ first_clock }
     {
         Clock { began: 0, last: 0 }
     }
 
     /// Takes the next entry. The result is its time on this clock.
     pub fn take(&mut self, entry: Entry) -> u64
-        ensures stands { (past : List EntryOf) → self.old ≡ clock_after past → self.new ≡ clock_after (entry ∷ past) }
         ensures next { self.new ≡ next_clock entry self.old }
         ensures time { result ≡ self.new.last }
     {

@@ -1,7 +1,7 @@
 //! What a host tells: its entries and their lines.
 ghost use Rattle.std.specs.Prelude.{◌≡◌, None, Some};
 ghost use Rattle.board_times.specs.Times.{tail_of as tail_of_event};
-ghost use Rattle.live_lines.specs.Entries.{entry_line, size_of, tail_of};
+ghost use Rattle.live_lines.specs.Entries.{brings_capture, brings_times, entry_line, size_of, tail_of};
 ghost use Rattle.live_lines.specs.Inside.Reading.{entry_by, entry_of, own_what};
 
 use board_times::{Event, Line, Tail, What as Happening, Word, event_of, line_of};
@@ -77,6 +77,20 @@ impl What {
             What::KeepsBytes(n) => n,
             _ => 0,
         }
+    }
+
+    /// Whether they are a file of times.
+    pub fn brings_times(self) -> bool
+        ensures { result ≡ brings_times self }
+    {
+        matches!(self, What::KeepsTimes(_))
+    }
+
+    /// Whether they are a capture.
+    pub fn brings_capture(self) -> bool
+        ensures { result ≡ brings_capture self }
+    {
+        matches!(self, What::KeepsBytes(_))
     }
 }
 

@@ -1,5 +1,7 @@
 //! What was kept of the calls before.
 ghost use Rattle.std.specs.Prelude.{◌≡◌, ◌↔◌, ◌++◌, [], ℕ, Bool, IsTrue, List, OnOk, drop, take};
+ghost use Rattle.live_lines.specs.Clock.{clock_over};
+ghost use Rattle.live_lines.specs.Heard.{events_by, events_for};
 ghost use Rattle.board_events.specs.Settings.{Setting};
 ghost use Rattle.board_live.specs.Laws.{with_kept, with_told};
 ghost use Rattle.board_live.specs.Live.{HasBegun, StandsFor};
@@ -11,7 +13,7 @@ use crate::clock::Clock;
 use crate::entries::{Entry, What};
 use board_live::{Happened, Live, What as ToBoard};
 use board_standing::Heard;
-use board_times::{Event, What as Happening};
+use board_times::{Event, Fit, Found, What as Happening, fit_of};
 use std::alloc::AllocError;
 
 fn news_of(what: Happening) -> Option<Heard>
@@ -108,21 +110,41 @@ fn copy(event: &Event) -> Event
     *event
 }
 
-/// Tells a board, of which nothing was told, what was kept of the calls before, and appends the lines of the report. The result is
-/// the clock, which goes on.
+/// What events say of a capture that their file fits so.
+fn events_by(fit: Fit, events: &[Event]) -> &[Event]
+    ensures { result.now ≡ events_by fit events.now }
+{
+    match fit {
+        Fit::Another => &[],
+        _ => events,
+    }
+}
+
+/// What a file of times says of a capture.
+pub fn events_for<'a>(found: &'a Found, capture: &[u8]) -> &'a [Event]
+    ensures { result.now ≡ events_for found.now capture.now }
+{
+    match found {
+        Found::Times(kept) => events_by(fit_of(kept, capture), kept.events.as_slice()),
+        _ => &[],
+    }
+}
+
+/// Tells a board what was kept of the calls before, and appends the lines of the report. The clock goes on.
 pub fn tell_history(
     live: &mut Live,
+    clock: &mut Clock,
     events: &[Event],
     capture: &[u8],
     lines: &mut Vec<u8>,
-) -> Result<Clock, AllocError>
+) -> Result<(), AllocError>
     requires begun { HasBegun live.old }
-    ensures told { (setting : Setting) (recovers : Bool) (text : List ℕ) → StandsFor live.old setting recovers [] text
+    ensures told { (setting : Setting) (recovers : Bool) (past : List Moment) (text : List ℕ) → StandsFor live.old setting recovers past text
         → OnOk result ((more : List ℕ) × (lines.new.items ≡ lines.old.items ++ more)
-        × StandsFor live.new setting recovers (history_of events.now capture.now) (text ++ more)) }
+        × StandsFor live.new setting recovers (history_of clock.old events.now capture.now past) (text ++ more)) }
+    ensures clock { OnOk result (clock.new ≡ clock_over clock.old events.now) }
     ensures begun { OnOk result (HasBegun live.new) }
 {
-    let mut clock = Clock::new();
     let mut covered: u64 = 0;
     let mut rest = capture;
     'events: for event in events {
@@ -139,5 +161,5 @@ pub fn tell_history(
         rest = later;
     }
     keep(live, clock.last(), rest, lines)?;
-    Ok(clock)
+    Ok(())
 }

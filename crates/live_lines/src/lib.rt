@@ -2,8 +2,8 @@
 //!
 //! `entries.rt` has what is told, and `next.rt` reads the next entry of what came so far. `recorder.rt` takes it: `clock.rt` counts
 //! on from one call to the next, `meaning.rt` says what an entry is to the board, and `answers.rt` writes what is answered, most of
-//! it by `answer_lines`. `history.rt` tells a board what was kept of the calls before. `laws.rt` says that what is told and what is
-//! answered are read in one way, and that times go on.
+//! it by `answer_lines`. `history.rt` tells a board what was kept of the calls before. `stream.rt` does all of it over streams.
+//! `laws.rt` says that what is told and what is answered are read in one way, and that times go on.
 #![tactic(auto)]
 
 mod answers;
@@ -14,10 +14,11 @@ pub mod laws;
 mod meaning;
 mod next;
 mod recorder;
+mod stream;
 
 pub use answers::add_answer;
 pub use clock::Clock;
 pub use entries::{Entry, What, entry_line};
-pub use history::tell_history;
 pub use next::{Next, Told, next_entry};
 pub use recorder::Recorder;
+pub use stream::{AttendError, attend};

@@ -1,17 +1,21 @@
 //! A recorder that a host tells entries.
-ghost use Rattle.std.specs.Prelude.{◌≡◌, ◌∷◌, [], ◌++◌, ℕ, Bool, List, OnOk};
+ghost use Rattle.std.specs.Prelude.{◌≡◌, ◌∷◌, [], ◌++◌, ℕ, Bool, List, OnOk, false, true};
 ghost use Rattle.board_captures.specs.Reading.{setting_of};
 ghost use Rattle.board_events.specs.Settings.{Setting};
 ghost use Rattle.board_game.specs.Report.{first_line};
-ghost use Rattle.live_lines.specs.Meaning.{Heard};
-ghost use Rattle.live_lines.specs.Recorder.{HasBegun, IsAnswered, StandsFor};
+ghost use Rattle.live_lines.specs.declared.entries.Entry.{Entry as EntryOf};
+ghost use Rattle.live_lines.specs.Entries.{brings_capture};
+ghost use Rattle.live_lines.specs.Heard.{Heard, IsHeard, waiting_by};
+ghost use Rattle.live_lines.specs.Recorder.{HasBegun, IsAnswered, Reports, StandsFor};
 
-use crate::answers::add_answer;
+use crate::answers::{add_answer, add_report};
 use crate::clock::Clock;
-use crate::entries::Entry;
+use crate::entries::{Entry, What};
+use crate::history::{events_for, tell_history};
 use crate::meaning::meaning_of;
 use board_captures::Method;
 use board_live::{Happened, Live};
+use board_times::read_times;
 use std::alloc::{AllocError, Global};
 
 /// Takes what a host tells, and answers.
@@ -22,6 +26,20 @@ pub struct Recorder {
     live: Live,
     /// New lines of the report.
     lines: Vec<u8>,
+    /// The file of times that waits for its capture.
+    times: Vec<u8>,
+}
+
+/// Remembers a file of times, if this is one.
+fn remember(times: &mut Vec<u8>, what: What, bytes: &[u8]) -> Result<(), AllocError>
+    requires { brings_capture what ≡ false }
+    ensures { OnOk result (times.new.items ≡ waiting_by what bytes.now times.old.items) }
+{
+    if !what.brings_times() {
+        return Ok(());
+    }
+    times.clear();
+    times.extend_from_slice(bytes)
 }
 
 impl Recorder {
@@ -33,15 +51,18 @@ impl Recorder {
         let clock = Clock::new();
         let live = Live::new(alloc, method);
         let lines = Vec::new(alloc);
+        let times = Vec::new(alloc);
         Recorder {
             alloc,
             clock,
             live,
             lines,
+            times,
         }
     }
 
-    /// Takes an entry with the bytes behind it, and appends what is answered.
+    /// Takes an entry with the bytes behind it, and appends what is answered. A file of times waits for its capture, which comes
+    /// behind it. Then both are told to the board: what was kept of the calls before.
     ///
     /// # Errors
     ///
@@ -49,11 +70,59 @@ impl Recorder {
     pub fn take(&mut self, entry: Entry, bytes: &[u8], out: &mut Vec<u8>) -> Result<(), AllocError>
         requires begun { HasBegun self.old }
         ensures stands { (setting : Setting) (recovers : Bool) (past : List Heard) (text : List ℕ) → StandsFor self.old setting recovers past text
-            → let heard : Heard = record { entry = entry; bytes = bytes.now } in
-            OnOk result ((more said : List ℕ) × (out.new.items ≡ out.old.items ++ said) × IsAnswered setting recovers heard past more said
+            → OnOk result ((heard : Heard) × (more said : List ℕ) × (heard.entry ≡ entry) × (heard.bytes ≡ bytes.now) × IsHeard heard past
+            × (out.new.items ≡ out.old.items ++ said) × IsAnswered setting recovers heard past more said
             × StandsFor self.new setting recovers (heard ∷ past) (text ++ more)) }
         ensures begun { OnOk result (HasBegun self.new) }
     {
+        if entry.what.brings_capture() {
+            self.take_capture(bytes, out)
+        } else {
+            self.take_entry(entry, bytes, out)
+        }
+    }
+
+    /// Takes a capture of the calls before, by the file of times that waited for it.
+    fn take_capture(&mut self, capture: &[u8], out: &mut Vec<u8>) -> Result<(), AllocError>
+        requires begun { HasBegun self.old }
+        ensures stands { (setting : Setting) (recovers : Bool) (entry : EntryOf) (past : List Heard) (text : List ℕ)
+            → brings_capture entry.what ≡ true → StandsFor self.old setting recovers past text
+            → OnOk result ((heard : Heard) × (more said : List ℕ) × (heard.entry ≡ entry) × (heard.bytes ≡ capture.now) × IsHeard heard past
+            × (out.new.items ≡ out.old.items ++ said) × IsAnswered setting recovers heard past more said
+            × StandsFor self.new setting recovers (heard ∷ past) (text ++ more)) }
+        ensures begun { OnOk result (HasBegun self.new) }
+    {
+        let found = read_times(self.alloc, self.times.as_slice())?;
+        let events = events_for(&found, capture);
+        self.lines.clear();
+        tell_history(
+            &mut self.live,
+            &mut self.clock,
+            events,
+            capture,
+            &mut self.lines,
+        )?;
+        self.times = Vec::new(self.alloc);
+        add_report(self.alloc, self.lines.as_slice(), out)?;
+        Ok(())
+    }
+
+    /// Takes another entry.
+    fn take_entry(
+        &mut self,
+        entry: Entry,
+        bytes: &[u8],
+        out: &mut Vec<u8>,
+    ) -> Result<(), AllocError>
+        requires begun { HasBegun self.old }
+        requires brings { brings_capture entry.what ≡ false }
+        ensures stands { (setting : Setting) (recovers : Bool) (past : List Heard) (text : List ℕ) → StandsFor self.old setting recovers past text
+            → OnOk result ((heard : Heard) × (more said : List ℕ) × (heard.entry ≡ entry) × (heard.bytes ≡ bytes.now) × IsHeard heard past
+            × (out.new.items ≡ out.old.items ++ said) × IsAnswered setting recovers heard past more said
+            × StandsFor self.new setting recovers (heard ∷ past) (text ++ more)) }
+        ensures begun { OnOk result (HasBegun self.new) }
+    {
+        remember(&mut self.times, entry.what, bytes)?;
         let at = self.clock.take(entry);
         let what = meaning_of(entry.what, bytes);
         self.lines.clear();
@@ -92,5 +161,13 @@ impl Recorder {
         ensures { result.now ≡ self.now.live }
     {
         &self.live
+    }
+
+    /// For its clause: what was appended so far is the report of what came to the game, behind its first line.
+    pub fn conclude(&self)
+        ensures { (setting : Setting) (recovers : Bool) (past : List Heard) (text : List ℕ) → StandsFor self.now setting recovers past text
+            → Reports setting recovers past text }
+    {
+        self.live.conclude();
     }
 }
