@@ -1,0 +1,160 @@
+"""What `live` answers. Times of requests are a second apart, the next one half a second after an update; a square that differs is in a
+player's hand for its first ten seconds."""
+
+from typing import Iterable, Tuple
+
+from given.case import Case, but, leave, leave_by_bytes
+from given.messages import E2_EMPTY, INITIAL
+from given.watched import START
+
+# `live` over no input.
+LIVE = Case(words=["live"], out=START)
+
+# The board's serial number is 01234; another one's is 01235.
+NUMBER, OTHER_NUMBER = b"\x91\x00\x0801234", b"\x91\x00\x0801235"
+
+# What a host tells, and what it is answered.
+Turns = Iterable[Tuple[bytes, bytes]]
+
+
+def turns(told: Turns, **changed: object) -> Case:
+    """The case in which all of this is told, and answered."""
+    rows = list(told)
+    return but(LIVE, sent=b"".join(row[0] for row in rows), out=START + b"".join(row[1] for row in rows), **changed)
+
+
+def digest(data: bytes) -> int:
+    """FNV-1a with 64 bits."""
+    value = 0xCBF29CE484222325
+    for byte in data:
+        value = (value ^ byte) * 0x100000001B3 % 2**64
+    return value
+
+
+CAPTURE = NUMBER + INITIAL + E2_EMPTY  # 8, 67 and 5 bytes
+
+SHOWN = b"74 picture rnbqkbnr/pppppppp/8/8/8/8/PPPPPPPP/RNBQKBNR\n74 agrees\n"
+LIFTED = b"79 picture rnbqkbnr/pppppppp/8/8/8/8/PPPP1PPP/RNBQKBNR\n79 differs e2\n"
+
+# One call: the board gives its number and its pieces, is asked again, a pawn is lifted, and the cable is pulled.
+CALL = [
+    (b"0 begin 0\n", b"keep\nstate WAITS -\ndone -\n"),
+    (b"5 opened\n", b"keep\nask EBK\ndone 1000\n"),
+    (b"95 heard 8\n" + NUMBER, b"kept 8\n" + NUMBER + b"keep\ndone 910\n"),
+    (b"120 heard 67\n" + INITIAL, b"kept 67\n" + INITIAL + SHOWN + b"keep\nstate AGREES 0\ndone 85\n"),
+    (b"1005 wake\n", b"keep\nask B\ndone 1000\n"),
+    (b"1100 heard 5\n" + E2_EMPTY, b"kept 5\n" + E2_EMPTY + LIFTED + b"keep\nstate IN-HAND 0 e2\ndone 500\n"),
+    (b"1500 gone\n", b"keep\nstate UNPLUGGED 0\ndone 100\n"),
+]
+
+# The next call, 35 s later: another board is on the cable until the arbiter takes it.
+NEXT_CALL = [
+    (b"0 begin 80\n", b"keep\nstate UNPLUGGED 0\ndone -\n"),
+    (b"0 away 35000\n", b"keep\ndone -\n"),
+    (b"0 number 5\n01234", b"keep\ndone -\n"),
+    (b"10 opened\n", b"hold\nask EBK\nstate WAITS -\ndone 1000\n"),
+    (b"60 heard 8\n" + OTHER_NUMBER, b"other 01235\ndone 950\n"),
+    (b"300 lent\n", b"other 01235\ndone 710\n"),
+    (b"400 took\n", b"keep\ndone 610\n"),
+]
+
+ATTENDED = [
+    LIVE,
+    turns(CALL),
+    turns(CALL + NEXT_CALL),
+    # a time before the last one counts as that
+    turns([*CALL[:2], (b"3 heard 8\n" + NUMBER, b"kept 8\n" + NUMBER + b"keep\ndone 1000\n")]),
+    # bytes that were added by hand are in the capture already
+    turns([*CALL[:2], (b"95 added 67\n" + INITIAL, b"66 picture rnbqkbnr/pppppppp/8/8/8/8/PPPPPPPP/RNBQKBNR\n66 agrees\nkeep\nstate AGREES 0\ndone 910\n")]),
+]
+
+# ---- what was kept of the calls before
+
+
+def kept(times: bytes, capture: bytes = CAPTURE) -> bytes:
+    return b"0 kept %d\n%s0 capture %d\n%s" % (len(times), times, len(capture), capture)
+
+
+# The file of times of the first call. The capture was empty when it was made.
+HEADING = b"1 times 0\n0 digest %d\n" % digest(b"")
+TIMES = HEADING + b"0 begin 0\n5 opened\n5 asked 3\n95 heard 8\n120 heard 67\n1005 asked 1\n1100 heard 5\n1500 gone\n"
+
+# The report alone is said of what was kept.
+REPORT = b"keep\ndone -\n" + SHOWN + LIFTED + b"done -\n"
+
+# A recorder that begins again with the pawn still in the hand, and what it says: for how long it has been there.
+BEGUN_AGAIN = [
+    (b"0 begin 80\n", b"keep\nstate WAITS -\ndone -\n"),
+    (b"5 opened\n", b"keep\nask EBK\ndone 1000\n"),
+]
+
+KEPT = [
+    # it answers as the recorder that lived through it
+    turns([(kept(TIMES), REPORT), *NEXT_CALL]),
+    # of a torn line nothing counts, and its bytes came when the next call began
+    turns([(kept(TIMES[: TIMES.index(b"1100")] + b"1100 hea"), REPORT), *BEGUN_AGAIN]),
+    # no file of times, one of another capture, that of a newer program, and what is none
+    turns([(b"0 capture 80\n" + CAPTURE, SHOWN + LIFTED + b"done -\n"), *BEGUN_AGAIN]),
+    turns([(kept(b"1 times 0\n80 digest 1\n0 begin 0\n1500 gone\n"), REPORT), *BEGUN_AGAIN]),
+    turns([(kept(b"2 times 0\n0 digest 1\n0 begin 0\n1500 gone\n"), REPORT), *BEGUN_AGAIN]),
+    turns([(kept(b"no times\n"), REPORT), *BEGUN_AGAIN]),
+    # a file that tells of more bytes than the capture has
+    turns([(kept(TIMES.replace(b"120 heard 67", b"120 heard 70")), REPORT), *NEXT_CALL]),
+    # the last of two files of times counts
+    turns([(b"0 kept 9\nno times\n", b"keep\ndone -\n"), (kept(TIMES), REPORT), *NEXT_CALL]),
+    # an empty capture
+    turns([(kept(b"", b""), b"keep\ndone -\ndone -\n"), *CALL]),
+]
+
+# ---- what is no entry
+
+REFUSED = but(LIVE, status=1, err=b"input: no entry\n")
+
+NO_ENTRIES = [
+    but(REFUSED, sent=sent)
+    for sent in (
+        b"5 opens\n",  # no word
+        b"05 opened\n",  # a zero before a number
+        b"opened\n",
+        b"\n",
+        b"5 opened 3\n",
+        b"5 heard\n",
+        b"18446744073709551616 opened\n",  # 2^64
+        b"0 capture 67108865\n",  # more than a capture may have
+        b"12 heard 3\nab",  # it ends within an entry
+        b"12 hea",
+        b"1" * 64,
+    )
+]
+
+# The entries before it are answered.
+BEFORE_NO_ENTRY = [
+    turns(CALL, status=1, err=b"input: no entry\n"),
+    but(turns(CALL[:2]), sent=CALL[0][0] + CALL[1][0] + b"95 heard 9\n" + NUMBER, status=1, err=b"input: no entry\n"),
+]
+BEFORE_NO_ENTRY[0] = but(BEFORE_NO_ENTRY[0], sent=BEFORE_NO_ENTRY[0].sent + b"1600 opens\n")
+
+# ---- streams that fail, and options
+
+FAILING = [
+    but(LIVE, fails=True, status=3, err=b"read fault\n"),
+    but(turns(CALL), fails=True, status=3, err=b"read fault\n"),
+    # within an entry
+    but(turns(CALL[:2]), sent=CALL[0][0] + CALL[1][0] + b"95 heard 8\n" + NUMBER[:3], fails=True, status=3, err=b"read fault\n"),
+    but(LIVE, words=["live", "--fen", "x"], status=1, out=b"", err=b"fen: form\n"),
+]
+
+# Where the first write fails, nothing is read.
+UNTOLD = but(LIVE, out=b"", status=3, err=b"write fault\n", more=1, unread=1, room=0)
+
+# A capture as large as it may be: a run of stray bytes.
+LARGEST = but(LIVE, sent=b"0 capture 67108864\n", more=67108864, out=START + b"0 fault stray\ndone -\n")
+
+
+def live() -> None:
+    """`live` whole, and where a read gives one byte."""
+    leave("live", ATTENDED, KEPT, NO_ENTRIES, BEFORE_NO_ENTRY, FAILING, [UNTOLD, LARGEST])
+    leave_by_bytes("live byte by byte", ATTENDED, KEPT, NO_ENTRIES, BEFORE_NO_ENTRY)
+
+
+TABLES = [live]
