@@ -87,11 +87,11 @@ pub fn add_answer(
     add_said(alloc, said_of(now, answer, due), out)
 }
 
-/// Adds what is answered to a capture of the calls before: these lines of the report.
-pub fn add_report(alloc: Global, lines: &[u8], out: &mut Vec<u8>) -> Result<(), AllocError>
-    ensures { IfOk result (λ _. out.new.items ≡ out.old.items ++ capture_text lines.now) }
+/// Adds what is answered to a capture of the calls before: the report of it.
+pub fn add_report(alloc: Global, report: &[u8], out: &mut Vec<u8>) -> Result<(), AllocError>
+    ensures { IfOk result (λ _. out.new.items ≡ out.old.items ++ capture_text report.now) }
 {
-    out.extend_from_slice(lines)?;
+    out.extend_from_slice(report)?;
     let said = Said {
         handling: None,
         request: None,
