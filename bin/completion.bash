@@ -14,13 +14,14 @@ _dgt() {
         dgt_round,*) words="--new --encoding --matches --embed --web --output --event --site --date --round $shown" ;;
         dgt_replay,*)
             if [ "$COMP_CWORD" -eq 1 ]; then
-                words='record follow watch recover add back show pictures check times moves positions help --help --version'
+                words='record follow watch recover add back live show pictures check times moves positions help --help --version'
             else
                 case ${COMP_WORDS[1]} in
                     record) words="$game $tags --help" ;;
                     follow | watch | recover) words="$game --help" ;;
                     add) words="$game --recover --line --help" ;;
                     back) words="$game --recover --to --help" ;;
+                    live) words="$game --recover --help" ;;
                     pictures) words='--rotated --help' ;;
                     moves | positions) words='--fen --help' ;;
                     *) words='--help' ;;

@@ -1,10 +1,12 @@
 """What `live` answers. Times of requests are a second apart, the next one half a second after an update; a square that differs is in a
 player's hand for its first ten seconds."""
 
-from typing import Iterable, Tuple
+from typing import Any, Iterable, Tuple
 
-from given.case import Case, but, leave, leave_by_bytes
-from given.messages import E2_EMPTY, INITIAL
+from decided.table import same
+from given.case import Case, but, leave, leave_by_bytes, left_by
+from given.messages import E2_EMPTY, INITIAL, TURNED, TWO_KINGS
+from given.recovered import BISHOP, HIDDEN
 from given.watched import START
 
 # `live` over no input.
@@ -17,7 +19,7 @@ NUMBER, OTHER_NUMBER = b"\x91\x00\x0801234", b"\x91\x00\x0801235"
 Turns = Iterable[Tuple[bytes, bytes]]
 
 
-def turns(told: Turns, **changed: object) -> Case:
+def turns(told: Turns, **changed: Any) -> Case:
     """The case in which all of this is told, and answered."""
     rows = list(told)
     return but(LIVE, sent=b"".join(row[0] for row in rows), out=START + b"".join(row[1] for row in rows), **changed)
@@ -32,6 +34,9 @@ def digest(data: bytes) -> int:
 
 
 CAPTURE = NUMBER + INITIAL + E2_EMPTY  # 8, 67 and 5 bytes
+
+# On a rotated board e2 is field 63 - 52.
+E2_EMPTY_TURNED = b"\x8e\x00\x05\x0b\x00"
 
 SHOWN = b"74 picture rnbqkbnr/pppppppp/8/8/8/8/PPPPPPPP/RNBQKBNR\n74 agrees\n"
 LIFTED = b"79 picture rnbqkbnr/pppppppp/8/8/8/8/PPPP1PPP/RNBQKBNR\n79 differs e2\n"
@@ -144,6 +149,31 @@ FAILING = [
     but(LIVE, words=["live", "--fen", "x"], status=1, out=b"", err=b"fen: form\n"),
 ]
 
+# The text of a whole call, and the part of it that finds room.
+WHOLE = turns(CALL)
+CUT_OFF = [
+    but(WHOLE, room=10, status=3, out=WHOLE.out[:10], err=b"write fault\n"),
+    but(WHOLE, room=len(WHOLE.out) - 1, status=3, out=WHOLE.out[:-1], err=b"write fault\n"),
+    but(WHOLE, sent=WHOLE.sent + b"\n", status=1, error_room=3, err=b"inp"),
+]
+
+def turned(text: bytes) -> bytes:
+    """The same from a board that stands the other way round."""
+    return text.replace(INITIAL, TURNED).replace(E2_EMPTY, E2_EMPTY_TURNED)
+
+
+KINGS = "4k3/8/8/8/8/8/8/4K3 w - -"
+
+OPTIONS = [
+    but(WHOLE, words=["live", "--rotated"], sent=turned(WHOLE.sent), out=turned(WHOLE.out)),
+    but(
+        LIVE,
+        words=["live", "--fen", KINGS],
+        sent=b"0 capture 67\n" + TWO_KINGS,
+        out=b"0 position 4k3/8/8/8/8/8/8/4K3 w - - 0 1\n66 picture 4k3/8/8/8/8/8/8/4K3\n66 agrees\ndone -\n",
+    ),
+]
+
 # Where the first write fails, nothing is read.
 UNTOLD = but(LIVE, out=b"", status=3, err=b"write fault\n", more=1, unread=1, room=0)
 
@@ -153,8 +183,17 @@ LARGEST = but(LIVE, sent=b"0 capture 67108864\n", more=67108864, out=START + b"0
 
 def live() -> None:
     """`live` whole, and where a read gives one byte."""
-    leave("live", ATTENDED, KEPT, NO_ENTRIES, BEFORE_NO_ENTRY, FAILING, [UNTOLD, LARGEST])
+    leave("live", ATTENDED, KEPT, NO_ENTRIES, BEFORE_NO_ENTRY, FAILING, CUT_OFF, OPTIONS, [UNTOLD, LARGEST])
     leave_by_bytes("live byte by byte", ATTENDED, KEPT, NO_ENTRIES, BEFORE_NO_ENTRY)
 
 
-TABLES = [live]
+def recovers() -> None:
+    """Only with `--recover` a pair that no picture showed is in the report."""
+    hidden = INITIAL + HIDDEN + BISHOP
+    told = b"0 heard %d\n" % len(hidden) + hidden
+    for words, count in [(["live"], 0), (["live", "--recover"], 1)]:
+        status, out, err, _ = left_by(but(LIVE, words=words, sent=told))
+        same(f"{words}", (status, out.count(b"116 recovered 2. Nf3 2... Nc6\n"), err), (0, count, b""))
+
+
+TABLES = [live, recovers]

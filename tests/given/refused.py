@@ -21,6 +21,9 @@ REFUSED_ARGUMENTS: List[List[str]] = [
     ["recover", "--rotated", "--rotated"],
     ["recover", "--fen", "x", "--fen", "x"],
     ["recover", "game.dgt"],
+    ["live", "--first", "green"],
+    ["live", "--line", "e4"],
+    ["live", "board.entries"],
     ["show", "--rotated"],
     ["moves", "--rotated"],
     ["positions", "e4"],
@@ -46,6 +49,7 @@ REFUSED_FEN = Case(sent=INITIAL + E2_EMPTY + E4_PAWN, more=1, unread=1, status=1
 REFUSED_FENS = [
     but(REFUSED_FEN, words=["recover", "--fen", "8/8/8/8/8/8/8/4K3 w - - 0 1"], err=b"fen: kings\n"),
     but(REFUSED_FEN, words=["recover", "--rotated", "--first", "black", "--fen", "x"], err=b"fen: form\n"),
+    but(REFUSED_FEN, words=["live", "--recover", "--fen", "x"], err=b"fen: form\n"),
 ]
 
 def arguments() -> None:

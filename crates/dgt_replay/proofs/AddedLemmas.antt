@@ -18,7 +18,6 @@ use Rattle.settle_core.specs.declared.plies.Ply.{Ply}
 use Rattle.settle_core.specs.Entries.{deduplicated}
 use Rattle.settle_core.specs.Folding.{Folds, Score, score_of}
 use Rattle.settle_core.specs.Laws.{FoldsOnce}
-use Rattle.recovery.specs.Weaving.{Recovers}
 use Rattle.unseen_pairs.specs.Laws.{RecoversOnce}
 use Rattle.dgt_replay.specs.Added.{AddedLinesAreRecorded, AddedLinesAreRecovered}
 use Rattle.dgt_replay.proofs.RecoveredLemmas.{recovered_score}

@@ -13,7 +13,7 @@ use Rattle.board_listing.specs.declared.listing.Listing.TheVariants.{Game, Watch
 use Rattle.dgt_frame.specs.Streams.{Timed}
 use Rattle.chess_game.specs.declared.values.Tag.{Tag}
 use Rattle.replay_arguments.specs.declared.arguments.Subcommand.{Subcommand}
-use Rattle.replay_arguments.specs.Subcommands.{Asks, AsksFor, AsksForPictures, AsksForTimes, AsksToAdd, AsksToCheck, AsksToFollow, AsksToGoBack, AsksToRecord, AsksToRecover, AsksToShow, AsksToWatch}
+use Rattle.replay_arguments.specs.Subcommands.{Asks, AsksFor, AsksForPictures, AsksForTimes, AsksToAdd, AsksToAttend, AsksToCheck, AsksToFollow, AsksToGoBack, AsksToRecord, AsksToRecover, AsksToShow, AsksToWatch}
 use Rattle.replay_arguments.specs.Setups.{SetsUpNothing, tag_text}
 use Rattle.chess_text.specs.Start.{HasNoStart, StartsAt, given}
 use Rattle.replay_arguments.specs.TagOptions.{option_of}
@@ -23,7 +23,7 @@ use Rattle.dgt_replay.specs.Add.{AddsLine}
 use Rattle.dgt_replay.specs.Back.{TakesBack}
 use Rattle.dgt_replay.specs.Edit.{Edits, text_in}
 use Rattle.dgt_replay.proofs.EditLemmas.{puts_memory}
-use Rattle.dgt_replay.specs.Does.{Lists, Records, RecoversPairs, WritesText}
+use Rattle.dgt_replay.specs.Does.{AttendsBoard, Lists, Records, RecoversPairs, WritesText}
 use Rattle.dgt_replay.specs.Inside.Dispatching.{Does}
 use Rattle.text_subcommands.specs.Played.{Plays, RefusesMoves, line_limit}
 use Rattle.text_subcommands.specs.Printed.{Prints}
@@ -35,7 +35,7 @@ use Rattle.dgt_replay.proofs.EndLemmas.{ends_for_memory, none_read, not_both}
 use Rattle.text_subcommands.proofs.MessageLemmas.{tells_alike, tells_memory}
 use Rattle.dgt_replay.proofs.RefusalLemmas.{refuses_alike}
 use Rattle.dgt_replay.proofs.SetupLemmas.{meets_nothing, meets_board}
-use Rattle.dgt_replay.proofs.SubcommandLemmas.{add_chosen, back_chosen, chooses_check, chooses_follow, chooses_pictures, chooses_record, chooses_recover, chooses_show, chooses_times, chooses_watch, follow_chosen, moves_chosen, positions_chosen, record_chosen, recover_chosen, watch_chosen}
+use Rattle.dgt_replay.proofs.SubcommandLemmas.{add_chosen, back_chosen, chooses_check, chooses_follow, chooses_pictures, chooses_record, chooses_recover, chooses_show, chooses_times, chooses_watch, follow_chosen, live_chosen, moves_chosen, positions_chosen, record_chosen, recover_chosen, watch_chosen}
 
 -- Memory ran out before anything was read, or written to the output.
 pub record LacksMemory (status : ℕ) (s : Streams) : Type 0 where
@@ -92,6 +92,17 @@ recovers_memory setting status s lacks =
       known = (3, omega arith, sym four);
       bounded = none_read limit s.input s.input' lacks.untouched.0;
       read = λ e. not_both s.reader_failed e lacks.reading;
+    }
+
+pub attends_memory : (setting : Setting) (recovers : Bool) (status : ℕ) (s : Streams) → LacksMemory status s → AttendsBoard setting recovers status s
+attends_memory setting recovers status s lacks =
+    let four : status ≡ 4 = lacks.four in
+    record {
+      done = λ e. absurd (omega arith);
+      refused = λ e. absurd (omega arith);
+      fault = λ e. absurd (omega arith);
+      memory = λ e. (inr lacks.untouched, lacks.says);
+      known = (3, omega arith, sym four);
     }
 
 pub edits_memory : (Answers : List ℕ → Option (List ℕ) → List ℕ → Type 0) (IsLong : List ℕ → Type 0) (status : ℕ) (s : Streams) → LacksMemory status s → Edits Answers IsLong status s
@@ -277,6 +288,21 @@ pub does_refuse_back : (arguments : List Text) (subcommand : Subcommand) (status
     → (rows : List Row) → Asks arguments (codes "back") rows → HasNoStart (first_of (codes "fen") rows) → Refuses (RefusesStart (first_of (codes "fen") rows)) status s
 does_refuse_back arguments subcommand status s asked does rows asks none =
     let found = back_chosen arguments rows subcommand asks asked in
+    refuses_start (given found.0.board.fen) rows status s found.2.board.fen (does_as subcommand _ status s found.1 does).1 none
+
+pub does_attend : (arguments : List Text) (subcommand : Subcommand) (status : ℕ) (s : Streams) → AsksFor arguments subcommand → Does subcommand status s
+    → (setting : Setting) (recovers : Bool) → AsksToAttend arguments setting recovers → AttendsBoard setting recovers status s
+does_attend arguments subcommand status s asked does setting recovers (rows, asks, sets, flag) =
+    let found = live_chosen arguments rows subcommand asks asked in
+    let options = found.0 in
+    let wants = found.2 in
+    let R : Bool → Type 0 = λ b. AttendsBoard setting b status s in
+    subst R (wants.recovers recovers flag) ((does_as subcommand _ status s found.1 does).0 setting (meets_board rows options.board setting wants.board sets))
+
+pub does_refuse_live : (arguments : List Text) (subcommand : Subcommand) (status : ℕ) (s : Streams) → AsksFor arguments subcommand → Does subcommand status s
+    → (rows : List Row) → Asks arguments (codes "live") rows → HasNoStart (first_of (codes "fen") rows) → Refuses (RefusesStart (first_of (codes "fen") rows)) status s
+does_refuse_live arguments subcommand status s asked does rows asks none =
+    let found = live_chosen arguments rows subcommand asks asked in
     refuses_start (given found.0.board.fen) rows status s found.2.board.fen (does_as subcommand _ status s found.1 does).1 none
 
 pub does_moves : (arguments : List Text) (subcommand : Subcommand) (status : ℕ) (s : Streams) → AsksFor arguments subcommand → Does subcommand status s

@@ -4,6 +4,7 @@ pub mod DoesLemmas
 pub mod EditLemmas
 pub mod EndLemmas
 pub mod FaultLemmas
+pub mod LiveLemmas
 pub mod RecordedLemmas
 pub mod RecoverLemmas
 pub mod RecoveredLemmas

@@ -8,13 +8,14 @@ use Rattle.clap.specs.Simple.{subcommand_of}
 use Rattle.board_events.specs.declared.setup.Setup.{Setup}
 use Rattle.board_events.specs.Settings.{Setting}
 use Rattle.replay_arguments.specs.declared.arguments.Subcommand.{Subcommand}
-use Rattle.replay_arguments.specs.declared.arguments.Subcommand.TheVariants.{Show, Pictures, Record, Follow, Watch, Recover, Add, Back, Check, Times, Moves, Positions}
+use Rattle.replay_arguments.specs.declared.arguments.Subcommand.TheVariants.{Show, Pictures, Record, Follow, Watch, Recover, Add, Back, Live, Check, Times, Moves, Positions}
 use Rattle.replay_arguments.specs.declared.arguments.BoardArguments.{BoardArguments}
 use Rattle.replay_arguments.specs.declared.arguments.EditArguments.{EditArguments}
+use Rattle.replay_arguments.specs.declared.arguments.LiveArguments.{LiveArguments}
 use Rattle.replay_arguments.specs.declared.arguments.RecordArguments.{RecordArguments}
 use Rattle.replay_arguments.specs.Command.{replay}
 use Rattle.replay_arguments.specs.Subcommands.{Asks, AsksForPictures, AsksForTimes, AsksToCheck, AsksToShow, AsksFor, AsksToFollow, AsksToRecord, AsksToRecover, AsksToWatch, Chooses, IsRefused, is_subcommand}
-use Rattle.replay_arguments.specs.Setups.{Meets, MeetsBoard, Wants, WantsBoard, WantsEdit}
+use Rattle.replay_arguments.specs.Setups.{Meets, MeetsBoard, Wants, WantsBoard, WantsEdit, WantsLive}
 use Rattle.chess_text.specs.Start.{given}
 use Rattle.dgt_replay.proofs.SetupLemmas.{meets, meets_board}
 
@@ -117,6 +118,13 @@ pub back_chosen : (arguments : List Text) (rows : List Row) (subcommand : Subcom
     → (options : EditArguments) × (subcommand ≡ Back options) × WantsEdit (codes "to") rows options
 back_chosen arguments rows subcommand asks asked =
     let found = (chosen arguments (codes "back") rows subcommand asks asked).back refl in
+    (found.0, found.1, found.2)
+
+-- `live` asks that a board be attended as its options say
+pub live_chosen : (arguments : List Text) (rows : List Row) (subcommand : Subcommand) → Asks arguments (codes "live") rows → AsksFor arguments subcommand
+    → (options : LiveArguments) × (subcommand ≡ Live options) × WantsLive rows options
+live_chosen arguments rows subcommand asks asked =
+    let found = (chosen arguments (codes "live") rows subcommand asks asked).live refl in
     (found.0, found.1, found.2)
 
 -- `moves` asks for those of the position that its option says

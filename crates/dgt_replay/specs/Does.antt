@@ -1,15 +1,17 @@
 -- What each subcommand does with the streams, by its status.
-use Rattle.std.specs.Prelude.{◌≡◌, ◌⊎◌, ◌∷◌, [], ℕ, Contains, List, Option, codes, false, true}
+use Rattle.std.specs.Prelude.{◌≡◌, ◌⊎◌, ◌∷◌, [], ℕ, Bool, Contains, List, Option, codes, false, true}
 use Rattle.dgt_frame.specs.Streams.{Timed}
 use Rattle.board_events.specs.Limits.{limit}
 use Rattle.board_events.specs.Settings.{Setting}
 use Rattle.board_events.specs.declared.setup.Setup.{Setup}
 use Rattle.board_session.specs.declared.refusal.RecordError.TheVariants.{Memory, TooLong}
 use Rattle.watched_streams.specs.Input.{ReadsWithin}
+use Rattle.live_lines.specs.Streams.{AttendsAll, AttendsFirst, AttendsFront, AttendsRead, AttendsSome}
 use Rattle.board_listing.specs.Listings.{ListingEnds}
 use Rattle.board_listing.specs.OneText.{TextEnds}
 use Rattle.board_listing.specs.declared.listing.Listing.{Listing}
 use Rattle.recovery.specs.Streams.{RecoversAll, RecoversFirst, RecoversFront, RecoversRead, RecoversSome}
+use Rattle.std.specs.Io.KnownBytes.{Keeps}
 use Rattle.text_subcommands.specs.Messages.{IsTooLong, Says, Tells}
 use Rattle.dgt_replay.specs.Recorded.{EndsFor, Fails, RecordsAndTells}
 use Rattle.text_subcommands.specs.Refusals.{Untouched}
@@ -60,3 +62,17 @@ pub record RecoversPairs (setting : Setting) (status : ℕ) (s : Streams) : Type
   pub bounded : ReadsWithin limit s.input s.input'
   -- where a read has failed, all bytes before it were given on before it began
   pub read : s.reader_failed ≡ true → (status ≡ 3) × ((told : Option (List ℕ)) × RecoversRead setting s.input s.input' s.written s.written' s.said told)
+
+-- A board was attended: what a host tells of it was answered, and what ended that is said.
+pub record AttendsBoard (setting : Setting) (recovers : Bool) (status : ℕ) (s : Streams) : Type 0 where
+  -- all of it was answered
+  pub done : status ≡ 0 → AttendsAll setting recovers s.input s.written s.written' × Keeps s.said s.said'
+  -- what follows the entries that were answered is no entry; or there was more to read than can be counted
+  pub refused : status ≡ 1 → (AttendsFirst setting recovers s.input s.written s.written' × Says s.said s.said' s.err_failed (codes "input: no entry\n"))
+      ⊎ (AttendsSome setting recovers s.input s.input' s.written s.written' × Says s.said s.said' s.err_failed (codes "input: too long\n"))
+  -- the reader alone has failed, and all entries before were answered; or the output alone, and a first part of the answers stands
+  pub fault : status ≡ 3 → ((s.reader_failed ≡ true) × (s.out_failed ≡ false) × AttendsRead setting recovers s.input s.input' s.written s.written' × Says s.said s.said' s.err_failed (codes "read fault\n"))
+      ⊎ ((s.reader_failed ≡ false) × (s.out_failed ≡ true) × AttendsFront setting recovers s.input s.input' s.written s.written' × Says s.said s.said' s.err_failed (codes "write fault\n"))
+  -- memory ran out at an entry, and those before were answered; or before anything was read, or written to the output
+  pub memory : status ≡ 4 → (AttendsSome setting recovers s.input s.input' s.written s.written' ⊎ Untouched s) × Says s.said s.said' s.err_failed (codes "memory\n")
+  pub known : Contains (0 ∷ 1 ∷ 3 ∷ 4 ∷ []) status

@@ -9,7 +9,7 @@ ghost use Rattle.clap.specs.Values.{kind_of};
 ghost use Rattle.clap.specs.Walk.{Row, first_of};
 ghost use Rattle.watched_streams.specs.Watch.{IsFlushed, inner_of, has_failed};
 ghost use Rattle.replay_arguments.specs.declared.arguments.BoardArguments.{BoardArguments as BoardOptions};
-ghost use Rattle.replay_arguments.specs.Subcommands.{AreMistaken, Asks, AsksForHelp, AsksForVersion, AsksToAdd, AsksToFollow, AsksToGoBack, AsksToRecord, AsksToRecover, AsksToWatch, IsCheck, IsPictures, IsRefused, IsShow, IsTimes};
+ghost use Rattle.replay_arguments.specs.Subcommands.{AreMistaken, Asks, AsksForHelp, AsksForVersion, AsksToAdd, AsksToAttend, AsksToFollow, AsksToGoBack, AsksToRecord, AsksToRecover, AsksToWatch, IsCheck, IsPictures, IsRefused, IsShow, IsTimes};
 ghost use Rattle.board_listing.specs.declared.listing.Listing.{Listing};
 ghost use Rattle.board_listing.specs.EventLines.{rest_line};
 ghost use Rattle.board_listing.specs.OneText.{event_lines, no_line, picture_lines};
@@ -19,7 +19,7 @@ ghost use Rattle.replay_arguments.specs.TagOptions.{option_of};
 ghost use Rattle.text_subcommands.specs.Checked.{Checks};
 ghost use Rattle.dgt_replay.specs.Add.{AddsLine};
 ghost use Rattle.dgt_replay.specs.Back.{TakesBack};
-ghost use Rattle.dgt_replay.specs.Does.{Lists, Records, RecoversPairs, WritesText};
+ghost use Rattle.dgt_replay.specs.Does.{AttendsBoard, Lists, Records, RecoversPairs, WritesText};
 ghost use Rattle.dgt_replay.specs.Inside.Dispatching.{Does, game_listing};
 ghost use Rattle.dgt_replay.specs.Edit.{text_in};
 ghost use Rattle.text_subcommands.specs.Played.{Plays};
@@ -32,6 +32,7 @@ ghost use Rattle.text_subcommands.specs.Messages.{Says};
 ghost use Rattle.text_subcommands.specs.Streams.{streams};
 
 use crate::edit::{EditKind, edit};
+use crate::live::live;
 use crate::record::record_game;
 use crate::recover::recover;
 use board_listing::{Listing, list_stream};
@@ -209,6 +210,7 @@ fn dispatch<R: Read, O: Write, E: Write>(
         Subcommand::Recover(options) => recover(alloc, options, reader, out, err),
         Subcommand::Add(options) => edit(alloc, EditKind::Add, options, reader, out, err),
         Subcommand::Back(options) => edit(alloc, EditKind::Back, options, reader, out, err),
+        Subcommand::Live(options) => live(alloc, options, reader, out, err),
         Subcommand::Check => check(alloc, reader, out, err),
         Subcommand::Times => times(alloc, reader, out, err),
         Subcommand::Moves { fen } => moves(alloc, *fen, out, err),
@@ -284,6 +286,14 @@ pub fn run<R: Read, O: Write, E: Write>(
     ensures back { (setting : Setting) (recovers : Bool) (to : Option (List ℕ)) → AsksToGoBack (map string_bytes arguments.now) setting recovers to
         → TakesBack setting recovers (text_in to) result (streams R.remaining O.contents E.contents reader.old reader.new out.old out.new err.old err.new) }
     ensures back_refuses { (rows : List Row) → Asks (map string_bytes arguments.now) (codes "back") rows → HasNoStart (first_of (codes "fen") rows)
+        → Refuses (RefusesStart (first_of (codes "fen") rows)) result
+        (streams R.remaining O.contents E.contents reader.old reader.new out.old out.new err.old err.new) }
+
+    // `live` with any options: the answers to what a host tells of a board that it records, from the start that they say.
+    // Where no position has the FEN, the reason is said.
+    ensures live { (setting : Setting) (recovers : Bool) → AsksToAttend (map string_bytes arguments.now) setting recovers → AttendsBoard setting recovers result
+        (streams R.remaining O.contents E.contents reader.old reader.new out.old out.new err.old err.new) }
+    ensures live_refuses { (rows : List Row) → Asks (map string_bytes arguments.now) (codes "live") rows → HasNoStart (first_of (codes "fen") rows)
         → Refuses (RefusesStart (first_of (codes "fen") rows)) result
         (streams R.remaining O.contents E.contents reader.old reader.new out.old out.new err.old err.new) }
 

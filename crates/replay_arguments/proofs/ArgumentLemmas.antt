@@ -22,7 +22,7 @@ use Rattle.chess_game.specs.declared.values.Tag.TheVariants.{Event, Site, Date, 
 use Rattle.board_events.specs.Settings.{setting_of}
 use Rattle.replay_arguments.specs.declared.arguments.Subcommand.{Subcommand}
 use Rattle.replay_arguments.specs.Command.{replay}
-use Rattle.replay_arguments.specs.Subcommands.{Asks, AsksForPictures, AsksForTimes, AsksToAdd, AsksToCheck, AsksToShow, AsksForMoves, AsksForPositions, AsksToFollow, AsksToGoBack, AsksToRecord, AsksToRecover, AsksToWatch, Chooses, IsAdd, IsBack, IsCheck, IsFollow, IsMoves, IsPictures, IsPositions, IsRecord, IsRecover, IsTimes, IsWatch, IsShow, is_subcommand}
+use Rattle.replay_arguments.specs.Subcommands.{Asks, AsksForPictures, AsksForTimes, AsksToAdd, AsksToAttend, AsksToCheck, AsksToShow, AsksForMoves, AsksForPositions, AsksToFollow, AsksToGoBack, AsksToRecord, AsksToRecover, AsksToWatch, Chooses, IsAdd, IsBack, IsCheck, IsFollow, IsLive, IsMoves, IsPictures, IsPositions, IsRecord, IsRecover, IsTimes, IsWatch, IsShow, is_subcommand}
 use Rattle.replay_arguments.specs.Setups.{SetsBoardUp, flag_text, plain_setup, side_in}
 use Rattle.chess_text.specs.Start.{given}
 use Rattle.replay_arguments.specs.TagOptions.{option_of}
@@ -389,3 +389,69 @@ back_asks text false true arguments (name, is) =
 back_asks text true true arguments (name, is) =
     let P : List Text → Type 0 = λ w. AsksToGoBack w (setting_of (plain_setup true)) true (Some text) in
     subst P (sym is) (back_by text true true (name ∷ codes "back" ∷ (codes "--to=" ++ text) ∷ codes "--rotated" ∷ codes "--recover" ∷ []) (turned_recovered_back name text))
+
+-- ---- a board that is attended
+
+-- what was given comes first
+abbrev live_rows : Bool → Bool → List Row
+live_rows false true = recover_row true ∷ flag_row false ∷ []
+live_rows false false = flag_row false ∷ recover_row false ∷ []
+live_rows true false = flag_row true ∷ recover_row false ∷ []
+live_rows true true = flag_row true ∷ recover_row true ∷ []
+
+plain_live : (name : Text) → Finds (name ∷ codes "live" ∷ []) (codes "live") (live_rows false false)
+unfolding clap_on_literals
+plain_live name = (refl, takes_by (name ∷ codes "live" ∷ []) refl)
+
+turned_live : (name : Text) → Finds (name ∷ codes "live" ∷ codes "--rotated" ∷ []) (codes "live") (live_rows true false)
+unfolding clap_on_literals
+turned_live name = (refl, takes_by (name ∷ codes "live" ∷ codes "--rotated" ∷ []) refl)
+
+recovered_live : (name : Text) → Finds (name ∷ codes "live" ∷ codes "--recover" ∷ []) (codes "live") (live_rows false true)
+unfolding clap_on_literals
+recovered_live name = (refl, takes_by (name ∷ codes "live" ∷ codes "--recover" ∷ []) refl)
+
+turned_recovered_live : (name : Text) → Finds (name ∷ codes "live" ∷ codes "--rotated" ∷ codes "--recover" ∷ []) (codes "live") (live_rows true true)
+unfolding clap_on_literals
+turned_recovered_live name = (refl, takes_by (name ∷ codes "live" ∷ codes "--rotated" ∷ codes "--recover" ∷ []) refl)
+
+live_by : (rotated recovers : Bool) (arguments : List Text) → Finds arguments (codes "live") (live_rows rotated recovers)
+    → AsksToAttend arguments (setting_of (plain_setup rotated)) recovers
+live_by false false arguments finds = (
+  live_rows false false,
+  asks_by arguments (codes "live") (live_rows false false) finds refl,
+  sets_board_up_plainly (live_rows false false) false refl refl refl,
+  refl,
+)
+live_by true false arguments finds = (
+  live_rows true false,
+  asks_by arguments (codes "live") (live_rows true false) finds refl,
+  sets_board_up_plainly (live_rows true false) true refl refl refl,
+  refl,
+)
+live_by false true arguments finds = (
+  live_rows false true,
+  asks_by arguments (codes "live") (live_rows false true) finds refl,
+  sets_board_up_plainly (live_rows false true) false refl refl refl,
+  refl,
+)
+live_by true true arguments finds = (
+  live_rows true true,
+  asks_by arguments (codes "live") (live_rows true true) finds refl,
+  sets_board_up_plainly (live_rows true true) true refl refl refl,
+  refl,
+)
+
+pub live_asks : (rotated recovers : Bool) (arguments : List Text) → IsLive rotated recovers arguments → AsksToAttend arguments (setting_of (plain_setup rotated)) recovers
+live_asks false false arguments (name, is) =
+    let P : List Text → Type 0 = λ w. AsksToAttend w (setting_of (plain_setup false)) false in
+    subst P (sym is) (live_by false false (name ∷ codes "live" ∷ []) (plain_live name))
+live_asks true false arguments (name, is) =
+    let P : List Text → Type 0 = λ w. AsksToAttend w (setting_of (plain_setup true)) false in
+    subst P (sym is) (live_by true false (name ∷ codes "live" ∷ codes "--rotated" ∷ []) (turned_live name))
+live_asks false true arguments (name, is) =
+    let P : List Text → Type 0 = λ w. AsksToAttend w (setting_of (plain_setup false)) true in
+    subst P (sym is) (live_by false true (name ∷ codes "live" ∷ codes "--recover" ∷ []) (recovered_live name))
+live_asks true true arguments (name, is) =
+    let P : List Text → Type 0 = λ w. AsksToAttend w (setting_of (plain_setup true)) true in
+    subst P (sym is) (live_by true true (name ∷ codes "live" ∷ codes "--rotated" ∷ codes "--recover" ∷ []) (turned_recovered_live name))

@@ -77,6 +77,10 @@ add_app = with_edit (codes "line") (new_app (codes "add"))
 abbrev pub back_app : App
 back_app = with_edit (codes "to") (new_app (codes "back"))
 
+-- how a board stands, where its game starts, and whether it is recovered
+abbrev pub live_app : App
+live_app = with_rule (with_board (new_app (codes "live"))) recover_rule
+
 -- a version, and a subcommand that must be given
 abbrev pub with_version : App → App
 with_version app = record app { top = record app.top { has_version = true; subcommand_required = true } }
@@ -96,7 +100,7 @@ with_text_subcommands app = with_subcommand (with_subcommand (with_subcommand (w
 
 -- the command with its subcommands
 abbrev pub replay : App
-replay = with_text_subcommands (with_edit_subcommands (with_board_subcommands (with_version (new_app (codes "dgt_replay")))))
+replay = with_text_subcommands (with_subcommand (with_edit_subcommands (with_board_subcommands (with_version (new_app (codes "dgt_replay"))))) live_app.top)
 
 -- The command is read so by a parse.
 pub record IsApp (command : Command) (app : App) : Type 0 where

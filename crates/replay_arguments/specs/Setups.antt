@@ -21,6 +21,7 @@ use Rattle.replay_arguments.specs.declared.setup.Refusal.TheVariants.{Fen, Tag a
 use Rattle.replay_arguments.specs.declared.arguments.BoardArguments.{BoardArguments}
 use Rattle.replay_arguments.specs.declared.arguments.RecordArguments.{RecordArguments}
 use Rattle.replay_arguments.specs.declared.arguments.EditArguments.{EditArguments}
+use Rattle.replay_arguments.specs.declared.arguments.LiveArguments.{LiveArguments}
 
 -- the text of a flag
 abbrev pub flag_text : Bool → Text
@@ -91,11 +92,16 @@ pub record WantsEdit (name : Text) (rows : List Row) (options : EditArguments) :
   pub recovers : (recovers : Bool) → one_of (codes "recover") rows ≡ Some (flag_text recovers) → options.recovers ≡ recovers
   pub text : given options.text ≡ first_of name rows
 
+-- So are those of the arguments by which a board is attended.
+pub record WantsLive (rows : List Row) (options : LiveArguments) : Type 0 where
+  pub board : WantsBoard rows options.board
+  pub recovers : (recovers : Bool) → one_of (codes "recover") rows ≡ Some (flag_text recovers) → options.recovers ≡ recovers
+
 -- The tags have the values that are given.
 abbrev pub HasValues : RecordArguments → TagValues → Type 0
 HasValues options values = (tag : Tag) → HasValue tag (tag_text options tag) (value_of tag values)
 
--- The setting in which a game is recorded, followed, watched or recovered is as the arguments say.
+-- The setting of a board is as the arguments say.
 pub record MeetsBoard (options : BoardArguments) (setting : Setting) : Type 0 where
   pub rotated : setting.rotated ≡ options.rotated
   pub first : setting.first ≡ options.first

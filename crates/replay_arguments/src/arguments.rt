@@ -8,7 +8,7 @@ ghost use Rattle.clap.specs.Simple.{app_of, subcommand_rows_of};
 ghost use Rattle.clap.specs.Walk.{first_of, rows_of};
 ghost use Rattle.replay_arguments.specs.Command.{replay};
 ghost use Rattle.replay_arguments.specs.Subcommands.{AsksFor, Chooses, IsRefused};
-ghost use Rattle.replay_arguments.specs.Setups.{Wants, WantsBoard, WantsEdit, side_in};
+ghost use Rattle.replay_arguments.specs.Setups.{Wants, WantsBoard, WantsEdit, WantsLive, side_in};
 ghost use Rattle.chess_text.specs.Start.{given};
 ghost use Rattle.replay_arguments.specs.TagOptions.{option_of};
 
@@ -39,6 +39,8 @@ pub enum Subcommand<'a> {
     Add(EditArguments<'a>),
     /// A capture whose game goes back to one of its plies.
     Back(EditArguments<'a>),
+    /// What a host that records a board is answered.
+    Live(LiveArguments<'a>),
     /// Whether a text is PGN in export form.
     Check,
     /// What a file of times says.
@@ -69,6 +71,15 @@ pub struct EditArguments<'a> {
     pub recovers: bool,
     /// The line that was typed, or how far the game goes back; if any.
     pub text: Option<&'a str>,
+}
+
+/// How a board that a host records is to be attended.
+#[derive(Clone, Copy)]
+pub struct LiveArguments<'a> {
+    /// How it stands, and where its game starts.
+    pub board: BoardArguments<'a>,
+    /// Whether the moves that no picture showed are recovered.
+    pub recovers: bool,
 }
 
 /// How a game is to be recorded.
@@ -164,6 +175,18 @@ fn edit_arguments_of<'a>(name: &str, matches: &ArgMatches<'a>) -> Option<EditArg
     })
 }
 
+/// How a board that a host records is to be attended.
+fn live_arguments_of<'a>(matches: &ArgMatches<'a>) -> Option<LiveArguments<'a>>
+    ensures wants { IfSome result (λ options. WantsLive (rows_of (found_of matches.now)) options) }
+    ensures known { is_some result ≡ is_some (side_in (first_value (found_of matches.now) (codes "first"))) }
+{
+    let Some(board) = board_arguments_of(matches) else {
+        return None;
+    };
+    let recovers = matches.get_flag("recover");
+    Some(LiveArguments { board, recovers })
+}
+
 fn subcommand_named<'a>(name: &str, matches: &ArgMatches<'a>) -> Option<Subcommand<'a>>
     ensures { Chooses name.now (rows_of (found_of matches.now)) result }
 {
@@ -194,6 +217,10 @@ fn subcommand_named<'a>(name: &str, matches: &ArgMatches<'a>) -> Option<Subcomma
         },
         "back" => match edit_arguments_of("to", matches) {
             Some(back) => Some(Subcommand::Back(back)),
+            None => None,
+        },
+        "live" => match live_arguments_of(matches) {
+            Some(live) => Some(Subcommand::Live(live)),
             None => None,
         },
         "check" => Some(Subcommand::Check),

@@ -1,7 +1,7 @@
 //! The command line of the program, as `clap` parses it.
 ghost use Rattle.std.specs.Prelude.{◌≡◌, IfOk};
 ghost use Rattle.clap.specs.Simple.{App, app_of, new_app};
-ghost use Rattle.replay_arguments.specs.Command.{AddsRule, AddsApp, IsApp, Makes, add_app, back_app, check_app, follow_app, moves_app, pictures_app, positions_app, record_app, recover_app, recover_rule, replay, rotated_rule, show_app, text_rule, times_app, watch_app, with_board, with_board_subcommands, with_edit, with_edit_subcommands, with_tags, with_text_subcommands};
+ghost use Rattle.replay_arguments.specs.Command.{AddsRule, AddsApp, IsApp, Makes, add_app, back_app, check_app, follow_app, live_app, moves_app, pictures_app, positions_app, record_app, recover_app, recover_rule, replay, rotated_rule, show_app, text_rule, times_app, watch_app, with_board, with_board_subcommands, with_edit, with_edit_subcommands, with_tags, with_text_subcommands};
 
 use crate::tag_options::{option_help, option_name};
 use chess_game::Tag;
@@ -159,7 +159,7 @@ fn recover<'a>(alloc: Global) -> Result<Command<'a>, AllocError>
     with_board(alloc, Ok(command))
 }
 
-/// The command with the flag that a capture is recovered first.
+/// The command with the flag that a capture is recovered.
 fn with_recover<'a>(
     alloc: Global,
     command: Result<Command<'a>, AllocError>,
@@ -221,6 +221,17 @@ fn back<'a>(alloc: Global) -> Result<Command<'a>, AllocError>
         "PLY",
         "The last ply that stays, or how many stay; without it, all but the last",
     )
+}
+
+fn live<'a>(alloc: Global) -> Result<Command<'a>, AllocError>
+    ensures { IfOk result (λ command. IsApp command live_app) }
+{
+    let command = named(
+        alloc,
+        "live",
+        "Answers what a host tells on standard input, entry by entry, of a board that it records",
+    );
+    with_recover(alloc, with_board(alloc, Ok(command)))
 }
 
 fn check<'a>(alloc: Global) -> Command<'a>
@@ -318,5 +329,6 @@ pub fn command<'a>(alloc: Global) -> Result<Command<'a>, AllocError>
     .version(VERSION)
     .subcommand_required(true);
     let command = with_board_subcommands(alloc, Ok(command));
-    with_text_subcommands(alloc, with_edit_subcommands(alloc, command))
+    let command = with_edit_subcommands(alloc, command);
+    with_text_subcommands(alloc, with_subcommand(command, live(alloc)))
 }

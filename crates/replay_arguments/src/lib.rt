@@ -10,5 +10,7 @@ pub mod laws;
 mod setup;
 mod tag_options;
 
-pub use arguments::{BoardArguments, EditArguments, RecordArguments, Subcommand, read_arguments};
+pub use arguments::{
+    BoardArguments, EditArguments, LiveArguments, RecordArguments, Subcommand, read_arguments,
+};
 pub use setup::{Refusal, setup_of};

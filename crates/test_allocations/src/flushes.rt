@@ -12,11 +12,11 @@ use std::alloc::Global;
 /// The capture of 1. e4.
 static CAPTURE: [Signal<'static>; 3] = [Dump(INITIAL), Lift("e2"), Put("e4", "P")];
 
-/// A subcommand, its input (the capture, the export text of 1. e4, or a word), whether a read fails behind it, and the first ten
+/// A subcommand, its input (the capture, the export text of 1. e4, or these words), whether a read fails behind it, and the first ten
 /// bytes of what is written, or nothing where they aren't told.
 type Case<'a> = (&'a str, &'a str, bool, &'a str);
 
-static CASES: [Case<'static>; 15] = [
+static CASES: [Case<'static>; 16] = [
     ("show", "capture", false, "66 dump 89"),
     ("pictures", "capture", false, "rnbqkbnr/p"),
     ("follow", "capture", false, "66 agrees\n"),
@@ -24,6 +24,7 @@ static CASES: [Case<'static>; 15] = [
     ("check", "text", false, "moves 1, r"),
     ("moves", "capture", false, "a4\na3\nb4\nb"),
     ("positions", "e4", false, "rnbqkbnr/p"),
+    ("live", "0 begin 0\n", false, "0 position"),
     // a read that fails too
     ("show", "capture", true, ""),
     ("pictures", "capture", true, ""),
@@ -80,7 +81,7 @@ pub fn told(alloc: Global) -> u32 {
 }
 
 /// Each with an input that ends, and with one that fails.
-static WORDS: [&str; 12] = [
+static WORDS: [&str; 13] = [
     "show",
     "pictures",
     "follow",
@@ -91,6 +92,7 @@ static WORDS: [&str; 12] = [
     "times",
     "moves",
     "positions",
+    "live",
     "--help",
     "--version",
 ];

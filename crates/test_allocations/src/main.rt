@@ -3,6 +3,7 @@
 //! lines more say what only streams in memory show of the program.
 #![tactic(auto)]
 
+mod attending;
 mod calls;
 mod flushes;
 mod recordings;
@@ -111,7 +112,10 @@ fn make_runs(rt: &HostRuntime) -> io::Result<bool> {
             return Ok(false);
         }
     }
-    say(rt, "run ", "recover", recoveries::recovers(rt.alloc()))
+    if !say(rt, "run ", "recover", recoveries::recovers(rt.alloc()))? {
+        return Ok(false);
+    }
+    say(rt, "run ", "live", attending::attends(rt.alloc()))
 }
 
 /// Says of how many failed flushes the program told, how many runs flushed all that they wrote, and the status without an argument.

@@ -8,7 +8,7 @@ use Rattle.board_listing.specs.OneText.{event_lines, no_line, picture_lines}
 use Rattle.board_listing.specs.declared.listing.Listing.{Listing}
 use Rattle.board_listing.specs.declared.listing.Listing.TheVariants.{Game, Watched}
 use Rattle.replay_arguments.specs.declared.arguments.Subcommand.{Subcommand}
-use Rattle.replay_arguments.specs.declared.arguments.Subcommand.TheVariants.{Show, Pictures, Record, Follow, Watch, Recover, Add, Back, Check, Times, Moves, Positions}
+use Rattle.replay_arguments.specs.declared.arguments.Subcommand.TheVariants.{Show, Pictures, Record, Follow, Watch, Recover, Add, Back, Live, Check, Times, Moves, Positions}
 use Rattle.replay_arguments.specs.Setups.{Meets, MeetsBoard, MeetsNothing, tag_text}
 use Rattle.chess_text.specs.Start.{HasNoStart, StartsAt, given}
 use Rattle.dgt_replay.specs.Add.{AddsLine}
@@ -21,7 +21,7 @@ use Rattle.text_subcommands.specs.Checked.{Checks}
 use Rattle.text_subcommands.specs.Played.{Plays}
 use Rattle.text_subcommands.specs.Printed.{Prints}
 use Rattle.text_subcommands.specs.Timed.{TellsTimes}
-use Rattle.dgt_replay.specs.Does.{Lists, Records, RecoversPairs, WritesText}
+use Rattle.dgt_replay.specs.Does.{AttendsBoard, Lists, Records, RecoversPairs, WritesText}
 
 -- what is listed of a game that is followed or, with what the board and the clocks show, watched
 abbrev pub game_listing : Bool → Setting → Listing
@@ -42,6 +42,8 @@ Does (Recover options) status s = ((setting : Setting) → MeetsBoard options se
 Does (Add options) status s = ((setting : Setting) → MeetsBoard options.board setting → AddsLine setting options.recovers (text_in (given options.text)) status s)
     × (HasNoStart (given options.board.fen) → Refuses (RefusesStart (given options.board.fen)) status s)
 Does (Back options) status s = ((setting : Setting) → MeetsBoard options.board setting → TakesBack setting options.recovers (text_in (given options.text)) status s)
+    × (HasNoStart (given options.board.fen) → Refuses (RefusesStart (given options.board.fen)) status s)
+Does (Live options) status s = ((setting : Setting) → MeetsBoard options.board setting → AttendsBoard setting options.recovers status s)
     × (HasNoStart (given options.board.fen) → Refuses (RefusesStart (given options.board.fen)) status s)
 Does Check status s = Checks status s
 Does Times status s = TellsTimes status s

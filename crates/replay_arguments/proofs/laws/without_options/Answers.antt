@@ -1,4 +1,4 @@
-use Rattle.replay_arguments.proofs.ArgumentLemmas.{check_asks, follow_asks, moves_asks, pictures_asks, positions_asks, record_asks, recover_asks, show_asks, times_asks, watch_asks}
+use Rattle.replay_arguments.proofs.ArgumentLemmas.{check_asks, follow_asks, live_asks, moves_asks, pictures_asks, positions_asks, record_asks, recover_asks, show_asks, times_asks, watch_asks}
 use Rattle.replay_arguments.proofs.laws.without_options.Goals as goal
 
 pub returns-clause-shows : goal.returns-clause-shows
@@ -18,6 +18,9 @@ returns-clause-watches c = watch_asks
 
 pub returns-clause-recovers : goal.returns-clause-recovers
 returns-clause-recovers c = recover_asks
+
+pub returns-clause-attends : goal.returns-clause-attends
+returns-clause-attends c = live_asks
 
 pub returns-clause-checks : goal.returns-clause-checks
 returns-clause-checks c = check_asks
