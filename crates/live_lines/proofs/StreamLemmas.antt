@@ -16,7 +16,7 @@ use Rattle.live_lines.specs.declared.stream.AttendError.TheVariants.{Read, Write
 use Rattle.live_lines.specs.Inside.Progress.{Answered, BreaksOff, ComesOn, FailsToRead, GoesOn, HasAttended, HasCome, ReadsOn}
 use Rattle.live_lines.specs.Next.{IsUnfinished, IsWrong}
 use Rattle.live_lines.specs.Recorder.{IsAnswered, Reports, StandsFor}
-use Rattle.live_lines.specs.Streams.{Attends, AttendsAll, AttendsFirst, AttendsFront, AttendsRead, AttendsSome, BeginsNoEntry, EndsBy, told_text}
+use Rattle.live_lines.specs.Streams.{Attends, AttendsAll, AttendsFirst, AttendsFront, AttendsRead, AttendsSome, BeginsNoEntry, EndsBy, Writes, told_text}
 use Rattle.live_lines.proofs.NextLemmas.{waits}
 
 pub attends_of : (recorder : Recorder) (setting : Setting) (recovers : Bool) (text said : List ℕ) → HasAttended recorder setting recovers text said
@@ -506,3 +506,12 @@ pub began_by_front : (error : AttendError) (recorder : Recorder) (setting : Sett
 began_by_front error recorder setting recovers input written written' is s part =
     let E : AttendError → Type 0 = λ x. EndsBy x setting recovers input input written written' in
     subst E (sym is) (began_front recorder setting recovers input written written' s part)
+
+-- ---- later entries
+
+pub stays : (setting : Setting) (recovers : Bool) (later past : List Heard) (report said : List ℕ) → Writes setting recovers (later ++ past) report said
+    → (before earlier more : List ℕ) × Writes setting recovers past before earlier × (said ≡ earlier ++ more)
+stays setting recovers [] past report said w = (report, said, [], w, sym (append-nil said))
+stays setting recovers (heard ∷ later) past report said w =
+    let s = stays setting recovers later past w.0 w.1 w.4 in
+    (s.0, s.1, s.2 ++ w.3, s.3, w.7 ∙ ap (λ t. t ++ w.3) s.4 ∙ append_assoc s.1 s.2 w.3)

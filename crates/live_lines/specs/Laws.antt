@@ -19,6 +19,7 @@ use Rattle.live_lines.specs.declared.next.Next.{Next}
 use Rattle.live_lines.specs.Heard.{Heard}
 use Rattle.live_lines.specs.History.{bytes_in, history_of}
 use Rattle.live_lines.specs.Next.{IsNext, IsUnfinished, Tells}
+use Rattle.live_lines.specs.Streams.{Writes}
 
 -- A text begins with one entry at most.
 abbrev pub IsToldOnce : Type 0
@@ -73,3 +74,8 @@ IsAnsweredInOneWay = (kept others lines news more rest : List ℕ) (one other : 
 abbrev pub ReportsHaveLines : Type 0
 ReportsHaveLines = (setting : Setting) (recovers : Bool) (past later : List Came) (text more : List ℕ) → Valid setting.start
     → IsReport setting recovers past text → IsReport setting recovers later (text ++ more) → HasLines more
+
+-- Later entries change nothing that was said: what is written of more entries begins with what was written of the first ones.
+abbrev pub LaterChangesNothing : Type 0
+LaterChangesNothing = (setting : Setting) (recovers : Bool) (later past : List Heard) (report said : List ℕ) → Writes setting recovers (later ++ past) report said
+    → (before earlier more : List ℕ) × Writes setting recovers past before earlier × (said ≡ earlier ++ more)

@@ -1,5 +1,5 @@
 //! What holds of each text.
-ghost use Rattle.live_lines.specs.Laws.{EachByteComesOnce, IsAnsweredInOneWay, IsToldOnce, ReportsHaveLines, TimesGoOn, WaitsForIt, WrittenIsTold};
+ghost use Rattle.live_lines.specs.Laws.{EachByteComesOnce, IsAnsweredInOneWay, IsToldOnce, LaterChangesNothing, ReportsHaveLines, TimesGoOn, WaitsForIt, WrittenIsTold};
 
 use chess_text::laws::{fens_are_plain, texts_are_plain};
 
@@ -31,6 +31,11 @@ pub fn each_byte_comes_once()
 /// Answers that stand one behind the other are read in one way.
 pub fn is_answered_in_one_way()
     ensures { IsAnsweredInOneWay }
+{}
+
+/// Whatever is told later, what was written stays.
+pub fn later_changes_nothing()
+    ensures { LaterChangesNothing }
 {}
 
 /// From a valid start, what a report has more consists of lines that begin with an offset.
