@@ -30,6 +30,7 @@ SENTENCES = {
 LETTERS_OF_PIECES = "in English letters: pieces are K, Q, R, B and N, in capitals, and squares a1 to h8"
 BY_LETTER = "the piece's letter and where it goes"
 PROMOTED = "with the piece that the pawn becomes"
+NO_COMMAS = "with blanks between moves, and no commas"
 
 
 @dataclass(frozen=True)
@@ -107,7 +108,9 @@ def refuse(said: Said, line: str, place: str) -> Refused:
 
 def written_so(word: str, meant: str) -> str:
     """The message that a move is to be written otherwise."""
-    if meant.startswith("O-O"):
+    if word.rstrip(",;") == meant:
+        how = NO_COMMAS
+    elif meant.startswith("O-O"):
         how = "with letters"
     elif sum(letter.isdigit() for letter in word) > 1:  # both squares
         how = BY_LETTER

@@ -18,6 +18,7 @@ const SENTENCES = {
 const LETTERS_OF_PIECES = 'in English letters: pieces are K, Q, R, B and N, in capitals, and squares a1 to h8';
 const BY_LETTER = "the piece's letter and where it goes";
 const PROMOTED = 'with the piece that the pawn becomes';
+const NO_COMMAS = 'with blanks between moves, and no commas';
 
 /**
  * The answer of a command: { kind, words, put } with what a sentence needs, and the bytes, if there are any. Throws
@@ -54,6 +55,7 @@ function writtenSo(word, meant) {
 }
 
 function howWritten(word, meant) {
+  if (word.replace(/[,;]+$/, '') === meant) return NO_COMMAS;
   if (meant.startsWith('O-O')) return 'with letters';
   if (word.replace(/[^0-9]/g, '').length > 1) return BY_LETTER; // it has both squares
   return meant.includes('=') && /[0-9]$/.test(word) ? PROMOTED : LETTERS_OF_PIECES;
