@@ -69,8 +69,8 @@ ATTENDED = [
     turns(CALL + NEXT_CALL),
     # a time before the last one counts as that
     turns([*CALL[:2], (b"3 heard 8\n" + NUMBER, b"kept 8\n" + NUMBER + b"keep\ndone 1000\n")]),
-    # bytes that were added by hand are in the capture already
-    turns([*CALL[:2], (b"95 added 67\n" + INITIAL, b"66 picture rnbqkbnr/pppppppp/8/8/8/8/PPPPPPPP/RNBQKBNR\n66 agrees\nkeep\nstate AGREES 0\ndone 910\n")]),
+    # bytes that were added by hand are in the capture already; then a dump is wanted, 0.2 s after the last request
+    turns([*CALL[:2], (b"95 added 67\n" + INITIAL, b"66 picture rnbqkbnr/pppppppp/8/8/8/8/PPPPPPPP/RNBQKBNR\n66 agrees\nkeep\nstate AGREES 0\ndone 110\n")]),
 ]
 
 # ---- what was kept of the calls before
