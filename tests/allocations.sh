@@ -1,6 +1,6 @@
 #!/bin/sh
-# Fails each allocation of the calls in crates/test_allocations in turn. The program is built once, so that its 1,800th allocation
-# fails, and run once for each number: run n spends 1,800 less n of them first, so that the calls' nth is the one. Each run
+# Fails each allocation of the calls in crates/test_allocations in turn. The program is built once, so that its 2,000th allocation
+# fails, and run once for each number: run n spends 2,000 less n of them first, so that the calls' nth is the one. Each run
 # ends with a call that was refused, left all as it was and was granted when made again, up to the calls' last allocation. `add`
 # does without some: there all calls are granted, and how many those are is known. The last runs meet no allocation, and no refusal.
 #
@@ -16,8 +16,8 @@ if ! command -v rt > /dev/null; then
     exit
 fi
 cd crates/test_allocations
-calls=21
-runs=1750
+calls=22
+runs=1900
 spared=43
 folder=$(mktemp -d)
 trap 'rm -rf "$folder"' EXIT
@@ -25,12 +25,12 @@ trap 'rm -rf "$folder"' EXIT
 mkdir "$folder/runs"
 run=1
 while [ "$run" -le "$runs" ]; do
-    printf '%s' $((1800 - run)) > "$folder/runs/$(printf '%04d' "$run")"
+    printf '%s' $((2000 - run)) > "$folder/runs/$(printf '%04d' "$run")"
     run=$((run + 1))
 done
 
 # One step of the interpreter, which is slow here: only the program as it is compiled with checks is judged.
-rt try --steps 1 --fail-alloc 1800 --cases "$folder/runs" > "$folder/log" 2>&1 || true
+rt try --steps 1 --fail-alloc 2000 --cases "$folder/runs" > "$folder/log" 2>&1 || true
 
 awk -v calls="$calls" -v runs="$runs" -v spared="$spared" '
     { text = text $0 "\n" }

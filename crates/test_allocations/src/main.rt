@@ -139,8 +139,8 @@ fn number_in(text: &[u8]) -> u32 {
     number
 }
 
-/// Standard input has a number, or nothing: so many allocations are spent before the calls. So where the 1,800th one
-/// fails, and 1,800 less n are spent, the calls' nth is the one.
+/// Standard input has a number, or nothing: so many allocations are spent before the calls. So where the 2,000th one
+/// fails, and 2,000 less n are spent, the calls' nth is the one.
 fn main(rt: HostRuntime) -> io::Result<()> {
     let mut buffer = [0u8; 16];
     let count = rt.stdin().read(&mut buffer)?;
