@@ -32,6 +32,7 @@ from live.refused import ARGUMENTS, DONE, FAILED, REFUSED, Refused
 from live.round.display import terminal_of_lines
 from live.round.encodings import ENCODING, encoding_in, known_encoding
 from live.round.round import Round, first_pairings, refuse_another_round
+from live.round.place import chosen_folder, refuse_exchanged
 from live.round.row import Hall
 from live.round.site import SiteFiles, kept_rounds
 from live.round.sources import Source
@@ -51,8 +52,8 @@ HELP = """\
 usage: dgt_round FILE [FOLDER] [OPTION..]     a round of its own
        dgt_round CUP ROUND [OPTION..]         a round of a tournament
        dgt_round --new CUP                    its folder, with files to fill in
-Records all boards of a round, shows them in a table, and keeps in FOLDER (or
-where FILE is) each game, as 01.dgt and 01.pgn, and all games in round.pgn.
+Records all boards of a round, shows them in a table, and keeps in FOLDER (else
+in one named after FILE) each game, as 01.dgt and 01.pgn, and all in round.pgn.
 The same command goes on with all games. FILE is a table, saved as CSV:
   board,device,white,black
   1,/dev/ttyUSB0,Anna,Ben
@@ -221,7 +222,7 @@ def with_sites_in(asked: Asked, folder: pathlib.Path, typed: Asked) -> Asked:
 
 def folder_of(asked: Asked) -> Tuple[pathlib.Path, int]:
     """The folder, made if necessary, and locked. Refused if what is asked of its outputs can't be."""
-    folder = pathlib.Path(asked.folder) if asked.folder else pathlib.Path(asked.file).parent
+    folder = pathlib.Path(asked.folder)
     if is_of_an_output(str(folder)):
         raise Refused(REFUSED, f"{folder} is the folder of an output of a round: choose another FOLDER")
     refuse_games_in_site(folder, asked.web, asked.outputs)
@@ -265,6 +266,7 @@ def play(asked: Asked, program: Program, signals: Signals) -> Outcome:
     """Records the round."""
     keep_what_is_loaded_later()
     asked.options.refuse_breaks()
+    refuse_exchanged(asked.file, asked.folder)
     given = turned(recordable(asked.options, unknown))
     file = pathlib.Path(asked.file)
     source = Source(file, round_of(asked.options.round), encoding=asked.encoding, no_matches=asked.no_matches)
@@ -272,6 +274,10 @@ def play(asked: Asked, program: Program, signals: Signals) -> Outcome:
     if asked.tournament and not asked.is_encoding_typed:
         source.encoding_set = asked.tournament.encoding
     read = first_pairings(source)
+    told_of_place = ""
+    if not asked.folder:
+        chosen, told_of_place = chosen_folder(file, [pairing.file_name for pairing in (*read.boards, *read.absent)])
+        asked = replace(asked, folder=str(chosen))
     folder, _ = folder_of(asked)
     files = Paths(str(folder / ROUND))
     kept = Options() if asked.tournament else (kept_options(files) or Options()).only(TAGS)
@@ -289,8 +295,8 @@ def play(asked: Asked, program: Program, signals: Signals) -> Outcome:
     told_of_removed = [removed(folder, output) for output in asked.outputs if not output.out]
     told_of_named = [*filter(None, told_of_removed), *told_of(folder, asked.outputs, left_in(folder))]
     games = Round(loop, source, read, title, replace(hall, out=GoingOut(delay, asked.publish), outputs=asked.outputs))
-    if told:
-        games.say(told)
+    for line in filter(None, (told_of_place, told)):
+        games.say(line)
     if late:
         stays = " as before; --delay 0 ends that" if asked.delay is None else ""
         games.say(f"spectators see the round {late} late{stays}")
