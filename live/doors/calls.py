@@ -6,7 +6,7 @@ from dataclasses import dataclass
 from typing import TYPE_CHECKING, Dict, List, Optional, Sequence, Tuple
 
 from live.game.options import PLAIN, RECOVER, SEE_HELP, STRICT, TAG, VALUED, Options
-from live.game.options import assigned, no_option, typed_tag, typed_value
+from live.game.options import assigned, meant, no_option, typed_tag, typed_value
 from live.game.reply import BACK
 from live.refused import ARGUMENTS, Refused
 
@@ -57,6 +57,7 @@ def parse(arguments: Sequence[str]) -> Call:
     while left:
         word = left.pop(0)
         option, equals, value = word.partition("=")
+        option = meant(option)
         if word in HELP:
             return Call(help=True)
         if word in VERSION:

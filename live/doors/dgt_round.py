@@ -23,7 +23,7 @@ from live.game.files import LOCK_PATIENCE, Paths, text_of
 from live.game.game import keep_options, kept_options
 from live.game.opening import recordable, turned, unknown
 from live.game.options import RECOVER, STRICT, TAG, UNKNOWN, Options
-from live.game.options import as_typed, assigned, no_option, typed_tag, typed_value
+from live.game.options import as_typed, assigned, meant, no_option, typed_tag, typed_value
 from live.game.program import Program
 from live.lock import locked
 from live.later import keep_what_is_loaded_later
@@ -65,7 +65,7 @@ While it records, type
   3 Nf3 Nc6   moves that board 3 has missed; 3 back takes one off, 3 * a result
   3, 3 ok     the state of board 3; you have looked at its LOOK
   r, q        read FILE again (HUP does so too); end, as Ctrl-C does
-OPTION, kept: --event, --site, --date, --round with TEXT; --tag NAME=VALUE
+OPTION, kept: --event, --place (--site), --date, --round TEXT; --tag NAME=VALUE
   --page [ADDRESS:]PORT     a page for spectators, as --page 8000
   --page-host NAME, --arbiter-page [ADDRESS:]PORT   its names; the arbiter's
   --embed https://SITE, --web FOLDER   who may frame it; a site of files
@@ -117,7 +117,8 @@ def each_read(arguments: Sequence[str]) -> Asked:
     is_new = False
     while left:
         word = left.pop(0)
-        option, equals, value = word.partition("=")
+        typed, equals, value = word.partition("=")
+        option = meant(typed)
         if word in calls.HELP:
             return Asked(help=True)
         if word in calls.VERSION:
@@ -127,7 +128,7 @@ def each_read(arguments: Sequence[str]) -> Asked:
         elif word == NEW:
             is_new = True
         elif option in VALUED:
-            value = value if equals else typed_value(option, left, SEE_HELP)
+            value = value if equals else typed_value(typed, left, SEE_HELP)
             if option == "--page-host":
                 hosts.append(value)
             elif option == OUTPUT:

@@ -49,7 +49,7 @@ def odd_names(folder: pathlib.Path) -> None:
     until(lambda: (folder / "published").exists() and b"- Open -" in (folder / "published").read_bytes(), "what is published")
     same(stop(live, signal.SIGTERM), 0)
     again = Live("round.csv", "./-r3", program=ROUND, cwd=folder)
-    until_line(again, "the round goes on with '--event=- Open -' --site=-1; give others to change that")
+    until_line(again, "the round goes on with '--event=- Open -' --place=-1; give others to change that")
     hall.play(1, 2, numbers)
     same(stop(again, signal.SIGTERM), 0)
 
