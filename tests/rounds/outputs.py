@@ -8,10 +8,10 @@ import time
 from typing import Dict, List, Optional, Tuple
 
 from played.recorder import Live
-from played.stage import bytes_of, ended, holds_within, kill, refuses, same, stop, until, until_line
+from played.stage import bytes_of, holds_within, kill, refuses, same, stop, until, until_line
 from rounds.delayed import FIRST, SECOND
 from rounds.going_out import Clock
-from rounds.hall import ROUND, Hall
+from rounds.hall import ROUND, Hall, quits
 from rounds.witness import Witness, texts_of
 
 from live.broadcast import kept
@@ -187,8 +187,7 @@ def three_outputs(folder: pathlib.Path) -> None:
     clock.be(2000)
     until(lambda: round_.last_carried("public") == won, "the result, fifteen minutes late", 0.02)
     until(lambda: texts_of(bytes_of(place / "round.pgn")) == won, "the result in the site", 0.05)
-    live.type("q")
-    same(ended(live), 0)
+    quits(live)
     round_.end()
     seen = {name: [texts_of(bytes_of(file))[1] for file in round_.carried(name)] for name in PLAYED}
     for name, texts in seen.items():  # each text came in its order, and none came back
@@ -378,8 +377,7 @@ def in_a_tournament(folder: pathlib.Path) -> None:
     until_line(live, "output public isn't late")
     hall.begun(live)
     round_.until_out("public", 2)
-    live.type("q")
-    same(ended(live), 0)
+    quits(live)
     live = record("--output", "public=no")
     until_line(live, "output public is removed")
     same((stop(live), (hall.games / "output-public").exists(), bytes_of(pages[1] / "round.pgn") != b""), (0, False, True))

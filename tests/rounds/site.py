@@ -21,7 +21,7 @@ from played.recorder import Live
 from played.stage import Skipped, bytes_of, ended, kill, same, stop, until, until_line
 from rounds.delayed import DELAY, Delayed
 from rounds.going_out import Clock
-from rounds.hall import Hall, games_of
+from rounds.hall import Hall, games_of, quits
 from rounds.witness import served as asked
 from rounds.witness import texts_of
 
@@ -370,8 +370,7 @@ def carried_away(folder: pathlib.Path) -> None:
     until(lambda: board()["clocks"] == ["1:06:40", "1:05:00"], "the clocks", 0.05)
     same(bytes_of(published), before)
     live.type("1 1-0")
-    live.type("q")
-    same(ended(live), 0)
+    quits(live)
     same((board()["result"], state_of(www / "round")), ("1-0", state_of(carried)))
 
 
