@@ -4,7 +4,7 @@ import contextlib
 import json
 import signal
 import time
-from typing import Callable, List, Mapping, Optional
+from typing import Callable, Dict, List, Mapping, Optional, Tuple
 
 import outside
 from decided.table import same, skip
@@ -443,13 +443,13 @@ def tags(**values: str) -> str:
     return "".join(f'[{name} "{value}"]\n' for name, value in values.items()) + "\n*\n"
 
 
-OF_SHEETS = [  # the tags of a game, and the line of its score sheet
+OF_SHEETS: List[Tuple[Dict[str, str], str]] = [  # the tags of a game, and the line of its score sheet
     ({"Date": "2024.05.31", "Site": "Basel", "TimeControl": "5400+30"}, "31 May 2024 \u00b7 Basel \u00b7 90 min + 30 s a move"),
     ({"Date": "2024.12.01", "Site": "?", "TimeControl": "40/5400+30:1800+30"}, "1 December 2024 \u00b7 40 moves in 90 min + 30 s a move, then 30 min + 30 s a move"),
     ({"Date": "2024.05.??", "Site": "<b>Bern</b>", "TimeControl": "90+0"}, "May 2024 \u00b7 <b>Bern</b> \u00b7 90 s"),
     ({"Date": "????.??.??", "Site": "?", "TimeControl": "*180"}, "*180"),
     ({}, ""),
-]
+]  # fmt: skip
 
 
 @with_page(a_board(1, 8, result="1-0", pgn=tags(**OF_SHEETS[0][0])), event="Club cup")

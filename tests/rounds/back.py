@@ -5,7 +5,7 @@ import pathlib
 from played import words
 from played.back_killed import OnTheWay
 from played.recorder import Live, has_open
-from played.stage import bytes_of, ended, movetext, rest, same, stop, until, until_dumped, until_line
+from played.stage import bytes_of, movetext, rest, same, stop, until, until_dumped, until_line
 from rounds.alarms import says
 from rounds.hall import Hall, quits
 

@@ -3,7 +3,6 @@
 import pathlib
 
 from played.ports import free_port
-from played.recorder import Live
 from played.stage import bytes_of, ended, same, stop, until, until_line
 from rounds.delayed import hidden_texts
 from rounds.going_out import Clock

@@ -16,7 +16,7 @@ from typing import Dict, List, Optional, Tuple
 from played import TOP
 from played.ports import free_port
 from played.recorder import Live, processes
-from played.stage import bytes_of, check, ended, kill, movetext, same, stop, until, until_line
+from played.stage import bytes_of, check, kill, movetext, same, stop, until, until_line
 from rounds.crowds import page_of
 from rounds.hall import Hall, games_of, plain, quits
 from rounds.rounds import boards_of, fetch

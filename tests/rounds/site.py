@@ -18,7 +18,7 @@ from paged.devtools import Shared, Tab
 from paged.legible import faults
 from played.ports import free_port
 from played.recorder import Live
-from played.stage import Skipped, bytes_of, ended, kill, same, stop, until, until_line
+from played.stage import Skipped, bytes_of, kill, same, stop, until, until_line
 from rounds.delayed import DELAY, Delayed
 from rounds.going_out import Clock
 from rounds.hall import Hall, games_of, quits
