@@ -61,6 +61,10 @@ def command_lines() -> None:
             same(f"dgt_round {given}", dgt_round.parse(["t.csv", *given]).options, Options(site="Basel"))
         told = refused(word, Refused, calls.parse, ["/dev/x", "game", word])
         same(f"{word} alone", told, f"{word} wants a value: see dgt_live --help")
+    for word in ("--output", "--web", "--embed"):
+        for given in ((f"{word}=x",), (word, "x")):
+            told = refused(f"dgt_live {given}", Refused, calls.parse, ["/dev/x", "game", *given])
+            same(f"dgt_live {given}", told, f"{word} is an option of dgt_round, which records one board too: write a table of one line for it")
     same("a place as it is said", as_typed(Options(site="Basel").words()), ["--place", "Basel"])
     same("and as it is kept", Options(site="Basel").text(), "--site=Basel\n")
     for value in LIKE_OPTIONS:

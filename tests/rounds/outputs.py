@@ -5,7 +5,7 @@ import pathlib
 import signal
 import sys
 import time
-from typing import Dict, List, Optional, Tuple
+from typing import Callable, Dict, List, Optional, Tuple
 
 from played.recorder import Live
 from played.stage import bytes_of, holds_within, kill, refuses, same, stop, until, until_line
@@ -383,6 +383,37 @@ def in_a_tournament(folder: pathlib.Path) -> None:
     same((stop(live), (hall.games / "output-public").exists(), bytes_of(pages[1] / "round.pgn") != b""), (0, False, True))
 
 
+def one_board(folder: pathlib.Path) -> None:
+    """One board with two outputs, as a round with a table of one line: its game goes out at once, and fifteen minutes late on a site."""
+    hall, clock, place = Hall(folder, 1), Clock(folder), folder / "site"
+    table, games = folder / "game.csv", folder / "game"
+    table.write_text(f"board,device,white,black\n1,{hall.boards[0].device},Anna,Ben\n")
+    copied = folder / "club.pgn"
+    copies = folder / "club.sh"
+    copies.write_text(f"#!/bin/sh\ncp \"$1\" '{copied}.new' && mv '{copied}.new' '{copied}'\n")
+    copies.chmod(0o755)
+    options = ("--publish", str(copies), "--output", f"public = 15, web {place}")
+    live = Live(table, "", *options, program=ROUND, typed=True, start=clock.start)
+    until_line(live, "  1  agrees")
+    for move in ("e2e4", "e7e5"):
+        hall.boards[0].play(move)
+    until(lambda: texts_of(bytes_of(copied)) == ["1. e4 e5 *"], "both plies, at once", 0.05)
+    late = kept_texts(games / "output-public" / "01.delayed")
+    until(lambda: late()[-1:] == ["1. e4 e5 *"], "both plies, hidden", 0.05)
+    until(lambda: texts_of(bytes_of(place / "round" / "round.pgn")) == ["*"], "no ply on the site", 0.05)
+    clock.be(2000)
+    until(lambda: texts_of(bytes_of(place / "round" / "round.pgn")) == ["1. e4 e5 *"], "both plies on the site", 0.05)
+    live.type("1 1-0")
+    until(lambda: texts_of(bytes_of(copied)) == ["1. e4 e5 1-0"], "the result, at once", 0.05)
+    same(stop(live), 0)
+    same(texts_of(bytes_of(place / "round" / "round.pgn")), ["1. e4 e5 *"])
+
+
+def kept_texts(path: pathlib.Path) -> Callable[[], List[str]]:
+    """What is kept of a game's texts in a file, hidden or shown."""
+    return lambda: [text for entry in kept.read(bytes_of(path), "", 0.0, 0.0).entries for text in texts_of(entry.shot.text)]
+
+
 def where_sites_are(folder: pathlib.Path) -> None:
     """A relative path of a site in tournament.txt begins at the tournament's folder, a typed one here, and `~/` is the home folder. A
     line says where each is, and another one where an earlier version has begun it."""
@@ -416,4 +447,4 @@ def where_sites_are(folder: pathlib.Path) -> None:
     assert not live.says("an earlier site"), live.lines()
 
 
-CASES = [three_outputs, added_and_removed, files_of_one_lost_or_old, in_a_tournament, where_sites_are]
+CASES = [three_outputs, one_board, added_and_removed, files_of_one_lost_or_old, in_a_tournament, where_sites_are]
