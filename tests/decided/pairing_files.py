@@ -385,9 +385,9 @@ def encodings() -> None:
     with tempfile.TemporaryDirectory() as folder:
         table = pathlib.Path(folder) / "round1.csv"
         table.write_bytes("board;device;white;black\n1;/dev/a;Koç;Smith\n".encode("cp1252"))
-        for encoding, white, told in (("", "Koç", 1), ("cp852", "Koš", 0)):
-            read = Source(table, encoding=encoding).read()
-            same(f"a table in {encoding or 'no encoding'}", (read.boards[0].white, len(read.remarks)), (white, told))
+        for encoding, white, remarks in (("", "Koç", 1), ("cp852", "Koš", 0)):
+            of_table = Source(table, encoding=encoding).read()
+            same(f"a table in {encoding or 'no encoding'}", (of_table.boards[0].white, len(of_table.remarks)), (white, remarks))
     for name in ("Ben", *WESTERN_NAMES):
         same(f"nothing is told of {name}", told_of_reading(name.encode("cp1252"), ""), "")
     for name in UNCERTAIN_NAMES:
