@@ -64,7 +64,7 @@ While it records, type
   3 1-0       the result of board 3: 1-0, 0-1, 1/2-1/2; by forfeit +-, -+, --
   3 Nf3 Nc6   moves that board 3 has missed; 3 back takes one off, 3 * a result
   3, 3 ok     the state of board 3; you have looked at its LOOK
-  r, q        read FILE again (HUP does so too); end, as Ctrl-C does
+  r, q        read FILE again (HUP does so too); end (Ctrl-C asks nothing)
 OPTION, kept: --event, --place (--site), --date, --round TEXT; --tag NAME=VALUE
   --page [ADDRESS:]PORT     a page for spectators, as --page 8000
   --page-host NAME, --arbiter-page [ADDRESS:]PORT   its names; the arbiter's

@@ -56,6 +56,7 @@ class Leaving:
         left = self._outputs.hidden_for
         asked = question(games, left is not None, self._asked, self._loop.now())
         if asked is None:
+            self._waits = False
             return True
         self._asked = asked
         self._says(told(asked, "" if left is None else clock_in(left)))
@@ -71,6 +72,8 @@ class Leaving:
 
     def _look(self) -> None:
         """Says once when all is shown and carried away."""
+        if not self._waits:
+            return
         if self._outputs.hidden_for is None and self._outputs.is_out:
             self._waits, self._asked = False, None
             self._says(SEEN)
