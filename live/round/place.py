@@ -24,7 +24,8 @@ def chosen_folder(file: pathlib.Path, games: Iterable[str]) -> Tuple[pathlib.Pat
     """The folder for a table whose games have these names, and what to say of it. It is named after the table; a round that an earlier
     version has begun beside its table stays there."""
     named = file.with_suffix("") if file.suffix else file.with_name(f"{file.name}-games")
-    is_beside = not named.is_dir() and _has_begun(file.parent, games)
+    names = list(games)
+    is_beside = _has_begun(file.parent, names) and not _has_begun(named, names)
     folder = file.parent if is_beside else named
     where = f"{os.path.abspath(folder)}{', beside the table, as before' if is_beside else ''}"
     return folder, f"the games are kept in {where}; for another place type a FOLDER behind the table"

@@ -12,7 +12,7 @@ from live.broadcast.history import Shot
 from live.broadcast.running import Clocks
 from live.broadcast.view import Player, SpectatorBoard, said_of_matches
 from live.web.round_page import Game, view_of, ways_to_mend
-from live.web.view import Ply, board_text, round_text
+from live.web.view import BoardView, Ply, board_text, round_text
 
 TOP = pathlib.Path(__file__).resolve().parents[2]
 
@@ -99,6 +99,8 @@ def state_is_what_is_documented() -> None:
     unknown = b'[Site "?"]\n[Date "????.??.??"]\n\n1. e4 *\n'
     nothing = json.loads(SpectatorBoard(3, white, black, shot, unknown).text(100.0, None))
     same("unknown", [nothing[name] for name in ("date", "place", "control")], ["", "", ""])
+    arbiters = json.loads(BoardView(3, "03", pgn=PUBLISHED, tags={"Site": "王"}).text(0.0, None))  # recorded in other letters
+    same("on the arbiter's page", [arbiters[name] for name in ("date", "place", "control")], ["2024.05.31", "王", "5400+30"])
     still = json.loads(SpectatorBoard(3, white, black, Shot()).text(100.0, None))
     same("no clock runs", (still["clocks"], still["runs"], still["at"], still["result"]), (["", ""], "", None, "*"))
     round_of = json.loads(round_text({"event": "Club cup"}, [SpectatorBoard(3, white, black, shot).text(0.0, None)]))
