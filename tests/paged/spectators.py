@@ -408,6 +408,13 @@ def together() -> None:
         site.show()
         page.says("one match", GRID, "Nord 1–0 Süd; 1; 2; 3; 4; 5")
         page.says("has its score once", SHOWN, "")
+        page.tab.value("document.getElementById('hide').click()")
+        site.show(*[of(number, "1-0") for number in range(1, 6)])
+        page.says("all its boards are hidden", GRID, "")
+        page.says("its score is there", SHOWN, "Nord 1–0 Süd")
+        page.tab.value("document.getElementById('hide').click()")
+        page.says("they are shown", GRID, "Nord 1–0 Süd; 1; 2; 3; 4; 5")
+        page.says("with the score once", SHOWN, "")
         site.said = {}
         site.show()
         page.says("no match", GRID, "1; 2; 3; 4; 5")

@@ -239,7 +239,8 @@ class Spectators extends Boards {
   /** Shows what is above the boards and below them, or hides it. */
   showAround(isGrid) {
     const isEmpty = this.listed.length === 0;
-    at('matches').hidden = !isGrid || this.matches.length < 2; // the score of one match is above its boards
+    const isAbove = this.matches.length === 1 && this.together.some(({ match }) => match); // its score is above its boards
+    at('matches').hidden = !isGrid || this.matches.length === 0 || isAbove;
     at('all-over').hidden = !isGrid || !isEmpty;
     at('grid-keys').hidden = !isGrid || isEmpty;
   }
