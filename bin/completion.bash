@@ -3,21 +3,21 @@
 
 _dgt() {
     local command=${1##*/} word=${COMP_WORDS[COMP_CWORD]} before=${COMP_WORDS[COMP_CWORD - 1]} words=
-    local game='--rotated --first --fen' tags='--event --site --date --round --white --black'
+    local game='--rotated --first --fen' tags='--date --round --white --black'
     local shown='--linger --page --page-host --arbiter-page --delay --publish --tag --recover --strict --help --version'
     COMPREPLY=()
     case $command,$before in
         *,--first) words='white black' ;;
-        *,--fen | *,--event | *,--site | *,--date | *,--round | *,--white | *,--black | *,--tag | *,--add | *,--back | *,--line | *,--to) return ;;
+        *,--fen | *,--event | *,--place | *,--site | *,--date | *,--round | *,--white | *,--black | *,--tag | *,--add | *,--back | *,--line | *,--to) return ;;
         *,--linger | *,--page | *,--page-host | *,--arbiter-page | *,--delay | *,--publish | *,--output | *,--encoding | *,--matches | *,--embed) return ;;
-        dgt_live,*) words="--series --once --add --back --devices --pack $game $tags $shown" ;;
-        dgt_round,*) words="--new --encoding --matches --embed --web --output --event --site --date --round $shown" ;;
+        dgt_live,*) words="--series --once --add --back --devices --pack $game --event --place $tags $shown" ;;
+        dgt_round,*) words="--new --encoding --matches --embed --web --output --event --place --site --date --round $shown" ;;
         dgt_replay,*)
             if [ "$COMP_CWORD" -eq 1 ]; then
                 words='record follow watch recover add back live show pictures check times moves positions help --help --version'
             else
                 case ${COMP_WORDS[1]} in
-                    record) words="$game $tags --help" ;;
+                    record) words="$game --event --site $tags --help" ;;
                     follow | watch | recover) words="$game --help" ;;
                     add) words="$game --recover --line --help" ;;
                     back) words="$game --recover --to --help" ;;

@@ -131,7 +131,9 @@ class Recorder:
         assert isinstance(self.now, Recording)
         end = self.now.end
         if self._reason:
-            self._screen.say(f"{self.game.paths.name} is over: {self._reason.value}")
+            name, series = self.game.paths.name, self._plan.rules.series
+            how = f". Type its result, as {self._screen.result_of(name, series)}" if self._reason is Reason.SET_UP else ""
+            self._screen.say(f"{name} is over: {self._reason.value}{how}")
         self._closing = False
         self.now.close()
         self.now = None

@@ -61,6 +61,11 @@ class Outputs:
         return max((left for left in (one.hidden_for for one in self._all) if left is not None), default=None)
 
     @property
+    def is_out(self) -> bool:
+        """Whether all that each shows is written and carried away."""
+        return all(one.is_out for one in self._all)
+
+    @property
     def alarms(self) -> List[str]:
         """What can't be carried away, and why."""
         return [one.told_of_alarm for one in self._all if one.alarm]

@@ -9,7 +9,7 @@ from live.broadcast.history import Shot
 from live.broadcast.matches import Paired, matches_of
 from live.game.forfeits import score_of
 from live.game.tags import Tags
-from live.web.view import json_text, pgn_path, same_front
+from live.web.view import json_text, pgn_path, same_front, sheet_of
 
 
 @dataclass(frozen=True)
@@ -65,6 +65,7 @@ class SpectatorBoard:
             "runs": clocks.runs,
             "at": round(clocks.at + self.delay + offset, 1) if clocks.runs else None,
             "pgn": pgn_path(self.number),
+            **sheet_of(self.pgn),
             "moves": [{"san": ply.san, "clock": ply.clock} for ply in shot.moves[moves:]],
             "positions": shot.positions[positions:],
         }

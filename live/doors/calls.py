@@ -6,7 +6,7 @@ from dataclasses import dataclass
 from typing import TYPE_CHECKING, Dict, List, Optional, Sequence, Tuple
 
 from live.game.options import PLAIN, RECOVER, SEE_HELP, STRICT, TAG, VALUED, Options
-from live.game.options import assigned, no_option, typed_tag, typed_value
+from live.game.options import assigned, meant, no_option, typed_tag, typed_value
 from live.game.reply import BACK
 from live.refused import ARGUMENTS, Refused
 
@@ -14,6 +14,7 @@ if TYPE_CHECKING:
     from live.web.address import Pages
 
 RECORDING = ("--linger", "--page", "--arbiter-page", "--delay", "--publish")  # options of a recording that have a value
+OF_ROUNDS = ("--output", "--web", "--embed")
 HELP, VERSION = ("--help", "-h"), ("--version", "-V")
 QUOTES = "is one argument too many. Put a text with blanks in quotes, as 'Anna Kern'"
 LINGER = 10  # seconds that a result stands before it ends a game
@@ -57,6 +58,7 @@ def parse(arguments: Sequence[str]) -> Call:
     while left:
         word = left.pop(0)
         option, equals, value = word.partition("=")
+        option = meant(option)
         if word in HELP:
             return Call(help=True)
         if word in VERSION:
@@ -76,6 +78,8 @@ def parse(arguments: Sequence[str]) -> Call:
         elif option in ("--add", "--back"):
             line = value if equals else typed_value(word, left)
             typed.append(line if option == "--add" else f"{BACK} {line}")
+        elif option in OF_ROUNDS:
+            raise Refused(ARGUMENTS, f"{option} is an option of dgt_round, which records one board too: write a table of one line for it")
         elif word.startswith("-") and len(word) > 1:
             raise no_option(word)
         else:

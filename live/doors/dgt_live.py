@@ -52,7 +52,7 @@ OPTION says how the board lies, how the game begins, and what its tags say:
   --rotated          Black has the connector on the left
   --first SIDE       whose time comes first, white (without it) or black
   --fen TEXT         the position at the start
-  --event, --site, --date, --round, --white, --black TEXT; --tag NAME=VALUE
+  --event, --place, --date, --round, --white, --black TEXT; --tag NAME=VALUE
   --devices, --pack NAME, --version   what is plugged in; a game in one file
 Set up the pieces: dgt_live /dev/ttyUSB0 game --white Anna --black Ben
 """

@@ -23,7 +23,7 @@ from live.game.files import LOCK_PATIENCE, Paths, text_of
 from live.game.game import keep_options, kept_options
 from live.game.opening import recordable, turned, unknown
 from live.game.options import RECOVER, STRICT, TAG, UNKNOWN, Options
-from live.game.options import as_typed, assigned, no_option, typed_tag, typed_value
+from live.game.options import as_typed, assigned, meant, no_option, typed_tag, typed_value
 from live.game.program import Program
 from live.lock import locked
 from live.later import keep_what_is_loaded_later
@@ -32,6 +32,7 @@ from live.refused import ARGUMENTS, DONE, FAILED, REFUSED, Refused
 from live.round.display import terminal_of_lines
 from live.round.encodings import ENCODING, encoding_in, known_encoding
 from live.round.round import Round, first_pairings, refuse_another_round
+from live.round.place import chosen_folder, refuse_exchanged
 from live.round.row import Hall
 from live.round.site import SiteFiles, kept_rounds
 from live.round.sources import Source
@@ -51,8 +52,8 @@ HELP = """\
 usage: dgt_round FILE [FOLDER] [OPTION..]     a round of its own
        dgt_round CUP ROUND [OPTION..]         a round of a tournament
        dgt_round --new CUP                    its folder, with files to fill in
-Records all boards of a round, shows them in a table, and keeps in FOLDER (or
-where FILE is) each game, as 01.dgt and 01.pgn, and all games in round.pgn.
+Records all boards of a round, shows them in a table, and keeps in FOLDER (else
+in one named after FILE) each game, as 01.dgt and 01.pgn, and all in round.pgn.
 The same command goes on with all games. FILE is a table, saved as CSV:
   board,device,white,black
   1,/dev/ttyUSB0,Anna,Ben
@@ -63,8 +64,8 @@ While it records, type
   3 1-0       the result of board 3: 1-0, 0-1, 1/2-1/2; by forfeit +-, -+, --
   3 Nf3 Nc6   moves that board 3 has missed; 3 back takes one off, 3 * a result
   3, 3 ok     the state of board 3; you have looked at its LOOK
-  r, q        read FILE again (HUP does so too); end, as Ctrl-C does
-OPTION, kept: --event, --site, --date, --round with TEXT; --tag NAME=VALUE
+  r, q        read FILE again (HUP does so too); end (Ctrl-C asks nothing)
+OPTION, kept: --event, --place (--site), --date, --round TEXT; --tag NAME=VALUE
   --page [ADDRESS:]PORT     a page for spectators, as --page 8000
   --page-host NAME, --arbiter-page [ADDRESS:]PORT   its names; the arbiter's
   --embed https://SITE, --web FOLDER   who may frame it; a site of files
@@ -116,7 +117,8 @@ def each_read(arguments: Sequence[str]) -> Asked:
     is_new = False
     while left:
         word = left.pop(0)
-        option, equals, value = word.partition("=")
+        typed, equals, value = word.partition("=")
+        option = meant(typed)
         if word in calls.HELP:
             return Asked(help=True)
         if word in calls.VERSION:
@@ -126,7 +128,7 @@ def each_read(arguments: Sequence[str]) -> Asked:
         elif word == NEW:
             is_new = True
         elif option in VALUED:
-            value = value if equals else typed_value(option, left, SEE_HELP)
+            value = value if equals else typed_value(typed, left, SEE_HELP)
             if option == "--page-host":
                 hosts.append(value)
             elif option == OUTPUT:
@@ -221,7 +223,7 @@ def with_sites_in(asked: Asked, folder: pathlib.Path, typed: Asked) -> Asked:
 
 def folder_of(asked: Asked) -> Tuple[pathlib.Path, int]:
     """The folder, made if necessary, and locked. Refused if what is asked of its outputs can't be."""
-    folder = pathlib.Path(asked.folder) if asked.folder else pathlib.Path(asked.file).parent
+    folder = pathlib.Path(asked.folder)
     if is_of_an_output(str(folder)):
         raise Refused(REFUSED, f"{folder} is the folder of an output of a round: choose another FOLDER")
     refuse_games_in_site(folder, asked.web, asked.outputs)
@@ -265,6 +267,7 @@ def play(asked: Asked, program: Program, signals: Signals) -> Outcome:
     """Records the round."""
     keep_what_is_loaded_later()
     asked.options.refuse_breaks()
+    refuse_exchanged(asked.file, asked.folder)
     given = turned(recordable(asked.options, unknown))
     file = pathlib.Path(asked.file)
     source = Source(file, round_of(asked.options.round), encoding=asked.encoding, no_matches=asked.no_matches)
@@ -272,6 +275,10 @@ def play(asked: Asked, program: Program, signals: Signals) -> Outcome:
     if asked.tournament and not asked.is_encoding_typed:
         source.encoding_set = asked.tournament.encoding
     read = first_pairings(source)
+    told_of_place = ""
+    if not asked.folder:
+        chosen, told_of_place = chosen_folder(file, [pairing.file_name for pairing in (*read.boards, *read.absent)])
+        asked = replace(asked, folder=str(chosen))
     folder, _ = folder_of(asked)
     files = Paths(str(folder / ROUND))
     kept = Options() if asked.tournament else (kept_options(files) or Options()).only(TAGS)
@@ -289,8 +296,8 @@ def play(asked: Asked, program: Program, signals: Signals) -> Outcome:
     told_of_removed = [removed(folder, output) for output in asked.outputs if not output.out]
     told_of_named = [*filter(None, told_of_removed), *told_of(folder, asked.outputs, left_in(folder))]
     games = Round(loop, source, read, title, replace(hall, out=GoingOut(delay, asked.publish), outputs=asked.outputs))
-    if told:
-        games.say(told)
+    for line in filter(None, (told_of_place, told)):
+        games.say(line)
     if late:
         stays = " as before; --delay 0 ends that" if asked.delay is None else ""
         games.say(f"spectators see the round {late} late{stays}")

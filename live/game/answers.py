@@ -17,6 +17,7 @@ TOO_LONG = "input: too long"
 MOVES, RESULT = "moves", "result"  # the kinds of what is added
 NOTHING, MIXED, ILLEGAL, MEANT, UNKNOWN, ENDED, BOARD, LONG = "nothing", "mixed", "illegal", "meant", "unknown", "ended", "board", "long"
 NO_PLIES = "0"
+A_RESULT = "the result "  # and the result that is added
 NUMBERED = re.compile(r"\d+\s+[A-Za-z*]", re.ASCII)  # a line that begins as in a round
 NUMBER = re.compile(r"\d+\.+", re.ASCII)  # of a move
 
@@ -88,7 +89,7 @@ def read_answer(command: str, status: int, line: str, output: bytes) -> Said:
 
 def meaning(said: Said, line: str) -> str:
     """What is added, in words."""
-    return f"the result {said.outcome}" if said.kind == RESULT else " ".join(line.split())
+    return f"{A_RESULT}{said.outcome}" if said.kind == RESULT else " ".join(line.split())
 
 
 def refuse(said: Said, line: str, place: str) -> Refused:

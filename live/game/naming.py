@@ -12,7 +12,8 @@ from live.game.tags import Malformed, pair_of
 NAME = "name"
 OPTION_OF = {"Date": DATE, **{name: option for option, name in PUBLISHED.items()}}
 NEXT_PAIR = re.compile(r"\s+(?=[A-Za-z]+\s*=)")  # before the second pair in a line, and those after it
-HOW = "type name White=Anna, name Black=Ben, and so on: Event, Site, Date and Round can be put right too"
+PLACE = re.compile(r"^\s*place\s*=", re.IGNORECASE)  # what PGN calls Site
+HOW = "type name White=Anna, name Black=Ben, and so on: Event, Place, Date and Round can be put right too"
 IN_A_TABLE = "the names of a round are in its table: change them there, save it, and type r"
 
 
@@ -27,7 +28,7 @@ def read_names(text: str) -> Options:
     words: List[str] = []
     for pair in filter(None, NEXT_PAIR.split(pairs.strip())):
         try:
-            name, value = pair_of(unquoted(pair))
+            name, value = pair_of(PLACE.sub("Site=", unquoted(pair), count=1))
         except Malformed as error:
             raise Refused(f"{error}. {HOW.replace('type', 'Type', 1)}") from None
         words += [OPTION_OF[name], value or UNKNOWN] if name in OPTION_OF else [TAG, f"{name}={value}"]

@@ -32,7 +32,7 @@ TURNS: Dict[str, Callable[[str], str]] = {
 }
 CALLED: Dict[str, str] = {
     "--event": "the name of the event",
-    "--site": "the name of the site",
+    "--site": "the place",
     "--round": "the round",
     "--white": "the white player's name",
     "--black": "the black player's name",

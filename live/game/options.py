@@ -14,6 +14,7 @@ DATE = "--date"
 PLAYERS = ("--white", "--black")
 TAGS = ("--event", "--site", DATE, "--round", *PLAYERS)
 TAG = "--tag"  # NAME=VALUE: a tag that is published
+SITE, PLACE = "--site", "--place"  # PGN's word for where a game is played, and ours: a site is also a folder of files
 PUBLISHED = {"--event": "Event", "--site": "Site", "--round": "Round", "--white": "White", "--black": "Black"}
 TYPED = ("--event", "--site", *PLAYERS)  # those that are shown as they were typed
 UNKNOWN = "?"  # PGN's value for an unknown tag
@@ -57,6 +58,7 @@ class Options:
         while left:
             word = left.pop(0)
             option, equals, value = word.partition("=")
+            option = meant(option)
             if word in (RECOVER, STRICT):
                 values["recover"] = word == RECOVER
                 continue
@@ -269,7 +271,7 @@ class Options:
     def told_of_tags(self, before: Options) -> str:
         """The message if the tags differ from before; empty if they are the same."""
         told = [self._told_of_tag(option, PUBLISHED[option], before) for option in PLAYERS]
-        told += [self._told_of_tag(option, f"its {option[2:]}", before) for option in TAGS if option not in PLAYERS]
+        told += [self._told_of_tag(option, f"its {as_typed([option])[0][2:]}", before) for option in TAGS if option not in PLAYERS]
         return "; ".join(filter(None, told))
 
     def _told_of_tag(self, option: str, called: str, before: Options) -> str:
@@ -324,12 +326,18 @@ def assigned(option: str, value: str) -> str:
     return f"{option}={value}"
 
 
+def meant(option: str) -> str:
+    """The option for a word that is typed, as it is kept and as the program has it."""
+    return SITE if option == PLACE else option
+
+
 def as_typed(words: Sequence[str]) -> List[str]:
     """The words as they are mostly typed: an option and its value apart, unless the value looks like an option."""
     typed: List[str] = []
     for word in words:
-        option, _, value = word.partition("=")
-        typed += [option, value] if value and not value.startswith("-") else [word]
+        option, equals, value = word.partition("=")
+        option = PLACE if option == SITE else option
+        typed += [option, value] if value and not value.startswith("-") else [option + equals + value]
     return typed
 
 

@@ -16,6 +16,8 @@ NO_LETTERS = "ªºµıþŕĺĂÕ"  # and those that are none in names, or too ra
 C, V = "[b-df-hj-np-tv-xzB-DF-HJ-NP-TV-XZ]", "[aeiouyáéíóúýöüäőűAEIOUY]"
 PARTICLES = "af|av|da|das|de|del|den|der|di|do|dos|du|e|el|en|la|le|ten|ter|van|vom|von|y|zu|zum|zur"
 SPACE_OF_WINDOWS = re.compile(rf"\xa0(?:{PARTICLES})(?![A-Za-z\x80-\xff])|(?<=[aeoAEO\xa0])\xa0")  # else it is an á of DOS
+# Names of Windows that far more players have than what they would be in DOS: Gaßl, Koš and Saraš.
+FREQUENT = frozenset(("gaál", "koç", "saraç"))
 RULES: Dict[str, str] = {
     "ß": r"(?<=[aeiouyAEIOUY])ß(?=$|[aeiouAEIOU]|[lL]$|[bdfghklmpswBDFGHKLMPSW][a-zA-Z]|n[ei]|NE)",  # Weiß, Großmann, Meißner; but Suárez, Julián
     "õ": r"õ(?=es$)",  # Simões
@@ -31,7 +33,7 @@ RULES: Dict[str, str] = {
     "æ": rf"(?<={C})æ(?={C})",  # Næss; but Sa‘id
     "à": rf"(?<={C})à(?=$)",
     "Ä": rf"(?<!{V})Ä(?={C}|[uU])",  # Ärmel, MÄRZ; but ŽIŽEK
-    "Ő": rf"(?<!{V})Ő(?={C})",
+    "Ő": rf"(?<={C})Ő(?={C})|^Ő(?=[rszRSZ])",  # Őri, SZŐKE; but Štefan
     "Æ": rf"^Æ(?={C}[a-z]{{2}})",  # Ægir; but ’t Hooft
     "À": rf"(?<={C})(?<!L)À|^À(?=[b-df-hj-np-tv-xz])", "Ě": rf"(?<={C})(?<!L)Ě",  # but GAL·LA
     "Â": rf"^Â(?={C})|(?<={C})Â",
@@ -54,16 +56,21 @@ RULES: Dict[str, str] = {
 }  # fmt: skip
 
 
-def may_be_dos(words: Sequence[str]) -> bool:
-    """Whether these words of bytes may be in the same encoding of DOS: all look like names there, or all can be words there, and one that
-    looks like a name there is none of Windows."""
+def page_of(words: Sequence[str]) -> str:
+    """The encoding of DOS in which all these words of bytes may be; empty if there is none. All look like names there, or all can be words
+    there, and one that looks like a name there is none of Windows."""
     for page in PAGES:
         if not all(_is_possible(word, page) for word in words):
             continue
         names = [word for word in words if _looks_like_a_name(word, page)]
         if names and (len(names) == len(words) or any(map(_is_odd, names))):
-            return True
-    return False
+            return page
+    return ""
+
+
+def are_frequent(words: Sequence[str]) -> bool:
+    """Whether these words of bytes are much more likely names of Windows than of DOS."""
+    return all(word.encode("latin-1").decode("cp1252", "replace").lower() in FREQUENT for word in words)
 
 
 def words_of(text: str) -> Sequence[str]:

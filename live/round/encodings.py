@@ -35,6 +35,7 @@ LETTERS_FIRST = "¡¦¨©«¬®¯±¶¸»"  # signs that are capitals in ISO-885
 LETTERS_LAST = "±¶»"  # and small letters
 LETTERS_OF_CAPITALS = "¦©¬®¯"  # and those with which a word of capitals ends: KOVÁ©
 BEFORE_CYRILLIC = "°´·"  # signs that are capitals in ISO-8859-5
+LETTERS_BESIDE = "¡¢£¤¥¦¨©«¬\xad®¯±µ¶¸»¿×÷"  # signs that are letters in Cyrillic encodings, where a letter beside one isn't plain
 IN_QUOTES = re.compile(r"(?<![A-Za-z\xc0-\xff])(?:«([^«»]*)»|»([^«»]*)«)(?![A-Za-z\xc0-\xff])")
 WITH_DIAERESIS = frozenset(("aïe", "gaïa", "haïk", "maïa", "maïeul", "taïeb", "zoïa"))  # as in France, but Naďa and Laďka
 WORD = re.compile(r"[A-Za-z\x80-\xff]+")  # of bytes, read as Latin-1
@@ -139,12 +140,28 @@ def doubtful(content: bytes) -> List[bytes]:
             of_dos.append(name)
     is_western = Looks.OTHER not in looks and (Looks.WESTERN in looks or Looks.EITHER not in looks)
     if is_western:
-        names = of_dos if dos_letters.may_be_dos(dos_letters.words_of(content.decode("latin-1"))) else []
+        words = dos_letters.words_of(content.decode("latin-1"))
+        names = of_dos if dos_letters.page_of(words) and not dos_letters.are_frequent(words) else []
     return [name[:LONGEST_NAME] for name in names[:MOST_SHOWN]]
+
+
+def told_of_reading(content: bytes, encoding: str) -> str:
+    """What to say of a text that is read as Western, though its few names could be of DOS too; empty if they couldn't."""
+    if encoding or unicode_text(content) is not None or doubtful(content):
+        return ""
+    words = dos_letters.words_of(content.decode("latin-1"))
+    page = dos_letters.page_of(words)
+    if not page:
+        return ""
+    western, of_dos = (", ".join(word.encode("latin-1").decode(codec) for word in words[:MOST_SHOWN]) for codec in (WESTERN, page))
+    how = f"{ENCODING} {page} (in tournament.txt: encoding = {page})"
+    return f"it isn't Unicode, and {western} is read as {READINGS[0][0]} has it. If it is {of_dos}, say so: {how}"
 
 
 def look_of(word: str) -> Optional[Looks]:
     """What a word of bytes, read as Latin-1, looks like; None if all its letters are the same in Western and Central Europe."""
+    if _has_no_plain_letter(word.encode("latin-1").decode(WESTERN, "replace")):
+        return Looks.OTHER
     looks = {look for place in range(len(word)) for look in [_look_at(word, place)] if look}
     for look in (Looks.OTHER, Looks.WESTERN, Looks.EITHER):
         if look in looks:
@@ -168,6 +185,14 @@ def _look_at(word: str, place: int) -> Optional[Looks]:
     if _beside_another(western.lower(), before) or _beside_another(western.lower(), after):
         return Looks.OTHER
     return _look_of_letter(western.lower(), before, after, word, place)
+
+
+def _has_no_plain_letter(word: str) -> bool:
+    """Whether a word has two letters or more, and none of A to Z: Юн and Ро in Cyrillic. Where a sign may be a letter elsewhere, anything
+    beside it will do. An initial may be alone."""
+    letters = [letter for letter in word if letter.isalpha() and letter not in NO_LETTERS]
+    is_odd = len(letters) > 1 or (len(word) > 1 and any(sign in LETTERS_BESIDE for sign in word))
+    return is_odd and not any(letter.isascii() for letter in letters)
 
 
 def _is_letter_elsewhere(letter: str, before: str, after: str, word: str) -> bool:
@@ -201,6 +226,10 @@ def _look_of_letter(letter: str, before: str, after: str, word: str, place: int)
         return Looks.WESTERN
     if letter == "ÿ" or (letter == "œ" and after != "u"):  # ź and ś; but cœur
         return Looks.OTHER
+    if letter == "ê" and (after == "q" or (before == "n" and rest == "s")):  # Lévêque, Inês
+        return Looks.WESTERN
+    if letter == "è" and before == "i" and re.fullmatch("(?:[cgmntv]|gn|v?r)e", rest):  # Geneviève, Rivière
+        return Looks.WESTERN
     if letter == "ñ":  # Muñoz, but Kamiński
         return Looks.WESTERN if after in VOWELS and after else Looks.OTHER
     if letter in "ìù":  # Forlì, but Němec and Růžička
@@ -211,13 +240,13 @@ def _look_of_letter(letter: str, before: str, after: str, word: str, place: int)
         return Looks.WESTERN
     if letter == "ð" and not before:  # Đorđe; ð begins no word
         return Looks.OTHER
-    if letter == "ð" and (rest == "ur" or (before in VOWELS | {"r"} and after not in VOWELS)):  # Sigurður, Guðmundur; but Srđan
+    if letter == "ð" and (rest in ("ur", "inn") or (before in VOWELS | {"r"} and after not in VOWELS)):  # Sigurður, Guðmundur; but Srđan
         return Looks.WESTERN
     if letter == "þ" and re.match("(?:[áéíóúýæö]|or)[a-z]|[rj][a-záéíóúýæö]", rest):  # Þórhallur, Þráinn; but Ţurcanu
         return Looks.WESTERN
     if letter == "ø" and after == "y":  # Øystein
         return Looks.WESTERN
-    if letter == "æ" and (before in VOWELS or (not before and after and after in "chkwz")):  # Maćkowiak and Ćwik, but Ægir
+    if letter == "æ" and (before in VOWELS or (not before and after and after in "chkmwz")):  # Maćkowiak, Ćwik and Ćmiel, but Ægir
         return Looks.OTHER
     if letter in "øæò" or (letter == "è" and after):  # Lefèvre, but Kučera; Krč could be either
         vowels = sum(beside in VOWELS for beside in (before, after) if beside)

@@ -16,8 +16,9 @@ from live.game.forfeits import in_a_table, in_one_word, score_of
 from live.game.options import FEN, FIRST, PLAYERS, RECOVER, STRICT, TAG, assigned
 from live.game.tags import OTHERS, Malformed, cleaned, is_seen, value_of
 from live.game.typed import NOUGHTS
+from live.refused import REFUSED, Refused
 from live.round.headings import COLUMNS, PERHAPS, normal
-from live.round.sheets import Sheet, fields_of, read_sheet, told_of_above
+from live.round.sheets import NAMES, SEPARATORS, Sheet, fields_of, read_sheet, told_of_above
 
 YES = ("yes", "y", "1", "x", "true", "rotated", "ja", "oui", "si")
 NO = ("", "no", "n", "0", "-", "false", "nein", "non")
@@ -155,6 +156,7 @@ class Taken:
 def read_pairings(content: bytes, encoding: str = "") -> Pairings:
     """Reads the table. Refused if no line has known headings, and if it is too large."""
     sheet = read_sheet(content, encoding)
+    refuse_divided_otherwise(sheet)
     has_devices = sheet.heading.has_devices
     remarks = [*told_of_above(sheet.above), *unknown(sheet.heading.unknown)]
     taken = Taken()
@@ -177,6 +179,9 @@ def read_pairings(content: bytes, encoding: str = "") -> Pairings:
 
 def _read(number: int, line: str, sheet: Sheet) -> Union[Pairing, Wrong, LeftOut]:
     roles, has_devices = sheet.heading.roles, sheet.heading.has_devices
+    otherwise, board = divided_otherwise(line, sheet)
+    if otherwise:
+        return Wrong(number, board, f"it is divided by {otherwise}, and the headings by {NAMES[sheet.separator]}: divide it as they are")
     fields = fields_of(line, sheet.separator)
     if fields is None:
         board = _number(line.partition(sheet.separator)[0])
@@ -217,6 +222,28 @@ def _read(number: int, line: str, sheet: Sheet) -> Union[Pairing, Wrong, LeftOut
         tags,
         remarks,
     )
+
+
+def divided_otherwise(line: str, sheet: Sheet) -> Tuple[str, Optional[int]]:
+    """What divides a board's line, if it isn't what divides the headings, and the board; else nothing. A spreadsheet has such a line in
+    its first field."""
+    whole, *others = fields_of(line, sheet.separator) or [""]
+    at = sheet.heading.roles.index("board")
+    for separator in () if any(others) else SEPARATORS:
+        fields = fields_of(whole, separator) or []
+        board = _number(fields[at]) if len(fields) > max(at, 1) else None
+        if board:
+            return NAMES[separator], board
+    return "", None
+
+
+def refuse_divided_otherwise(sheet: Sheet) -> None:
+    """Refuses a table all of whose lines are divided by something else than its headings are."""
+    found = [(number, divided_otherwise(line, sheet)[0]) for number, line in sheet.lines]
+    if found and all(otherwise for _, otherwise in found):
+        number, otherwise = found[0]
+        why = f"its headings are divided by {NAMES[sheet.separator]}, and line {number} by {otherwise}"
+        raise Refused(REFUSED, f"{why}: divide all lines by the same sign")
 
 
 def result_of(text: str, is_by_hand: bool = True) -> Tuple[str, str]:

@@ -17,30 +17,28 @@ from live.broadcast.broadcast import Broadcast
 from live.broadcast.games import written_name
 from live.broadcast.leaving import clock_in
 from live.broadcast.outputs import Outputs
-from live.game import answers
-from live.game.answers import ILLEGAL, MEANT, MOVES, RESULT, UNKNOWN, Said, moves_in
+from live.game.answers import UNKNOWN, Said
 from live.game.file_names import ROUND
 from live.game.files import text_of
 from live.game.forfeits import NO_RESULT, score_of, typed_forfeit
 from live.game.log import Log, logged_at
-from live.game.naming import IN_A_TABLE, is_naming
-from live.game.options import Options
-from live.game.program import Program
 from live.game.reply import Answer, printable, refusal
 from live.game.reply import Refused as NotDone
-from live.game.typed import ABSENT, ALL_WAYS, HELPS, Acknowledged, Back, Reopened, read_words, refuse_no_text, with_more
+from live.game.typed import HELPS, refuse_no_text
 from live.guard import traced
 from live.loop import Loop
 from live.refused import DONE, FAILED, REFUSED, Refused
 from live.round.display import Display
 from live.round.encodings import is_question
 from live.round.joining import not_plugged_in, with_some
+from live.round.leaving import Leaving
 from live.round.pairings import EXAMPLE, Pairing, Pairings, Wrong
 from live.round.published import Published
 from live.round.row import Hall, Row, game_of_others, was_forfeited
 from live.round.sources import Source, without_twice
 from live.round.table import NOT_RECORDED, RowView, boards_are, counted, lines_are_wrong
 from live.round.tournament_files import FORFEIT, Result
+from live.round.ways import all_ways, is_command, said_of, told_of_answer, ways
 from live.terminal.terminal import Typed
 from live.web.view import round_pgn
 
@@ -110,49 +108,6 @@ def other_round(source: Source, folder: str) -> str:
     return f"take another folder, as {shlex.join(['dgt_round', str(source.file), folder])}"
 
 
-def example(numbers: Sequence[int]) -> int:
-    """A board's number for an example: that in --help, if there is such a board."""
-    return 3 if 3 in numbers or not numbers else numbers[-1]
-
-
-def all_ways(numbers: Sequence[int]) -> str:
-    """What can be typed."""
-    number = example(numbers)
-    here = f"{number} 1-0, {number} Nf3 Nc6, {number} back, {number} help"
-    return f"type {here}, {number} (the state of board {number}), r (read the table again) or q (end)"
-
-
-def ways(text: str, numbers: Sequence[int], said: Said = Said(UNKNOWN)) -> str:
-    """What to type instead of a text that doesn't begin with a board's number, given what the program says of it."""
-    if is_naming(text):
-        return IN_A_TABLE
-    number = example(numbers)
-    line = " ".join(text.split())
-    if said.kind == RESULT:
-        line = said.outcome
-    elif said.kind in (MOVES, ILLEGAL, MEANT):
-        line = moves_in(text)[0]
-    elif not is_command(text):
-        return all_ways(numbers)
-    return f"of which board? Type its number first, as {number} {line}"
-
-
-def is_command(text: str) -> bool:
-    """Whether a text without a board's number would be a command for a board, and no moves or result."""
-    try:
-        return bool(typed_forfeit(text)) or isinstance(read_words(text), (Back, Reopened, Acknowledged))
-    except NotDone:
-        return False
-
-
-def said_of(program: Program, text: str) -> Said:
-    """What the program says of a text that is typed to a game without moves."""
-    try:
-        return answers.add(program, Options(), b"", text)
-    except OSError:
-        return Said(UNKNOWN)
-
-
 class Round:
     """All boards of a round in one loop, which stops when all have ended."""
 
@@ -172,13 +127,14 @@ class Round:
         self._looker: Optional[Worker] = None  # finds out which boards are plugged in
         self._asker: Optional[Worker] = None  # asks the program about lines without a board's number
         self._finder = Finder(loop, lambda: [row.board for row in self.boards()], self.trouble)
-        self._ending = self._was_asked = False
+        self._ending = False
+        self._leaving = Leaving(loop, self.outputs, self.say)
         self._is_over = False  # all games are, and that was said
         self._left = 0
         self.on_change: Callable[[], None] = lambda: None
         self._was_terminal = os.isatty(0)
         self._take(read)
-        self._typed = Typed(loop, self.typed, self.refuses)
+        self._typed = Typed(loop, self.typed, self.refuses, self._input_ended)
 
     @property
     def broadcast(self) -> Broadcast:
@@ -347,7 +303,7 @@ class Round:
         if not words:
             pass
         elif words[0].lower() in ("q", "quit", "exit"):
-            if self._may_end():
+            if self._leaving.may_end(self._playing):
                 self.end()
                 return
         elif words[0].lower() == "r" and len(words) == 1:
@@ -392,12 +348,7 @@ class Round:
 
     def _answered(self, row: Row, given: Answer) -> None:
         """What was typed for a board is answered."""
-        _, answer = given
-        if answer == ALL_WAYS:
-            everything = with_more(ALL_WAYS, f"or {ABSENT}")
-            self.say(f"{row.number}: behind the number, {everything.replace('Type', 'type', 1)}")
-        else:
-            self.say(f"{row.number} {answer}" if answer.startswith("refused") else f"{row.number}: {answer}")
+        self.say(told_of_answer(row.number, given))
 
     def _of_no_board(self, text: str) -> None:
         """Says what to type instead. What isn't a command may be moves or a result: the program knows, and is asked beside the
@@ -433,15 +384,16 @@ class Round:
         except Exception as error:
             self.refuses("HUP", error)
 
-    def _may_end(self) -> bool:
-        """Whether it may end now. If something is still hidden from spectators, says so, and refuses once."""
-        self.outputs.look()
-        left = None if self._was_asked else self.outputs.hidden_for
-        if left is None:
-            return True
-        self._was_asked = True
-        self.say(f"spectators see the last moves at {clock_in(left)}: leave it running until then. To end it now, type q again")
-        return False
+    @property
+    def _playing(self) -> int:
+        """How many games have moves and no result."""
+        boards = [row.board for row in self.rows.values()]
+        return sum(bool(board.plies) and not board.is_over and board.result == NO_RESULT and not board.forfeit for board in boards)
+
+    def _input_ended(self) -> None:
+        """Nothing more can be typed: who typed `q` and was asked about games can't answer, and meant it."""
+        if self._leaving.is_asked_of_games and not self._ending:
+            self.end()
 
     def end(self) -> None:
         """Ends all boards in order. A second call no longer waits for what is being published."""

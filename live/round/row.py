@@ -138,6 +138,9 @@ class RowScreen(Screen):
     def reopens(self) -> str:
         return f"{self._number} {super().reopens()}"
 
+    def result_of(self, name: str, in_series: bool) -> str:
+        return f"{self._number} 1-0"
+
     def other_device(self) -> str:
         return "Write it in its column device, save the table, and type r"
 

@@ -11,7 +11,8 @@ from live.refused import REFUSED, Refused
 from live.round.encodings import text_of
 from live.round.headings import Heading, heading_of
 
-SEPARATORS = (",", ";", "\t")
+NAMES = {",": "commas", ";": "semicolons", "\t": "tabs"}  # of what divides the fields of a line
+SEPARATORS = tuple(NAMES)
 LARGEST = 256 * 1024  # bytes
 MOST_LINES = 1000  # the first one, and one for each possible board
 MOST_ABOVE = 30  # lines that may be above the headings

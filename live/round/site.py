@@ -85,8 +85,8 @@ def list_page(event: str, rounds: Mapping[str, Mapping[str, object]]) -> bytes:
                      f'<p><a href="{folder}/round.pgn" download>PGN of all games</a></p></section>')  # fmt: skip
     head = f'<meta charset="utf-8">\n{_policy()}\n<meta name="viewport" content="width=device-width, initial-scale=1">\n{REFRESH}'
     links = '<link rel="icon" href="icon.svg">\n<link rel="stylesheet" href="page.css">\n<link rel="stylesheet" href="site.css">'
-    title = _text(event)
-    return (f'<!DOCTYPE html>\n<html lang="en">\n<head>\n{head}\n<title>{title}</title>\n{links}\n</head>\n<body>\n'
+    title, body = _text(event), '<body class="alone">' if len(rounds) == 1 else "<body>"
+    return (f'<!DOCTYPE html>\n<html lang="en">\n<head>\n{head}\n<title>{title}</title>\n{links}\n</head>\n{body}\n'
             f"<header><h1>{title}</h1></header>\n<main>\n" + "\n".join(parts) + "\n</main>\n</body>\n</html>\n").encode("utf-8")  # fmt: skip
 
 

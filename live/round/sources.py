@@ -4,6 +4,7 @@ boards."""
 from __future__ import annotations
 
 import pathlib
+from dataclasses import replace
 from types import MappingProxyType
 from typing import Callable, Dict, List, Mapping, Optional, Tuple
 
@@ -12,6 +13,7 @@ from live.device.line import same_line
 from live.device.numbers import ask
 from live.game import files
 from live.refused import REFUSED, Refused
+from live.round.encodings import told_of_reading
 from live.round.joining import joined, placed, serials_wanted
 from live.round.pairings import Pairing, Pairings, Wrong, device_twice, read_pairings
 from live.round.sheets import LARGEST
@@ -72,6 +74,8 @@ class Source:
             read = read_report(content, self._round, self._encoding, self._no_matches)
         else:
             read = read_pairings(content, self._encoding)
+        told = told_of_reading(content, self._encoding)
+        read = replace(read, remarks=(told, *read.remarks)) if told else read
         if not read.has_devices:
             read = joined(self._hall(), self.boards.name, read, self.file.name)
         self.wants = [serial for serial in serials_wanted(read) if serial not in self._plugged]

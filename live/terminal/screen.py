@@ -90,6 +90,10 @@ class Screen:
         """What to type if a result was typed for the wrong board."""
         return REOPENS
 
+    def result_of(self, name: str, in_series: bool) -> str:
+        """What to type for the result of a game that is over without one."""
+        return f"1-0 {name}" if in_series else f"dgt_live --add 1-0 {name}"
+
     def other_device(self) -> str:
         """What to do if the device that isn't there is the wrong one."""
         return "Ctrl-C, and see dgt_live --devices"

@@ -190,22 +190,26 @@ def folded_for(number: int, text: str, indent: str) -> str:
 
 
 class Typed:
-    """Standard input: one call for each typed line. At its end nothing more is typed. An error in a call ends nothing: `refused`
-    gets it."""
+    """Standard input: one call for each typed line. At its end nothing more is typed, and `ended` is called. An error in a call ends
+    nothing: `refused` gets it."""
 
     def __init__(
-        self, loop: Loop, heard: Callable[[str], None], refused: Callable[[str, Exception], None], number: int = 0
+        self,
+        loop: Loop,
+        heard: Callable[[str], None],
+        refused: Callable[[str, Exception], None],
+        ended: Callable[[], None] = lambda: None,
     ) -> None:
-        self._loop, self._heard, self._refused = loop, heard, refused
+        self._loop, self._heard, self._refused, self._ended = loop, heard, refused, ended
         self._number: Optional[int] = None
         self._text = b""
         try:
-            mode = os.fstat(number).st_mode
+            mode = os.fstat(0).st_mode
         except OSError:
             return
-        if stat.S_ISREG(mode) or not (os.isatty(number) or stat.S_ISFIFO(mode) or stat.S_ISSOCK(mode)):
+        if stat.S_ISREG(mode) or not (os.isatty(0) or stat.S_ISFIFO(mode) or stat.S_ISSOCK(mode)):
             return
-        self._number = number
+        self._number = 0
         self._watch()
 
     def _watch(self) -> None:
@@ -235,6 +239,7 @@ class Typed:
         if not part:
             self._loop.forget(self._number)
             self._number = None
+            self._ended()
             return
         lines: List[bytes]
         *lines, self._text = (self._text + part).split(b"\n")

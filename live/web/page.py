@@ -41,7 +41,7 @@ KINDS = {
 }
 PIECES = b"<!-- pieces.svg -->"  # the place in the page where they are put in
 SHARED = ("boards.js", "card.js", "chess.js", "clock.js", "diagram.js", "game.js", "grid.js", "icon.svg", "names.js", "page.css",
-          "files.js", "pieces.svg", "source.js", "stream.js")  # fmt: skip
+          "files.js", "pieces.svg", "sheet.js", "source.js", "stream.js")  # fmt: skip
 PGN = "application/vnd.chess-pgn"
 JSON = "application/json"
 

@@ -167,4 +167,5 @@ def view_of(game: Game) -> BoardView:
         moves=plies_view(plies),
         positions=tuple(board.fens),
         pgn=board.pgn,
+        tags=game.tags,
     )

@@ -3,8 +3,14 @@
 from __future__ import annotations
 
 import json
-from dataclasses import dataclass
+from dataclasses import dataclass, field
 from typing import Any, Dict, Iterable, Mapping, Optional, Protocol, Sequence, Tuple
+
+from live.game.tags import pairs_of
+
+SHEET = {"date": "Date", "place": "Site", "control": "TimeControl"}  # what a score sheet has of a game's tags
+UNKNOWN = ("?", "????.??.??", "-")
+NOTHING: Mapping[str, str] = {}
 
 
 @dataclass(frozen=True)
@@ -43,6 +49,7 @@ class BoardView:
     moves: Tuple[Ply, ...] = ()
     positions: Tuple[str, ...] = ()
     pgn: bytes = b""
+    tags: Mapping[str, str] = field(default_factory=dict)  # those that are published in other letters, or that `pgn` hasn't
 
     def text(self, offset: float, before: Optional[BoardView]) -> bytes:
         """The JSON text, for a page that has the earlier view."""
@@ -85,6 +92,13 @@ class RoundView:
         return json_text(values)
 
 
+def sheet_of(pgn: bytes, tags: Mapping[str, str] = NOTHING) -> Dict[str, str]:
+    """What a score sheet has of a game besides its event and players, from its text and from tags that this may not have."""
+    values = {**pairs_of(pgn.partition(b"\n\n")[0].decode("utf-8", "replace")), **tags}
+    found = {name: values.get(tag, "") for name, tag in SHEET.items()}
+    return {name: "" if value in UNKNOWN else value for name, value in found.items()}
+
+
 def pgn_path(number: int) -> str:
     """The path of a board's PGN."""
     return f"/{number:02}.pgn"
@@ -114,6 +128,7 @@ def board_text(board: BoardView, offset: float, before: Optional[BoardView] = No
         "differing": board.differing,
         "clocks": board.clocks,
         "pgn": pgn_path(board.number),
+        **sheet_of(board.pgn, board.tags),
         "moves": [{"san": ply.san, "clock": ply.clock, "kind": ply.kind} for ply in board.moves[moves:]],
         "positions": board.positions[positions:],
     }

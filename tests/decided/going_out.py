@@ -419,12 +419,12 @@ def for_spectators() -> None:
     board = SpectatorBoard(3, white, Player.of_tags({}, "Black", "?"), E4, b"", 900.0)
     same("whole", board.text(5.0, None), (
         b'{"number":3,"white":"\\u00dcnal, \\u00dc","black":"","titles":["GM",""],"ratings":["2701",""],"teams":["Club",""],"federations":["",""],'
-        b'"result":"*","forfeit":"","clocks":["1:29:55","1:30:00"],"runs":"b","at":1005.0,"pgn":"/03.pgn",'
+        b'"result":"*","forfeit":"","clocks":["1:29:55","1:30:00"],"runs":"b","at":1005.0,"pgn":"/03.pgn","date":"","place":"","control":"",'
         b'"moves":[{"san":"e4","clock":"1:29:55"}],"positions":["start","after e4"]}'
     ))  # fmt: skip
     after = SpectatorBoard(3, white, Player(), E5, b"", 900.0).text(5.0, board)
     same("news", after[after.index(b'"runs"') :], (
-        b'"runs":"","at":null,"pgn":"/03.pgn","moves":[{"san":"e5","clock":""}],"positions":["after e5"],'
+        b'"runs":"","at":null,"pgn":"/03.pgn","date":"","place":"","control":"","moves":[{"san":"e5","clock":""}],"positions":["after e5"],'
         b'"kept":{"moves":1,"positions":2}}'
     ))  # fmt: skip
 

@@ -55,6 +55,18 @@ def command_lines() -> None:
             same(f"dgt_live {given}", calls.parse(["/dev/x", "game", *given]).options, Options(white=value))
         for given in ((f"--event={value}",), ("--event", value)):
             same(f"dgt_round {given}", dgt_round.parse(["table.csv", *given]).options, Options(event=value))
+    for word in ("--place", "--site"):  # ours, and PGN's
+        for given in ((f"{word}=Basel",), (word, "Basel")):
+            same(f"dgt_live {given}", calls.parse(["/dev/x", "game", *given]).options, Options(site="Basel"))
+            same(f"dgt_round {given}", dgt_round.parse(["t.csv", *given]).options, Options(site="Basel"))
+        told = refused(word, Refused, calls.parse, ["/dev/x", "game", word])
+        same(f"{word} alone", told, f"{word} wants a value: see dgt_live --help")
+    for word in ("--output", "--web", "--embed"):
+        for given in ((f"{word}=x",), (word, "x")):
+            told = refused(f"dgt_live {given}", Refused, calls.parse, ["/dev/x", "game", *given])
+            same(f"dgt_live {given}", told, f"{word} is an option of dgt_round, which records one board too: write a table of one line for it")
+    same("a place as it is said", as_typed(Options(site="Basel").words()), ["--place", "Basel"])
+    same("and as it is kept", Options(site="Basel").text(), "--site=Basel\n")
     for value in LIKE_OPTIONS:
         same(f"dgt_live --white={value}", calls.parse(["/dev/x", "game", f"--white={value}"]).options, Options(white=value))
         same(f"dgt_round --event={value}", dgt_round.parse(["t.csv", f"--event={value}"]).options, Options(event=value))

@@ -1,13 +1,16 @@
 """Tables of pairings as programs write them, in five languages, and the pairs that are read of them; reports of tournaments; the
 hall's boards that go with them. The files are written after the programs' pages, by hand."""
 
+import pathlib
+import tempfile
 from typing import Dict, List, Tuple
 
 from live.doors.dgt_round import VALUED, parse
 from live.refused import Refused
-from live.round.encodings import ENCODING, encoding_in, known_encoding, text_of
+from live.round.encodings import ENCODING, encoding_in, known_encoding, text_of, told_of_reading
 from live.round.joining import joined, placed, with_some
 from live.round.pairings import Pairing, Pairings, Wrong, read_pairings
+from live.round.sources import Source
 from live.round.settings import TEMPLATE, encoding_set, words_of
 from live.round.trf import Head, head_of, is_report, read_matches, read_report
 
@@ -320,19 +323,22 @@ WESTERN_NAMES = (
     *("GONÇALVES", "ÇELIK", "NICCOLÒ", "SIMÕES", "ŽIŽEK", "DRAŽEN", "GAL·LA", "’t Hooft", "N‘Diaye", "Meyer–Schmidt", "½ – ½;Ben"),
     *("Guðmundur", "Þórhallsson", "Sigurður", "Þorsteinn", "Þráinn", "Davíð", "Ærø", "Raïssa", "Zoë", "Héloïse", "Tolstoï", "Àlex", "Joàn"),
     *("«Jörg Müller»", "Jörg «Max Power» Müller", "»Max« Müller", "© Müller", "Müller ®", "Ünal;Maïa;Loïc", "Sànchez;Niccolò", "´t Hooft"),
+    *("Geneviève", "Rivière", "Lévêque", "Inês", "Héðinn", "Štefan", "Škoda", "Švec", "Šmid", "É. Voss", "Ö", "«Ö» Müller"),
     *("“Max” Meyer", "‚Tom’ Kern", "„Max“ Meyer", "Jäger;Koç", "Schäfer;Weiß;Bartoç", "Müller;Gaál", "Club d'échecs;Anna"),
 )
 # Not Western, and not asked about: nothing shows it.
 SILENT_NAMES = (("Dobrý", "cp852", "Dobrì"), ("Saša", "cp852", "Saça"), ("MARTÍN", "cp850", "MARTÖN"))
-# Western, and asked about where they are alone: they could as well be Koš, Saraš, Gaßl and Őtefan in DOS.
-UNCERTAIN_NAMES = ("Koç", "Saraç", "Gaál", "Štefan")
+# Western, and asked about where they are alone: they could as well be Tomaš and Preßl in DOS.
+UNCERTAIN_NAMES = ("Tomaç", "Preál")
+# Western, and told of where they are alone: what they would be in DOS is rarer by far.
+TOLD_NAMES = (("Koç", "cp852", "Koš"), ("Saraç", "cp852", "Saraš"), ("Gaál", "cp437", "Gaßl"))
 CENTRAL_NAMES = (
     *("Świercz", "Dvořák", "Kučera", "Čech", "Němec", "Růžička", "Kamiński", "Wałęsa", "Łukasz", "Jiří", "Ćirić", "Petrović"),
-    *("Đorđević", "Szőke", "Erdős", "Brăila", "Mureş", "Węgrzyn", "Žák, Jiří", "Vaněk", "Hodaň"),
+    *("Ćmiel", "Ćmikiewicz", "Đorđević", "Szőke", "Erdős", "Brăila", "Mureş", "Węgrzyn", "Žák, Jiří", "Vaněk", "Hodaň"),
     *("Maďar", "Naďa", "Laďka", "Raďo", "Vŕba", "Ćwik", "Maćkowiak", "Anđela", "Ţurcanu"),
     "Maďar;Tomáš\n2;Müller;Smith\n3;Szabó;Novák\n4;Žák;Šimek",
 )
-LATIN_2_NAMES = ("Šimek", "Žák", "Ťok", "Śliwa", "Źrebiec", "Żak", "Ľuboš", "Łoś", "Bartoś", "Chuť", "KOVÁŠ", "MATJAŽ", "Ťok;Ťapák", "Šťastný")
+LATIN_2_NAMES = ("Ćmiel", "Šimek", "Žák", "Ťok", "Śliwa", "Źrebiec", "Żak", "Ľuboš", "Łoś", "Bartoś", "Chuť", "KOVÁŠ", "MATJAŽ", "Ťok;Ťapák", "Šťastný")
 DOS_NAMES = {
     "cp437": ("Jörg Müller", "Müller", "Jörg", "Größ", "René", "Zoë", "Özil", "É. Voss", "Åse", "García", "López", "Muñoz", "Benoît", "Bräuer", "Ünal",
               "MÜLLER", "MÄRZ", "BÄUMER", "Ärmel", "Übel", "Lefèvre", "Sánchez", "Hernández", "Adrián", "Weiß", "Heß", "Großmann", "Preuße",
@@ -343,10 +349,11 @@ DOS_NAMES = {
     "cp852": ("Jörg Müller", "Wałęsa", "Łukasz", "Božena", "Kaźmierczak", "Růžička", "Jiří", "Szőke", "Dvořák", "Novák",
               "Svobodová", "Novotný", "Kamiński", "Szymański", "Kráľ", "Vašek", "Beneš", "Bartoš", "Vaňek", "Hodaň", "Škoda", "Řehoř", "Ondřej",
               "Baťa", "Kovač", "Kovář", "Đuro", "SRĐAN", "SZŐKE", "VAŇEK", "Brăila", "Ionuţ", "Němec", "Tomáš", "Saša;Dvořák", "Dobrý;Novák", "Čech",
-              "Žák", "Śliwa"),
+              "Žák", "Śliwa", "Őri", "Őze"),
 }
-CYRILLIC_NAMES = ("Петров", "Ли", "Каспаров", "Юдасин", "Ян", "Ёж")
-ISO_CYRILLIC_NAMES = ("Петров", "Ли", "Ан", "Ян", "Ёж")
+SHORT_NAMES = ("Юн", "Ро", "Ха", "Цо", "Эм", "Эн", "Сю", "Ша", "Чо", "Ду", "Че", "Ву", "До", "Ло", "Ча", "Ян", "Ан", "Им", "Ма", "Си", "Як")
+CYRILLIC_NAMES = ("Петров", "Ли", "Каспаров", "Юдасин", "Ян", "Ёж", *SHORT_NAMES)
+ISO_CYRILLIC_NAMES = ("Петров", "Ли", "Ан", "Ян", "Ёж", *SHORT_NAMES)
 
 
 def encodings() -> None:
@@ -356,7 +363,7 @@ def encodings() -> None:
         same(name, text_of(name.encode("cp1252")), name)
     for codec, names in (
         ("cp1250", CENTRAL_NAMES), ("iso-8859-2", LATIN_2_NAMES), ("cp1251", CYRILLIC_NAMES), ("iso-8859-5", ISO_CYRILLIC_NAMES),
-        *DOS_NAMES.items(),
+        ("koi8-r", SHORT_NAMES), ("cp866", ("Ли", "Юн", "Ан", "Ким", "Си", "Шо")), *DOS_NAMES.items(),
     ):  # fmt: skip
         for name in names:
             content = f"board;white;black\n1;{name};Müller\n".encode(codec, "replace")
@@ -367,6 +374,22 @@ def encodings() -> None:
                 refused(f"{name} alone", Refused, text_of, name.encode(codec))
     for name, codec, read in SILENT_NAMES:
         same(f"{name}, not asked about", text_of(name.encode(codec)), read)
+    for name, codec, of_dos in TOLD_NAMES:
+        content = f"board;white;black\n1;{name};Smith\n".encode("cp1252")
+        same(f"{name}, alone", name in text_of(content), True)
+        same(f"{name} is told of", told_of_reading(content, ""), f"it isn't Unicode, and {name} is read as windows-1252 has it. "
+             f"If it is {of_dos}, say so: --encoding {codec} (in tournament.txt: encoding = {codec})")  # fmt: skip
+        same(f"{of_dos}, as it is said to be", (of_dos in text_of(content, codec), told_of_reading(content, codec)), (True, ""))
+        for more in ("Müller", "Dvoøák"):  # nothing to tell; asked about
+            same(f"{name} and {more}", told_of_reading(f"{name};{more}".encode("cp1252"), ""), "")
+    with tempfile.TemporaryDirectory() as folder:
+        table = pathlib.Path(folder) / "round1.csv"
+        table.write_bytes("board;device;white;black\n1;/dev/a;Koç;Smith\n".encode("cp1252"))
+        for encoding, white, remarks in (("", "Koç", 1), ("cp852", "Koš", 0)):
+            of_table = Source(table, encoding=encoding).read()
+            same(f"a table in {encoding or 'no encoding'}", (of_table.boards[0].white, len(of_table.remarks)), (white, remarks))
+    for name in ("Ben", *WESTERN_NAMES):
+        same(f"nothing is told of {name}", told_of_reading(name.encode("cp1252"), ""), "")
     for name in UNCERTAIN_NAMES:
         refused(f"{name}, alone", Refused, text_of, name.encode("cp1252"))
         same(f"{name}, not alone", text_of(f"{name};Müller".encode("cp1252")), f"{name};Müller")

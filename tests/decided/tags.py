@@ -107,6 +107,7 @@ ADDED = [
     (JOERG, ("--white", "Anna"), True, ("--white", "Anna"), "White is now Anna, and was Jörg"),
     (TWO, ("--black", "?"), True, ("--white", "Anna", "--black", "?"), "Black is unknown now, and was Ben"),
     (JOERG, ("--event", "Club"), True, ("--event", "Club", *JOERG), "its event is now Club"),
+    ((*TWO, "--site", "Bern"), ("--place", "Basel"), True, (*TWO, "--site", "Basel"), "its place is now Basel, and was Bern"),
     (TWO, ("--first", "black"), True, ("--first", "black", *TWO), ""),
     (("--rotated", *TWO), ("--rotated",), True, ("--rotated", *TWO), ""),
 ]
@@ -143,6 +144,8 @@ NAMED = [
     ("name Event=Club cup Round=3 Date=31.05.2024 Site=Basel",
      ("--event", "Club cup", "--round", "3", "--date", "31.05.2024", "--site", "Basel")),
     ("""name White="Anna Kern" Black='Ben Ott' Event='64""", ("--white", "Anna Kern", "--black", "Ben Ott", "--event", "'64")),
+    ("name Place=Basel", ("--place", "Basel")),
+    ("name place = Bad Ragaz White=Anna", ("--site", "Bad Ragaz", "--white", "Anna")),
     ("name Black=", ("--black", "?")),
     ("name WhiteElo=2050 Black=Ben", ("--tag", "WhiteElo=2050", "--black", "Ben")),
     ("name TimeControl=90+30", ("--tag", "TimeControl=5400+30")),
@@ -152,7 +155,7 @@ NOT_NAMED = {
     "name Anna": "'Anna' has no =",
     "name Result=1-0": "Result is what the game says",
     "name Colour=red": "there is no tag 'Colour'",
-    "name Whtie=Anna": ". Type name White=Anna, name Black=Ben, and so on: Event, Site, Date and Round can be put right too",
+    "name Whtie=Anna": ". Type name White=Anna, name Black=Ben, and so on: Event, Place, Date and Round can be put right too",
     "name WhiteElo=20x0": "WhiteElo: '20x0' is no rating",
 }
 

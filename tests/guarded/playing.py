@@ -343,7 +343,7 @@ def finish(room: Room, readers: Readers) -> None:
     room.until(lambda: room.second.rests, "the last ply of the second board", plays=False)
     same(movetext(room.hall.name(2)), room.second.text)
     until(lambda: movetext(room.hall.name(2)).encode()[:200] in bytes_of(room.hall.games / "round.pgn").replace(b"\n", b" "), "round.pgn")
-    room.type("q")
+    room.type("q\nq")  # a game is being played
     same(ended(room.live), 0)
 
 

@@ -4,7 +4,7 @@ import contextlib
 import json
 import signal
 import time
-from typing import Callable, List, Mapping, Optional
+from typing import Callable, Dict, List, Mapping, Optional, Tuple
 
 import outside
 from decided.table import same, skip
@@ -427,7 +427,8 @@ PRINTED = """(() => {
   const top = (where) => document.querySelector(where).getBoundingClientRect().top;
   return {
     gone: ['#line', '#pgn', '#back', '#diagram', '#at', '#steps', '#files', '#keys'].filter(shown),
-    there: ['#event', '#title', '#upper', '#lower', '#moves'].filter(shown),
+    there: ['#event', '#title', '#sheet', '#upper', '#lower', '#moves'].filter(shown),
+    sheet: document.querySelector('#sheet').innerText,
     columns: getComputedStyle(document.querySelector('#moves')).columnCount,
     whole: document.querySelector('#moves').scrollHeight <= document.querySelector('#moves').clientHeight + 2,
     white_first: top('#play .player.w') < top('#play .player.b'),
@@ -437,15 +438,30 @@ PRINTED = """(() => {
 })()"""
 
 
-@with_page(a_board(1, 8, result="1-0"), event="Club cup")
+def tags(**values: str) -> str:
+    """A PGN text with these tags."""
+    return "".join(f'[{name} "{value}"]\n' for name, value in values.items()) + "\n*\n"
+
+
+OF_SHEETS: List[Tuple[Dict[str, str], str]] = [  # the tags of a game, and the line of its score sheet
+    ({"Date": "2024.05.31", "Site": "Basel", "TimeControl": "5400+30"}, "31 May 2024 \u00b7 Basel \u00b7 90 min + 30 s a move"),
+    ({"Date": "2024.12.01", "Site": "?", "TimeControl": "40/5400+30:1800+30"}, "1 December 2024 \u00b7 40 moves in 90 min + 30 s a move, then 30 min + 30 s a move"),
+    ({"Date": "2024.05.??", "Site": "<b>Bern</b>", "TimeControl": "90+0"}, "May 2024 \u00b7 <b>Bern</b> \u00b7 90 s"),
+    ({"Date": "????.??.??", "Site": "?", "TimeControl": "*180"}, "*180"),
+    ({}, ""),
+]  # fmt: skip
+
+
+@with_page(a_board(1, 8, result="1-0", pgn=tags(**OF_SHEETS[0][0])), event="Club cup")
 def score_sheet(site: Site, page: Page) -> None:
-    """The page of one game, printed: event, board, both names, White's first, all moves in two columns, and the result; nothing
-    to press, and no board. A game without a result has no such line."""
+    """The page of one game, printed: event, board, day, place, time control, both names, White's first, all moves in two columns, and
+    the result; nothing to press, and no board. A game without a result has no such line. On the screen the day and the place aren't
+    shown."""
     page.tab.open(f"{site.url}#1")
     page.reads("the game", "#title", "Board 1")
     page.tab.call("Emulation.setEmulatedMedia", media="print")
     wanted = {
-        "gone": [], "there": ["#event", "#title", "#upper", "#lower", "#moves"], "columns": "2", "whole": True,
+        "gone": [], "there": ["#event", "#title", "#sheet", "#upper", "#lower", "#moves"], "sheet": OF_SHEETS[0][1], "columns": "2", "whole": True,
         "white_first": True, "names": ["Black: Black 1", "White: White 1"], "result": '"Result: 1–0"',
     }  # fmt: skip
     page.says("printed", f"JSON.stringify({PRINTED})", json.dumps(wanted, separators=(",", ":"), ensure_ascii=False))
@@ -453,9 +469,12 @@ def score_sheet(site: Site, page: Page) -> None:
     page.tab.value("document.getElementById('turn').click()")
     page.tab.call("Emulation.setEmulatedMedia", media="print")
     page.says("White first, also where the board is turned", f"{PRINTED}.white_first", True)
-    site.show(a_board(1, 8))
+    for number, (of_game, line) in enumerate(OF_SHEETS):
+        site.show(a_board(1, 8 - number, pgn=tags(**of_game)))
+        page.says(f"the sheet's line for {of_game}", f"{PRINTED}.sheet", line)
     page.says("no result", f"{PRINTED}.result", "none")
     page.tab.call("Emulation.setEmulatedMedia", media="")
+    page.says("nothing of it on the screen", "document.querySelector('#sheet').getClientRects().length", 0)
 
 
 TABLES = [score_sheet, followed, by_keys, one_board, connected_again, comes_in, standing_still, pieces, many_tabs, without_locks, left_and_back]

@@ -12,7 +12,7 @@ from live.broadcast.history import Shot
 from live.broadcast.running import Clocks
 from live.broadcast.view import Player, SpectatorBoard, said_of_matches
 from live.web.round_page import Game, view_of, ways_to_mend
-from live.web.view import Ply, board_text, round_text
+from live.web.view import BoardView, Ply, board_text, round_text
 
 TOP = pathlib.Path(__file__).resolve().parents[2]
 
@@ -66,9 +66,10 @@ def what_to_type() -> None:
     same("in a round", view_of(cast(Game, Stand("", "WRONG: e2"))).mend, MENDED[0][2])
 
 
+PUBLISHED = '[Event "Club"]\n[Site "Zürich \\"Süd\\""]\n[Date "2024.05.31"]\n[TimeControl "5400+30"]\n\n1. e4 *\n'.encode()
 SHAPES = {
     "number": int, "pgn": str, "white": str, "black": str, "titles": list, "ratings": list, "teams": list, "federations": list, "result": str,
-    "forfeit": str,
+    "forfeit": str, "date": str, "place": str, "control": str,
     "moves": list, "positions": list, "clocks": list, "runs": str, "at": float,
 }  # fmt: skip
 
@@ -85,16 +86,21 @@ def state_is_what_is_documented() -> None:
     shot = Shot("1-0", (Ply("e4", "1:29:53"),), ("start", "after"), b"", Clocks("1:29:53", "1:30:00", "b", 5.0))
     tags = {"WhiteTitle": "GM", "WhiteElo": "2401", "BlackTeam": "Basel", "BlackFed": "SUI"}
     white, black = Player.of_tags(tags, "White", "Anna"), Player.of_tags(tags, "Black", "?")
-    board = json.loads(SpectatorBoard(3, white, black, shot, b"").text(100.0, None))
+    board = json.loads(SpectatorBoard(3, white, black, shot, PUBLISHED).text(100.0, None))
     same("documented", sorted(names), sorted(board))
     same("known here", sorted(names), sorted(SHAPES))
     same("of these kinds", {name: type(board[name]) for name in names}, {name: SHAPES[name] for name in names})
     values = {
         "number": 3, "pgn": "/03.pgn", "white": "Anna", "black": "", "titles": ["GM", ""], "ratings": ["2401", ""],
         "teams": ["", "Basel"], "federations": ["", "SUI"], "result": "1-0", "forfeit": "", "moves": [{"san": "e4", "clock": "1:29:53"}], "positions": ["start", "after"],
-        "clocks": ["1:29:53", "1:30:00"], "runs": "b", "at": 105.0,
+        "clocks": ["1:29:53", "1:30:00"], "runs": "b", "at": 105.0, "date": "2024.05.31", "place": "Zürich \"Süd\"", "control": "5400+30",
     }  # fmt: skip
     same("as they are documented", board, values)
+    unknown = b'[Site "?"]\n[Date "????.??.??"]\n\n1. e4 *\n'
+    nothing = json.loads(SpectatorBoard(3, white, black, shot, unknown).text(100.0, None))
+    same("unknown", [nothing[name] for name in ("date", "place", "control")], ["", "", ""])
+    arbiters = json.loads(BoardView(3, "03", pgn=PUBLISHED, tags={"Site": "王"}).text(0.0, None))  # recorded in other letters
+    same("on the arbiter's page", [arbiters[name] for name in ("date", "place", "control")], ["2024.05.31", "王", "5400+30"])
     still = json.loads(SpectatorBoard(3, white, black, Shot()).text(100.0, None))
     same("no clock runs", (still["clocks"], still["runs"], still["at"], still["result"]), (["", ""], "", None, "*"))
     round_of = json.loads(round_text({"event": "Club cup"}, [SpectatorBoard(3, white, black, shot).text(0.0, None)]))

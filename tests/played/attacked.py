@@ -201,7 +201,7 @@ def links_not_followed(folder: pathlib.Path) -> None:
     hall.until_text(1, "1. e4 e5 2. Nf3 1-0")
     until(lambda: (output / "broadcast.pgn").is_file() and not (output / "broadcast.pgn").is_symlink(), "the text of the output", 0.05)
     live.type("q")
-    until_line(live, "To end it now, type q again")
+    until_line(live, "1 game is still being played, and spectators see the last moves at ")
     live.type("q")
     ended(live)
     same(sorted(path.name for path in output.iterdir() if path.is_symlink()), [])

@@ -222,6 +222,10 @@ class Live:
                 break
             self.send_all(signal.SIGKILL)
             time.sleep(0.01)
+        self.end_typing()
+
+    def end_typing(self) -> None:
+        """Nothing more can be typed."""
         if self.typing >= 0:
             os.close(self.typing)
             self.typing = -1

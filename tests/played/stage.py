@@ -153,7 +153,7 @@ def refuses(live: Live, status: int, part: str) -> None:
 def bytes_of(path: object) -> bytes:
     try:
         return pathlib.Path(str(path)).read_bytes()
-    except (FileNotFoundError, NotADirectoryError):
+    except (FileNotFoundError, NotADirectoryError, ProcessLookupError):  # the last of a process that has just ended
         return b""
 
 

@@ -7,7 +7,8 @@ import signal
 import sys
 
 from played import TOP
-from played.stage import bytes_of, ended, kill, same, stop, until, until_line
+from played.stage import bytes_of, kill, same, stop, until, until_line
+from rounds.hall import quits
 from rounds.outputs import UNPLAYED, Outputs
 from rounds.witness import texts_of
 
@@ -67,8 +68,7 @@ def commands_of_one(folder: pathlib.Path) -> None:
     round_.play(4)
     round_.until_out("", 4)
     same(b"beside" in bytes_of(notes), False)
-    live.type("q")
-    same(ended(live), 3)
+    quits(live, 3)
     same((f"{hall.games}/broadcast.pgn isn't" in live.complaint(), live.complaint().count("isn't published")), (False, 2))
 
 
@@ -119,8 +119,7 @@ def disk_of_one(folder: pathlib.Path) -> None:
     round_.until_out("agency", 3)
     round_.clock.be(1500)
     round_.until_out("public", 3)
-    live.type("q")
-    same(ended(live), 0)
+    quits(live)
     same([name for name in map(str, hall.games.rglob("*")) if name.endswith(".new")], [])
     round_.end()
 
@@ -168,8 +167,7 @@ def errors_of_one(folder: pathlib.Path) -> None:
         raises.write_text("")
         round_.until_out("agency", ply)
     assert "an error in one output" in bytes_of(hall.games / "round.log").decode()
-    live.type("q")
-    same(ended(live), 0)
+    quits(live)
 
 
 CASES = [commands_of_one, disk_of_one, errors_of_one]

@@ -5,9 +5,9 @@ import pathlib
 from played import words
 from played.back_killed import OnTheWay
 from played.recorder import Live, has_open
-from played.stage import bytes_of, ended, movetext, rest, same, stop, until, until_dumped, until_line
+from played.stage import bytes_of, movetext, rest, same, stop, until, until_dumped, until_line
 from rounds.alarms import says
-from rounds.hall import Hall
+from rounds.hall import Hall, quits
 
 
 def killed_going_back(folder: pathlib.Path) -> None:
@@ -42,7 +42,7 @@ def set_up_and_back(folder: pathlib.Path) -> None:
     for board in hall.boards:
         board.set_up([])
     for number in (1, 2, 3):
-        until_line(live, f"{number:>3}  {hall.name(number)} is over: the pieces are at the start again")
+        until_line(live, f"{number:>3}  {hall.name(number)} is over: the pieces are at the start again. Type its result, as {number} 1-0")
         says(live, number, "over, no result; ")
     live.type("1 back 0")
     until_line(live, "1: takes off 3 plies, from 1. e4: type it again")
@@ -94,7 +94,7 @@ def back_after_set_up(folder: pathlib.Path) -> None:
     until(lambda: not has_open(live.process.pid, hall.boards[0].device), "that the board isn't heard any more")
     live.type("1 back 3. Bb5")
     until_line(live, "back to 3. Bb5; taken off: 3... a6; the result 1-0 is gone. What the board had sent is kept in")
-    until_line(live, f"{hall.name(1)} is over: the pieces are at the start again")
+    until_line(live, f"{hall.name(1)} is over: the pieces are at the start again. Type its result, as 1 1-0")
     same(hall.text(1), f"{front} *")
     live.type("1 0-1")
     hall.until_text(1, f"{front} 0-1")
@@ -125,5 +125,4 @@ def answered_once(folder: pathlib.Path) -> None:
         live.type("help")
         until(lambda: "(the state of board" in last_screen(live), "the answer to help")
         same(last_screen(live).count(answer), 1)
-    live.type("q")
-    same(ended(live), 0)
+    quits(live)

@@ -13,7 +13,7 @@ from played.ports import free_port
 from played.recorder import Live
 from played.stage import bytes_of, ended, kill, program, refuses, same, stop, until, until_line
 from rounds.going_out import Clock
-from rounds.hall import ROUND, Hall
+from rounds.hall import ROUND, Hall, quits
 from rounds.witness import Witness, served, texts_of
 
 from live.broadcast import kept
@@ -211,8 +211,7 @@ def named_as_others(folder: pathlib.Path) -> None:
     live.type("r")
     until_line(live, "line 2 of round.csv is wrong: name is 'Round'")
     until_line(live, "agrees")
-    live.type("q")
-    same(ended(live), 0)
+    quits(live)
     for name in ("broadcast", "round", "club.before", "club.before-1", "club.edited", "club.broadcast"):
         refuses(Live(hall.boards[0].device, hall.games / name), 1, "choose another name")
         refuses(Live(hall.boards[0].device, hall.games / name, "--series"), 1, "choose another name")

@@ -16,9 +16,9 @@ from typing import Dict, List, Optional, Tuple
 from played import TOP
 from played.ports import free_port
 from played.recorder import Live, processes
-from played.stage import bytes_of, check, ended, kill, movetext, same, stop, until, until_line
+from played.stage import bytes_of, check, kill, movetext, same, stop, until, until_line
 from rounds.crowds import page_of
-from rounds.hall import Hall, games_of, plain
+from rounds.hall import Hall, games_of, plain, quits
 from rounds.rounds import boards_of, fetch
 
 from live.broadcast import kept
@@ -219,8 +219,7 @@ def fifteen_minutes_late(folder: pathlib.Path) -> None:
     until(lambda: texts(files[1])[:1] == ["1. e4 e5 2. Nf3 Nc6 3. Bb5 a6 1-0"], "the result in the copy", 0.05)
     hall.until_round()
     same(check(games_of(bytes_of(hall.games / "round.pgn"))[0]), "moves 6, result 1-0")
-    live.type("q")
-    same(ended(live), 0)
+    quits(live)
 
 
 class Server:
@@ -311,8 +310,7 @@ def published(folder: pathlib.Path) -> None:
         ply += 1
         until(lambda: server.last == bytes_of(path) and movetext(hall.name(1)).split(" ")[-2] in server.last.decode(), "the next one", 0.05)
     live.type("1 1-0")
-    live.type("q")
-    same(ended(live), 0)
+    quits(live)
     same(server.last, bytes_of(path))
     same(b"1-0" in server.last, True)
     server.end()
@@ -332,8 +330,7 @@ def left_unpublished(folder: pathlib.Path) -> None:
     live = hall.record("--publish", "false", typed=True, start=Clock(folder).start)
     until_line(live, "NOT PUBLISHED: the command ended with status 1")
     hall.play(0, 1)
-    live.type("q")
-    same(ended(live), 3)
+    quits(live, 3)
     same("isn't published: the command ended with status 1" in live.complaint(), True)
 
 

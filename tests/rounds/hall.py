@@ -9,7 +9,7 @@ from typing import Dict, List, Optional, Sequence, Set
 from played import TOP
 from played.boards import Board, Cables
 from played.recorder import Live
-from played.stage import Stage, a_board, bytes_of, check, movetext, until
+from played.stage import Stage, a_board, bytes_of, check, ended, movetext, same, until
 
 ROUND = TOP / "bin" / "dgt_round"
 GAMES = [
@@ -82,6 +82,19 @@ def agrees(live: Live, number: int) -> bool:
     """Whether it was said of a board that it agrees, whatever somebody is to look at there."""
     lines = [line[10:] for line in live.lines().splitlines()]
     return any(line.startswith(f"{number:>3}  ") and line.endswith("agrees") for line in lines)
+
+
+def quits(live: Live, status: int = 0) -> None:
+    """Ends it by `q`, and once more if that is asked about."""
+    def asked() -> int:
+        return " ".join(live.lines().split()).count("type q again")
+
+    before = asked()
+    live.type("q")
+    until(lambda: not live.runs or asked() > before, "the end, or a question")
+    if live.runs:
+        live.type("q")
+    same(ended(live), status)
 
 
 class Hall:

@@ -5,8 +5,8 @@ import pathlib
 import signal
 
 from played.recorder import Live
-from played.stage import ended, refuses, same, stop, until, until_line
-from rounds.hall import ROUND, Hall
+from played.stage import refuses, same, stop, until, until_line
+from rounds.hall import ROUND, Hall, quits
 
 LARGEST = 256 * 1024  # bytes of a table
 ODD = {  # names as a table has them, and what stands between the quotes of their tags
@@ -49,7 +49,7 @@ def odd_names(folder: pathlib.Path) -> None:
     until(lambda: (folder / "published").exists() and b"- Open -" in (folder / "published").read_bytes(), "what is published")
     same(stop(live, signal.SIGTERM), 0)
     again = Live("round.csv", "./-r3", program=ROUND, cwd=folder)
-    until_line(again, "the round goes on with '--event=- Open -' --site=-1; give others to change that")
+    until_line(again, "the round goes on with '--event=- Open -' --place=-1; give others to change that")
     hall.play(1, 2, numbers)
     same(stop(again, signal.SIGTERM), 0)
 
@@ -130,6 +130,5 @@ def full_of_wrong_lines(folder: pathlib.Path) -> None:
     print(f"   bytes read for four plies: {once}; and with a table of {hall.file.stat().st_size}: {again}", flush=True)
     assert once < LARGEST // 2, "the table is read for each move, or each time that it is shown"
     assert again < LARGEST * 3 // 2, "more of a table is read than one may have"
-    live.type("q")
-    same(ended(live), 0)
+    quits(live)
     same(hall.text(1), "1. e4 e5 2. Nf3 Nc6 3. Bb5 a6 4. Ba4 Nf6 *")

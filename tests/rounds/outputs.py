@@ -5,13 +5,13 @@ import pathlib
 import signal
 import sys
 import time
-from typing import Dict, List, Optional, Tuple
+from typing import Callable, Dict, List, Optional, Tuple
 
 from played.recorder import Live
-from played.stage import bytes_of, ended, holds_within, kill, refuses, same, stop, until, until_line
+from played.stage import bytes_of, holds_within, kill, refuses, same, stop, until, until_line
 from rounds.delayed import FIRST, SECOND
 from rounds.going_out import Clock
-from rounds.hall import ROUND, Hall
+from rounds.hall import ROUND, Hall, quits
 from rounds.witness import Witness, texts_of
 
 from live.broadcast import kept
@@ -187,8 +187,7 @@ def three_outputs(folder: pathlib.Path) -> None:
     clock.be(2000)
     until(lambda: round_.last_carried("public") == won, "the result, fifteen minutes late", 0.02)
     until(lambda: texts_of(bytes_of(place / "round.pgn")) == won, "the result in the site", 0.05)
-    live.type("q")
-    same(ended(live), 0)
+    quits(live)
     round_.end()
     seen = {name: [texts_of(bytes_of(file))[1] for file in round_.carried(name)] for name in PLAYED}
     for name, texts in seen.items():  # each text came in its order, and none came back
@@ -378,11 +377,41 @@ def in_a_tournament(folder: pathlib.Path) -> None:
     until_line(live, "output public isn't late")
     hall.begun(live)
     round_.until_out("public", 2)
-    live.type("q")
-    same(ended(live), 0)
+    quits(live)
     live = record("--output", "public=no")
     until_line(live, "output public is removed")
     same((stop(live), (hall.games / "output-public").exists(), bytes_of(pages[1] / "round.pgn") != b""), (0, False, True))
+
+
+def one_board(folder: pathlib.Path) -> None:
+    """One board with two outputs, as a round with a table of one line: its game goes out at once, and fifteen minutes late on a site."""
+    hall, clock, place = Hall(folder, 1), Clock(folder), folder / "site"
+    table, games = folder / "game.csv", folder / "game"
+    table.write_text(f"board,device,white,black\n1,{hall.boards[0].device},Anna,Ben\n")
+    copied = folder / "club.pgn"
+    copies = folder / "club.sh"
+    copies.write_text(f"#!/bin/sh\ncp \"$1\" '{copied}.new' && mv '{copied}.new' '{copied}'\n")
+    copies.chmod(0o755)
+    options = ("--publish", str(copies), "--output", f"public = 15, web {place}")
+    live = Live(table, "", *options, program=ROUND, typed=True, start=clock.start)
+    until_line(live, "  1  agrees")
+    for move in ("e2e4", "e7e5"):
+        hall.boards[0].play(move)
+    until(lambda: texts_of(bytes_of(copied)) == ["1. e4 e5 *"], "both plies, at once", 0.05)
+    late = kept_texts(games / "output-public" / "01.delayed")
+    until(lambda: late()[-1:] == ["1. e4 e5 *"], "both plies, hidden", 0.05)
+    until(lambda: texts_of(bytes_of(place / "round" / "round.pgn")) == ["*"], "no ply on the site", 0.05)
+    clock.be(2000)
+    until(lambda: texts_of(bytes_of(place / "round" / "round.pgn")) == ["1. e4 e5 *"], "both plies on the site", 0.05)
+    live.type("1 1-0")
+    until(lambda: texts_of(bytes_of(copied)) == ["1. e4 e5 1-0"], "the result, at once", 0.05)
+    same(stop(live), 0)
+    same(texts_of(bytes_of(place / "round" / "round.pgn")), ["1. e4 e5 *"])
+
+
+def kept_texts(path: pathlib.Path) -> Callable[[], List[str]]:
+    """What is kept of a game's texts in a file, hidden or shown."""
+    return lambda: [text for entry in kept.read(bytes_of(path), "", 0.0, 0.0).entries for text in texts_of(entry.shot.text)]
 
 
 def where_sites_are(folder: pathlib.Path) -> None:
@@ -418,4 +447,4 @@ def where_sites_are(folder: pathlib.Path) -> None:
     assert not live.says("an earlier site"), live.lines()
 
 
-CASES = [three_outputs, added_and_removed, files_of_one_lost_or_old, in_a_tournament, where_sites_are]
+CASES = [three_outputs, one_board, added_and_removed, files_of_one_lost_or_old, in_a_tournament, where_sites_are]

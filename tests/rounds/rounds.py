@@ -15,7 +15,7 @@ from played import TOP, words
 from played.ports import free_port
 from played.recorder import Live, signal_to
 from played.stage import bytes_of, ended, kill, program, refuses, same, stop, until, until_line
-from rounds.hall import ROUND, Hall, Reader, games_of, moves, text, told
+from rounds.hall import ROUND, Hall, Reader, games_of, moves, quits, text, told
 
 
 # Waits in each sync of a file whose path has a part, as long as another file is there.
@@ -131,8 +131,7 @@ def typed(folder: pathlib.Path) -> None:
         live.type(wrong)
     until_line(live, "3 refused", 2)
     hall.until_round()
-    live.type("q")
-    same(ended(live), 0)
+    quits(live)
     same(hall.text(3), "1. e4 c5 0-1")
 
 
@@ -340,8 +339,7 @@ def on_a_terminal(folder: pathlib.Path) -> None:
     until_line(live, "over 1-0")
     *lines, _ = re.split(r"\x1b\[\d+;1H|\x1b8|\r|\n", live.told.read().replace("\x1b[H\x1b[2J", "\n"))  # the last may be a part
     same([line for line in lines if len(words.plain(line)) > 79], [])
-    live.type("q")
-    same(ended(live), 0)
+    quits(live)
 
 
 def turned_round(folder: pathlib.Path) -> None:
@@ -367,8 +365,7 @@ def turned_round(folder: pathlib.Path) -> None:
     hall.write(header="board,device,white,black,rotated")
     live.type("r")
     until_line(live, "1: is the board turned round? Write no in its column rotated")
-    live.type("q")
-    same(ended(live), 0)
+    quits(live)
 
 
 def a_wrong_line(folder: pathlib.Path) -> None:
@@ -392,8 +389,7 @@ def a_wrong_line(folder: pathlib.Path) -> None:
     seen = len(live.lines())
     live.type("r")
     until(lambda: re.search("2 boards, no alarm(?!,)", live.lines()[seen:]), "that no line is wrong any more")
-    live.type("q")
-    same(ended(live), 0)
+    quits(live)
 
 
 def fetch(port: int, path: str) -> bytes:

@@ -18,12 +18,14 @@ from paged.devtools import Shared, Tab
 from paged.legible import faults
 from played.ports import free_port
 from played.recorder import Live
-from played.stage import Skipped, bytes_of, ended, kill, same, stop, until, until_line
+from played.stage import Skipped, bytes_of, kill, same, stop, until, until_line
 from rounds.delayed import DELAY, Delayed
 from rounds.going_out import Clock
-from rounds.hall import Hall, games_of
+from rounds.hall import Hall, games_of, quits
 from rounds.witness import served as asked
 from rounds.witness import texts_of
+
+from live.round.site import list_page, page_files
 
 
 def state_of(folder: pathlib.Path) -> "dict[str, object]":
@@ -155,6 +157,42 @@ def two_rounds(folder: pathlib.Path) -> None:
         same(tab.value("document.getElementById('pgn').href"), f"{url}round2/round.pgn")
         same([asked for asked in tab.requests() if not asked.startswith(url)], [])
     same(stop(live), 0)
+
+
+# Of each round's table: its left and right edges; and whether each score that is over is in one line.
+TABLES_AT = "JSON.stringify([...document.querySelectorAll('table')].map((one) => [one.getBoundingClientRect().left, one.getBoundingClientRect().right]))"
+SCORES = """[...document.querySelectorAll('td:nth-child(3)')].every((one) => {
+  const text = document.createRange();
+  text.selectNodeContents(one);
+  return text.getClientRects().length < 2;
+})"""
+
+
+def list_of_rounds(folder: pathlib.Path) -> None:
+    """The list with one round is in the middle of a wide window, and wide; with two they fill it; nothing is to the side, and no score is
+    broken, in windows of three widths."""
+    www = folder / "www"
+    www.mkdir()
+    for name, text in page_files().items():
+        (www / name).write_bytes(text)
+    boards = [{"number": number, "white": "Vachier-Lagrave, Maxime", "black": "O'Kelly de Galway, Albéric", "result": result}
+              for number, result in enumerate(("1/2-1/2", "1-0", "*"), 1)]  # fmt: skip
+
+    with served(www) as (address, tab):
+        for count in (1, 2, 5):
+            rounds = {f"round{number}": {"round": str(number), "boards": boards} for number in range(1, count + 1)}
+            (www / "index.html").write_bytes(list_page("Club cup", rounds))
+            for wide in (390, 1024, 1440):
+                tab.look(wide, 900)
+                tab.open(f"{address}?{count}-{wide}")
+                tab.until("document.readyState + location.search", f"complete?{count}-{wide}")
+                edges = json.loads(str(tab.value(TABLES_AT)))
+                same((count, wide, tab.value("document.documentElement.scrollWidth <= innerWidth"), tab.value(SCORES)), (count, wide, True, True))
+                if count == 1:
+                    (left, right), *_ = edges
+                    same((wide, abs(wide - right - left) < 2, right - left > min(900, wide - 30)), (wide, True, True))
+                else:
+                    same((count, wide, wide - max(right for _, right in edges) < 20), (count, wide, True))
 
 
 def team_matches(folder: pathlib.Path) -> None:
@@ -370,8 +408,7 @@ def carried_away(folder: pathlib.Path) -> None:
     until(lambda: board()["clocks"] == ["1:06:40", "1:05:00"], "the clocks", 0.05)
     same(bytes_of(published), before)
     live.type("1 1-0")
-    live.type("q")
-    same(ended(live), 0)
+    quits(live)
     same((board()["result"], state_of(www / "round")), ("1-0", state_of(carried)))
 
 
@@ -401,4 +438,4 @@ def withdrawn(folder: pathlib.Path) -> None:
     same(other.exists(), True)
 
 
-CASES = [two_rounds, team_matches, live_or_not, late_site, killed_between, full_site, carried_away, withdrawn]
+CASES = [two_rounds, list_of_rounds, team_matches, live_or_not, late_site, killed_between, full_site, carried_away, withdrawn]

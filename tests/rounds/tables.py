@@ -82,6 +82,28 @@ def wrong_lines(_: pathlib.Path) -> None:
         same([remark.partition(": type")[0] for remark in read.remarks], [] if result else [f"line 2, column result: result is '{written}'"])
 
 
+def divided_otherwise(_: pathlib.Path) -> None:
+    """The headings are divided by semicolons and the lines by commas, or the other way: that is said, for the whole table or for a
+    line. A line of one field, and a comma in a field, are nothing else."""
+    header = "board{0}device{0}white{0}black\n"
+    for of_headings, named, of_lines, otherwise in (
+        (";", "semicolons", ",", "commas"), (",", "commas", ";", "semicolons"), ("\t", "tabs", ";", "semicolons"),
+    ):  # fmt: skip
+        lines = header.format(of_headings) + "".join(f"{number}{of_lines}d{number}{of_lines}A{of_lines}B\n" for number in (1, 2))
+        why = f"its headings are divided by {named}, and line 2 by {otherwise}: divide all lines by the same sign"
+        same(refusal(lines.encode()), why)
+        one_right = (lines + of_headings.join(("3", "d3", "C", "D")) + "\n").encode()
+        read = read_pairings(one_right)
+        same([pairing.board for pairing in read.boards], [3])
+        why = f"it is divided by {otherwise}, and the headings by {named}: divide it as they are"
+        same([(wrong.line, wrong.board, wrong.why) for wrong in read.wrong], [(2, 1, why), (3, 2, why)])
+    for pairs in (b"Bo.;White;Black\n1,Kern Anna,Lund Ben\n", b"Bo.;White;Black\n1,Kern Anna,Lund Ben;;\n"):  # as spreadsheets save it too
+        same(refusal(pairs), "its headings are divided by semicolons, and line 2 by commas: divide all lines by the same sign")
+    read = read_pairings(b"Bo.;White;Black\n1;Kern, Anna;Lund, Ben\n2. January, at ten\n")
+    same(([(one.white, one.black) for one in read.boards], read.wrong), ([("Kern, Anna", "Lund, Ben")], ()))
+    same(read_pairings(b"board;device;white\n3\n").wrong[0].why, "it names no device: type /dev/ttyUSB0, or what dgt_live --devices lists")
+
+
 def tags(_: pathlib.Path) -> None:
     """Columns with the names of tags, in any order and case. A value that is malformed is named with its line and column, and the
     board is recorded without it."""

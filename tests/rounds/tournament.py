@@ -14,8 +14,8 @@ from emulated.room import stopwatch
 from play_board import INITIAL
 from played import TOP
 from played.recorder import Live
-from played.stage import Skipped, Stage, bytes_of, check, ended, refuses, same, stop, until, until_line
-from rounds.hall import ROUND, games_of
+from played.stage import Skipped, Stage, bytes_of, check, refuses, same, stop, until, until_line
+from rounds.hall import ROUND, games_of, quits
 from rounds.large import said_by
 from rounds.swapped import Seat
 
@@ -280,8 +280,7 @@ def all_carried_away(folder: pathlib.Path) -> None:
 
     live = round_1("1000")
     live.type("3 0-1")
-    live.type("q")
-    same(ended(live), 0)
+    quits(live)
     assert are_carried("1-0", "0-1"), [bytes_of(carried / name) for name in ("all.pgn", "results.csv")]
 
 

@@ -159,7 +159,7 @@ export class Cards {
 
   size() {
     const list = at('boards');
-    if (this.tiles.size > 0 && !list.hidden) this.columns = fit(list, this.tiles.size);
+    if (this.tiles.size > 0 && !list.hidden) this.columns = fit(list, [this.tiles.size]);
   }
 
   /** Shows how long states have lasted. */
@@ -188,7 +188,7 @@ export class Cards {
 
   pressOnGrid(key) {
     const links = [...this.tiles.values()].map((tile) => tile.link);
-    const next = placeAfter(key, links.indexOf(document.activeElement), links.length, this.columns);
+    const next = placeAfter(key, links.indexOf(document.activeElement), [links.length], this.columns);
     if (next === undefined) return false;
     if (links[next]) links[next].focus();
     return true;

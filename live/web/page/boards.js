@@ -85,6 +85,16 @@ export class Boards {
     return this.stream.numbers;
   }
 
+  /** How many boards stand together, in each group of them. */
+  get groups() {
+    return [this.listed.length];
+  }
+
+  /** What is in the grid: the boards' cards. */
+  get laid() {
+    return this.listed.map((number) => this.cards.get(number).root);
+  }
+
   /** Gives each board its card, in the order in which they are shown. */
   arrange() {
     const { numbers } = this.stream;
@@ -96,13 +106,18 @@ export class Boards {
         this.cards.delete(number);
       }
     }
-    listed.forEach((number, index) => {
+    for (const number of listed) {
       if (!this.cards.has(number)) this.cards.set(number, this.cardOf(number, () => this.stream.now()));
-      const { root } = this.cards.get(number);
+    }
+    const { laid } = this;
+    laid.forEach((root, index) => {
       const place = at('boards').children[index] || null;
       if (place !== root) at('boards').insertBefore(root, place);
-      if (this.stream.boards.has(number)) this.cards.get(number).show(this.stream.boards.get(number));
     });
+    while (at('boards').children.length > laid.length) at('boards').lastElementChild.remove();
+    for (const number of listed) {
+      if (this.stream.boards.has(number)) this.cards.get(number).show(this.stream.boards.get(number));
+    }
     if (at('boards').contains(focused)) focused.focus({ preventScroll: true }); // a card that is moved loses it
     say(at('event'), this.name);
     at('none').hidden = numbers.length > 0;
@@ -217,7 +232,7 @@ export class Boards {
   pressOnGrid(key) {
     if (at('boards').hidden) return false;
     const links = this.listed.map((number) => this.cards.get(number).link);
-    const next = placeAfter(key, links.indexOf(document.activeElement), links.length, this.columns);
+    const next = placeAfter(key, links.indexOf(document.activeElement), this.groups, this.columns);
     if (next === undefined) return false;
     if (links[next]) links[next].focus();
     return true;
@@ -237,6 +252,6 @@ export class Boards {
   size() {
     const list = at('boards');
     const { length } = this.listed;
-    if (length > 0 && !list.hidden) this.columns = fit(list, length, this.below);
+    if (length > 0 && !list.hidden) this.columns = fit(list, this.groups, this.below);
   }
 }

@@ -4,6 +4,7 @@ import { aheadOf, numbered, outcomeOf, pieceName, spoken, takenOf, toMove, withN
 import { clockAt } from './clock.js';
 import { Table, element, positionOf, say } from './diagram.js';
 import { showPlayer, whereFrom } from './names.js';
+import { sheetOf } from './sheet.js';
 
 const at = (name) => document.getElementById(name);
 
@@ -95,6 +96,7 @@ export class GameView {
     const result = outcomeOf(board);
     if (result) this.root.dataset.result = result; // for its score sheet
     else delete this.root.dataset.result;
+    if (at('sheet')) say(at('sheet'), sheetOf(board));
     this.showSeats(position.fen, live);
     const last = ply > 0 ? withNumber(board.positions[0], ply - 1, board.moves[ply - 1].san) : 'the start';
     this.table.show(position, `Board ${board.number}, ${live ? 'now' : 'after'}: ${last}`);

@@ -6,15 +6,18 @@ const TEXT = 8.6; // letters in the height of a card beside its diagram: a head,
 const EDGES = 3; // pixels of its border
 const TRIES = 3; // a smaller card may have more lines
 
-/** Sizes this many cards in their list, and returns the number of columns. `below` are pixels that are needed under the list. */
-export function fit(list, count, below = 0) {
+/**
+ * Sizes the cards in their list, and returns the number of columns. `groups` are the numbers of cards that stand together: each
+ * group begins a row. `below` are pixels that are needed besides the cards.
+ */
+export function fit(list, groups, below = 0) {
   let most = TEXT;
-  let columns = sized(list, count, below, most);
+  let columns = sized(list, groups, below, most);
   for (let tries = 0; tries < TRIES; tries += 1) {
     const { letters, text } = measured(list);
     if (text <= most * letters + EDGES) break;
     most = (text - EDGES) / letters;
-    columns = sized(list, count, below, most);
+    columns = sized(list, groups, below, most);
   }
   return columns;
 }
@@ -25,7 +28,19 @@ function measured(list) {
   return { letters: Number.parseFloat(list.style.getPropertyValue('--letters')), text: Math.max(0, ...texts) };
 }
 
-function sized(list, count, below, text) {
+/** The rows of the cards: the place of the first card in each, and how many there are. */
+function rowsOf(groups, columns) {
+  const rows = [];
+  let first = 0;
+  for (const count of groups) {
+    for (let begin = 0; begin < count; begin += columns) rows.push({ first: first + begin, count: Math.min(columns, count - begin) });
+    first += count;
+  }
+  return rows;
+}
+
+function sized(list, groups, below, text) {
+  const most = Math.max(...groups);
   const gap = window.innerWidth < 700 ? 8 : 12;
   const width = document.documentElement.clientWidth - 2 * gap;
   const height = window.innerHeight - list.offsetTop - gap - below;
@@ -33,8 +48,8 @@ function sized(list, count, below, text) {
   const high = (wide) => text * letters(wide) + EDGES;
   let best = 0;
   let columns = 1;
-  for (let number = 1; number <= count; number += 1) {
-    const rows = Math.ceil(count / number);
+  for (let number = 1; number <= most; number += 1) {
+    const rows = rowsOf(groups, number).length;
     const room = height / rows - gap;
     let wide = Math.min((width + gap) / number - gap, 720);
     while (wide > LEAST_TILE && wide + high(wide) > room) wide -= 1;
@@ -46,7 +61,7 @@ function sized(list, count, below, text) {
   if (best < LEAST_TILE) {
     columns = Math.max(1, Math.floor((width + gap) / (LEAST_TILE + gap)));
     best = (width + gap) / columns - gap;
-    columns = Math.ceil(count / Math.ceil(count / columns)); // as many rows, and the last one not much shorter
+    columns = Math.ceil(most / Math.ceil(most / columns)); // as many rows, and the last one not much shorter
   }
   list.style.setProperty('--tile', `${Math.floor(best)}px`);
   list.style.setProperty('--columns', String(columns));
@@ -55,11 +70,18 @@ function sized(list, count, below, text) {
   return columns;
 }
 
-/** The place to which an arrow, Home or End leads from one of `count` places; undefined for any other key. */
-export function placeAfter(key, here, count, columns) {
+/** The place to which an arrow, Home or End leads from a card, or -1 if it leads nowhere; undefined for any other key. */
+export function placeAfter(key, here, groups, columns) {
   if (key === 'Home') return 0;
-  if (key === 'End') return count - 1;
-  const by = { ArrowLeft: -1, ArrowRight: 1, ArrowUp: -columns, ArrowDown: columns }[key];
-  if (by === undefined) return undefined;
-  return here < 0 ? 0 : here + by;
+  if (key === 'End') return groups.reduce((sum, count) => sum + count, 0) - 1;
+  const aside = { ArrowLeft: -1, ArrowRight: 1 }[key];
+  const down = { ArrowUp: -1, ArrowDown: 1 }[key];
+  if (aside === undefined && down === undefined) return undefined;
+  if (here < 0) return 0;
+  if (aside) return here + aside;
+  const rows = rowsOf(groups, columns);
+  const row = rows.findIndex(({ first, count }) => here < first + count);
+  const to = rows[row + down];
+  if (!to) return -1;
+  return to.first + Math.min(here - rows[row].first, to.count - 1);
 }

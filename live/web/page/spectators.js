@@ -91,6 +91,7 @@ class Spectators extends Boards {
     super();
     this.rows = new Map(); // of the result list
     this.headings = new Map(); // of the matches in it, by their first boards
+    this.above = new Map(); // and in the grid
     at('hide').addEventListener('click', () => this.hide(!this.hides));
     at('show-all').addEventListener('click', () => this.showFinished());
     at('front').addEventListener('click', () => this.pin(this.open));
@@ -110,11 +111,46 @@ class Spectators extends Boards {
   // Boards in front, and finished games.
 
   get listed() {
+    return this.together.flatMap(({ numbers }) => numbers);
+  }
+
+  get groups() {
+    return this.together.map(({ numbers }) => numbers.length);
+  }
+
+  /** The boards that stand together, in their order: those in front, then those of each match, then the others. */
+  get together() {
     const { numbers, boards } = this.stream;
-    const pinned = numbers.filter((number) => this.pinned.includes(number));
-    const others = numbers.filter((number) => !pinned.includes(number));
     const goes = (number) => !boards.has(number) || !outcomeOf(boards.get(number));
-    return [...pinned, ...(this.hides ? others.filter(goes) : others)];
+    const others = numbers.filter((number) => !this.pinned.includes(number) && (!this.hides || goes(number)));
+    const ofMatches = this.matches.map((match) => ({ match, numbers: others.filter((number) => match.boards.includes(number)) }));
+    const parts = [
+      { numbers: numbers.filter((number) => this.pinned.includes(number)) },
+      ...ofMatches,
+      { numbers: others.filter((number) => !this.matchOf(number)) },
+    ];
+    const shown = parts.filter((part) => part.numbers.length > 0);
+    return this.matches.length > 0 || shown.length === 0 ? shown : [{ numbers: shown.flatMap((part) => part.numbers) }];
+  }
+
+  /** The cards, those of a match below its teams and its score. */
+  get laid() {
+    return this.together.flatMap(({ match, numbers }) => {
+      const roots = numbers.map((number) => this.cards.get(number).root);
+      return match ? [this.aboveBoards(match), ...roots] : roots;
+    });
+  }
+
+  aboveBoards(match) {
+    const [first] = match.boards;
+    if (!this.above.has(first)) {
+      const root = element('li', 'above');
+      root.append(element('h2'));
+      this.above.set(first, root);
+    }
+    const root = this.above.get(first);
+    showMatch(root.firstChild, match);
+    return root;
   }
 
   /** What was chosen for this round before. */
@@ -203,13 +239,16 @@ class Spectators extends Boards {
   /** Shows what is above the boards and below them, or hides it. */
   showAround(isGrid) {
     const isEmpty = this.listed.length === 0;
-    at('matches').hidden = !isGrid || this.matches.length === 0;
+    const isAbove = this.matches.length === 1 && this.together.some(({ match }) => match); // its score is above its boards
+    at('matches').hidden = !isGrid || this.matches.length === 0 || isAbove;
     at('all-over').hidden = !isGrid || !isEmpty;
     at('grid-keys').hidden = !isGrid || isEmpty;
   }
 
   get below() {
-    return at('grid-keys').offsetHeight;
+    const gap = Number.parseFloat(at('boards').style.getPropertyValue('--gap')) || 0;
+    const above = [...this.above.values()].filter((root) => root.isConnected);
+    return above.reduce((sum, root) => sum + root.offsetHeight + gap, at('grid-keys').offsetHeight);
   }
 
   // Matches of two teams.

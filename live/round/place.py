@@ -1,0 +1,38 @@
+"""Where the games of a round are kept if no folder is typed for them; what is said if the folder is typed first."""
+
+from __future__ import annotations
+
+import os
+import pathlib
+import shlex
+from typing import Iterable, Tuple
+
+from live.game.file_names import ROUND
+from live.game.files import Paths
+from live.refused import ARGUMENTS, Refused
+from live.round.tournament import TABLES
+
+
+def refuse_exchanged(file: str, folder: str) -> None:
+    """Refuses the folder in front of the table."""
+    table = pathlib.Path(folder)
+    if folder and not pathlib.Path(file).is_file() and (table.is_file() or table.suffix.lower() in TABLES):
+        raise Refused(ARGUMENTS, f"{folder} is the table: type it first, as {shlex.join(['dgt_round', folder, file])}")
+
+
+def chosen_folder(file: pathlib.Path, games: Iterable[str]) -> Tuple[pathlib.Path, str]:
+    """The folder for a table whose games have these names, and what to say of it. It is named after the table; a round that an earlier
+    version has begun beside its table stays there."""
+    named = file.with_suffix("") if file.suffix else file.with_name(f"{file.name}-games")
+    names = list(games)
+    is_beside = _has_begun(file.parent, names) and not _has_begun(named, names)
+    folder = file.parent if is_beside else named
+    where = f"{os.path.abspath(folder)}{', beside the table, as before' if is_beside else ''}"
+    return folder, f"the games are kept in {where}; for another place type a FOLDER behind the table"
+
+
+def _has_begun(folder: pathlib.Path, games: Iterable[str]) -> bool:
+    """Whether a round has begun in this folder: it has files of its own there, or a game of this name."""
+    of_round = Paths(str(folder / ROUND))
+    own = (of_round.pgn, of_round.log, of_round.options, of_round.delay, of_round.pages)
+    return any(map(os.path.lexists, (*own, *(Paths(str(folder / name)).capture for name in games))))

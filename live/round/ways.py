@@ -1,0 +1,74 @@
+"""What to type in a round: what answers say of it, also instead of a line that doesn't begin with a board's number."""
+
+from __future__ import annotations
+
+import re
+from typing import Sequence
+
+from live.game import answers
+from live.game.answers import A_RESULT, ILLEGAL, MEANT, MOVES, RESULT, UNKNOWN, Said, moves_in
+from live.game.forfeits import typed_forfeit
+from live.game.naming import IN_A_TABLE, is_naming
+from live.game.options import Options
+from live.game.program import Program
+from live.game.reply import REOPENS, Answer
+from live.game.reply import Refused as NotDone
+from live.game.typed import ABSENT, ALL_WAYS, Acknowledged, Back, Reopened, read_words, with_more
+from live.refused import DONE
+
+ADDED_A_RESULT = re.compile(f": {A_RESULT}\\S+$")
+
+
+def told_of_answer(number: int, given: Answer) -> str:
+    """The answer to what was typed for a board, with the board's number. A result may have been meant for another one."""
+    status, answer = given
+    if answer == ALL_WAYS:
+        everything = with_more(ALL_WAYS, f"or {ABSENT}")
+        return f"{number}: behind the number, {everything.replace('Type', 'type', 1)}"
+    if answer.startswith("refused"):
+        return f"{number} {answer}"
+    is_result = status == DONE and ADDED_A_RESULT.search(answer)
+    return f"{number}: {answer}" + (f". If another board was meant, type {number} {REOPENS}" if is_result else "")
+
+
+def example(numbers: Sequence[int]) -> int:
+    """A board's number for an example: that in --help, if there is such a board."""
+    return 3 if 3 in numbers or not numbers else numbers[-1]
+
+
+def all_ways(numbers: Sequence[int]) -> str:
+    """What can be typed."""
+    number = example(numbers)
+    here = f"{number} 1-0, {number} Nf3 Nc6, {number} back, {number} help"
+    return f"type {here}, {number} (the state of board {number}), r (read the table again) or q (end)"
+
+
+def ways(text: str, numbers: Sequence[int], said: Said = Said(UNKNOWN)) -> str:
+    """What to type instead of a text that doesn't begin with a board's number, given what the program says of it."""
+    if is_naming(text):
+        return IN_A_TABLE
+    number = example(numbers)
+    line = " ".join(text.split())
+    if said.kind == RESULT:
+        line = said.outcome
+    elif said.kind in (MOVES, ILLEGAL, MEANT):
+        line = moves_in(text)[0]
+    elif not is_command(text):
+        return all_ways(numbers)
+    return f"of which board? Type its number first, as {number} {line}"
+
+
+def is_command(text: str) -> bool:
+    """Whether a text without a board's number would be a command for a board, and no moves or result."""
+    try:
+        return bool(typed_forfeit(text)) or isinstance(read_words(text), (Back, Reopened, Acknowledged))
+    except NotDone:
+        return False
+
+
+def said_of(program: Program, text: str) -> Said:
+    """What the program says of a text that is typed to a game without moves."""
+    try:
+        return answers.add(program, Options(), b"", text)
+    except OSError:
+        return Said(UNKNOWN)
