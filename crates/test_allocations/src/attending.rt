@@ -38,8 +38,7 @@ static ROWS: [Row<'static>; 4] = [
     ),
 ];
 
-const FIRST_LINE: &[u8] =
-    b"0 position rnbqkbnr/pppppppp/8/8/8/8/PPPPPPPP/RNBQKBNR w KQkq - 0 1\n";
+const FIRST_LINE: &[u8] = b"0 position rnbqkbnr/pppppppp/8/8/8/8/PPPPPPPP/RNBQKBNR w KQkq - 0 1\n";
 
 fn told() -> Bytes {
     let mut all = Bytes::new();
