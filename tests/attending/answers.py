@@ -91,7 +91,8 @@ def with_line(answer: Answer, line: str) -> Answer:
 
 def next_answer(text: bytes, at: int = 0) -> Optional[Tuple[Answer, int]]:
     """The answer that begins at a place of what has come so far, and the place behind it; None while more is to come."""
-    answer, kept, report = Answer(), b"", []
+    answer, kept = Answer(), b""
+    report: List[str] = []
     while (end := text.find(b"\n", at)) >= 0:
         line, at = text[at:end].decode("latin-1"), end + 1
         word, _, rest = line.partition(" ")

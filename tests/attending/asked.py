@@ -73,7 +73,7 @@ def numbered() -> None:
 
 
 class Steps:
-    """A case of steps: each happens at its time, or at the time of the one before it. Nobody wakes the recorder but where a step says so."""
+    """A case of steps: each happens at its time, or at the time of the one before it. The recorder is woken only where a step says so."""
 
     def __init__(self, host: Host) -> None:
         self.call = begun(host)

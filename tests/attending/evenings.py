@@ -79,7 +79,8 @@ class Table:
     def __init__(self, host: Host, chance: random.Random, number: bytes) -> None:
         self.chance = chance
         self.call = Call(host)
-        self._capture, self._times, self._marks = bytearray(), bytearray(HEADING), list[Mark]()
+        self._capture, self._times = bytearray(), bytearray(HEADING)
+        self._marks: List[Mark] = []
         self._noted_at = 0
         self._owned = b""
         self.number = number  # of the board on the cable; none: it gives none
@@ -195,6 +196,13 @@ def ply(table: Table, lost: bool = False) -> None:
 
 def lost_update(table: Table) -> None:
     ply(table, lost=True)
+
+
+def hidden(table: Table) -> None:
+    """Two hands move at once: no picture shows the first of both plies."""
+    if table.ply + 2 < len(table.plies):
+        table.ply += 2
+        table.shows(table.plies[table.ply])
 
 
 def wrong_square(table: Table) -> None:
@@ -315,9 +323,9 @@ def next_call(table: Table) -> None:
     table.begins(table.chance.choice([None, 0, 700, 35000]))
 
 
-HAPPENS: Dict[Callable[[Table], None], int] = {
-    ply: 30, touched: 8, wrong_square: 5, lost_update: 4, clock: 4, fault: 6, forgotten: 3, knocked: 2, silent: 2, called_again: 2,
-    pulled: 3, another: 3, typed: 3, stopped: 2, ended: 1, next_call: 2,
+HAPPENS: Dict[Callable[[Table], None], int] = {  # and how often
+    ply: 30, touched: 8, wrong_square: 5, hidden: 4, lost_update: 4, clock: 4, fault: 6, forgotten: 3, knocked: 2,
+    silent: 2, called_again: 2, pulled: 3, another: 3, typed: 3, stopped: 2, ended: 1, next_call: 2,
 }  # fmt: skip
 
 

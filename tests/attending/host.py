@@ -45,8 +45,16 @@ class Host:
 
     def end(self) -> int:
         """The child's status, once it has nothing more to read."""
-        self._child.communicate()
-        return self._child.returncode
+        return self.left().wait()
+
+    def left(self) -> "subprocess.Popen[bytes]":
+        """The child, which has nothing more to read and ends; nobody has waited for it."""
+        assert self._child.stdin and self._child.stdout
+        with self._child.stdout, self._child.stdin:
+            self._child.stdin.close()
+            while os.read(self._said, MOST):
+                pass
+        return self._child
 
     def _line(self) -> str:
         while b"\n" not in self._come:

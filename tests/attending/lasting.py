@@ -9,9 +9,9 @@ decide yet.
 import dataclasses
 from typing import Any, Dict, List, Optional, Sequence, Tuple
 
-from attending.answers import Entry, brings
+from attending.answers import brings
 from attending.asked import begun, milliseconds
-from attending.host import Call, Host
+from attending.host import Host
 from attending.pictures import Game, Picture, dump, fewer
 from attending.pictures import begun as game_of
 from attending.stood import OTHERS, Read

@@ -2,7 +2,7 @@
 them. A square that differs is empty where the game has a piece, and shows a black queen where it has none: no move makes that."""
 
 import dataclasses
-from typing import Iterable, Sequence
+from typing import Iterable, Sequence, Tuple
 
 from decided.cases import bytes_of
 from given.case import CODES
@@ -38,7 +38,7 @@ def updates(before: Picture, after: Picture) -> bytes:
     return b"".join(bytes((0x8E, 0, 5, at, code)) for _, at, code in changed)
 
 
-def with_codes(shown: Picture, codes: Iterable["tuple[int, int]"]) -> Picture:
+def with_codes(shown: Picture, codes: Iterable[Tuple[int, int]]) -> Picture:
     changed = bytearray(shown)
     for at, code in codes:
         changed[at] = code

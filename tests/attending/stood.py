@@ -15,7 +15,7 @@ from typing import Any, List, Optional, Sequence, Tuple
 from attending.answers import Answer, Entry, State, brings
 from attending.asked import milliseconds
 from attending.host import Call, Host
-from attending.pictures import FOOLS, INITIAL, Game, begun, dump, picture, updates
+from attending.pictures import FOOLS, INITIAL, Game, begun, dump, field, picture, updates
 from decided.cases import bytes_of, cases
 from decided.table import same
 from live.board.state import DISK_FULL, OTHER_BOARD, TURNED_ROUND, Kind
@@ -24,7 +24,7 @@ from live.board.state import State as HostState
 LATE = 90  # milliseconds after which a board answers
 SILENCE = 6000  # from the last request that a silent board answers to the one at which it is silent
 LOOK = "LOOK at 1. e4"
-KINDS = {"RESULT": Kind.RESULT, **{kind.value.upper().replace(" ", "-"): kind for kind in Kind if kind not in (Kind.WAITS, Kind.RESULT)}, "WAITS": Kind.WAITS}
+KINDS = {kind.name.replace("_", "-"): kind for kind in Kind}
 HINTS = {"": "", "TURNED-ROUND": TURNED_ROUND, "OTHER-BOARD": OTHER_BOARD}
 OTHERS = ("look", "full", "written", "rest 0")  # that a recorder isn't told
 Happening = Tuple[int, str]
@@ -70,7 +70,7 @@ def read_of(call: Call) -> Read:
 
 def in_order(text: str) -> str:
     """The text with its squares from a8 to h1."""
-    return re.sub(r"[a-h][1-8](?: [a-h][1-8])+", lambda found: " ".join(sorted(found[0].split(), key=lambda name: (-int(name[1]), name[0]))), text)
+    return re.sub(r"[a-h][1-8](?: [a-h][1-8])+", lambda found: " ".join(sorted(found[0].split(), key=field)), text)
 
 
 def of_the_board(text: str) -> str:
