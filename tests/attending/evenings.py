@@ -19,6 +19,7 @@ from given.attended import HEADING
 SAMPLE = pathlib.Path(__file__).resolve().parents[2] / "samples" / "long-game"
 OWN, OTHER = b"01234", b"01235"
 EMPTY_BOARD = bytes(64)
+THINGS = 16  # that happen in an evening
 TIME = b"\x8d\x00\x0a\x01\x29\x59\x01\x30\x00\x01"
 NOTED = ("begin", "away", "opened", "gone", "answered", "called", "added", "stopped", "took")  # words that a file of times has
 
@@ -341,15 +342,16 @@ def at_home(table: Table) -> None:
     table.begins()
 
 
-def evening(seed: int, things: int = 16) -> Evening:
-    """The evening of a seed, in which so many things happen."""
+@functools.lru_cache(maxsize=None)
+def evening(seed: int) -> Evening:
+    """The evening of a seed."""
     chance = random.Random(f"evening {seed}")
     options = ["--recover"] if seed % 3 == 2 else []
     with Host(*options) as host:
         table = Table(host, chance, b"" if seed % 5 == 4 else OWN)
         chance.choice([set_up, at_home, at_home])(table)
         table.passes(chance.randrange(2500))
-        for _ in range(things):
+        for _ in range(THINGS):
             chance.choices(list(HAPPENS), list(HAPPENS.values()))[0](table)
             table.passes(chance.randrange(1500))
         return table.evening(f"evening {seed}", options)

@@ -53,8 +53,8 @@ class Read:
     def since(self) -> Optional[int]:
         return None if self.state.lasted is None else self.at - self.state.lasted
 
-    def text(self, now: int) -> str:
-        """What an arbiter reads at this time."""
+    def text(self, now: float) -> str:
+        """What an arbiter reads at this time, in milliseconds."""
         squares = self.differs if self.state.kind == "IN-HAND" else self.state.squares
         since = self.at if self.since is None else self.since
         return HostState(KINDS[self.state.kind], since / 1000, squares, self.result, HINTS[self.state.hint]).text(now / 1000)
