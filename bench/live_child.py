@@ -1,0 +1,102 @@
+#!/usr/bin/env python3
+"""Compares `live` with `watch` on a game that is played with hands (bench/streams.py), both as children behind pipes: live_child.py
+[RUNS [BYTES]].
+
+`live` is told 4,096 bytes at a time, as a line that is slow brings them, and what it answers is read up to `done` before it is told more.
+`watch` gets the same bytes in the same chunks, and what it writes is read beside it. The processor time of each child, user and system
+together, process start included: medians of five runs by turns. `live` is to take at most one and a half times what `watch` takes. The
+environment variable PROGRAM is the path of another program.
+"""
+
+import os
+import pathlib
+import subprocess
+import sys
+import threading
+import time
+from typing import Callable, Dict, List, Tuple
+
+sys.dont_write_bytecode = True
+TOP = pathlib.Path(__file__).resolve().parents[1]
+sys.path[:0] = [str(TOP), str(TOP / "tests"), str(TOP / "bench")]
+import streams  # noqa: E402
+from attending.answers import Entry, brings  # noqa: E402
+from attending.host import Host  # noqa: E402
+from given.case import program  # noqa: E402
+
+CHUNK = 4096  # bytes
+RATE = 960  # bytes a second of a board's line
+GOAL = 1.5
+Used = Tuple[float, float]  # milliseconds of the processor, and by the clock
+
+
+def chunks(stream: bytes) -> List[bytes]:
+    return [stream[at : at + CHUNK] for at in range(0, len(stream), CHUNK)]
+
+
+def ended(process: "subprocess.Popen[bytes]") -> float:
+    """The milliseconds of the processor that the child took; it has nothing more to read."""
+    _, status, used = os.wait4(process.pid, 0)
+    process.returncode = os.waitstatus_to_exitcode(status)
+    if process.returncode:
+        sys.exit(f"status {process.returncode}")
+    return 1000 * float(used.ru_utime + used.ru_stime)
+
+
+def live(parts: List[bytes]) -> float:
+    host = Host()
+    host.tell(Entry(0, "begin", 0))
+    host.tell(Entry(0, "opened"))
+    at = 0
+    for part in parts:
+        at += 1000 * len(part) // RATE
+        host.tell(brings(at, "heard", part))
+    return ended(host.left())
+
+
+def watch(parts: List[bytes]) -> float:
+    """A pipe that gives a chunk for each read: one of packets."""
+    near, far = os.pipe2(os.O_DIRECT | os.O_CLOEXEC)
+    process = subprocess.Popen([program(), "watch"], stdin=near, stdout=subprocess.PIPE)
+    os.close(near)
+    assert process.stdout
+    with process.stdout as said:
+        reader = threading.Thread(target=lambda: drained(said.fileno()))
+        reader.start()
+        for part in parts:
+            os.write(far, part)
+        os.close(far)
+        reader.join()
+    return ended(process)
+
+
+def drained(number: int) -> None:
+    while os.read(number, 1 << 20):
+        pass
+
+
+def timed(run: Callable[[List[bytes]], float], parts: List[bytes]) -> Used:
+    began = time.monotonic()
+    used = run(parts)
+    return used, 1000 * (time.monotonic() - began)
+
+
+def main(runs: int = 5, size: int = streams.SIZE) -> int:
+    parts = chunks(streams.hands(False)[:size])
+    commands: Dict[str, Callable[[List[bytes]], float]] = {"live": live, "watch": watch}
+    taken: Dict[str, List[Used]] = {name: [] for name in commands}
+    load = os.getloadavg()[0]
+    for _ in range(runs):
+        for name, command in commands.items():
+            taken[name].append(timed(command, parts))
+    medians = {name: [sorted(used[part] for used in found)[runs // 2] for part in (0, 1)] for name, found in taken.items()}
+    print(f"{len(parts)} chunks, {runs} runs by turns; load {load:.1f} at the beginning, {os.getloadavg()[0]:.1f} at the end")
+    for name, (used, clock) in medians.items():
+        print(f"{name:<8} {used:8.1f} ms of the processor {clock:10.1f} ms by the clock")
+    ratio = medians["live"][0] / medians["watch"][0]
+    print(f"live beside watch: {ratio:.2f}, at most {GOAL}: {'met' if ratio <= GOAL else 'not met'}")
+    return 0
+
+
+if __name__ == "__main__":
+    sys.exit(main(*map(int, sys.argv[1:])))
