@@ -40,6 +40,8 @@ class Line:
         elif entry.word == "opened":
             self._asking.connected(now)
             self._whose.connected(now)
+        elif entry.word == "answered":
+            self._whose.connected(now)
         elif entry.word in ("gone", "called"):
             self._asking.disconnected()
         elif entry.word in ("added", "stopped"):

@@ -1,5 +1,5 @@
-"""What a recorder takes of a file of times: the tables `files`, `unreadable` and `newer` of tests/decisions/times.json, played over it. Of a
-file, what stands behind its heading and events changes nothing. What can't be read, or is of a newer program, is as no file.
+"""What a recorder takes of a file of times: the tables `files`, `unreadable` and `newer` of tests/decisions/times.json, played over it.
+What stands behind the heading and the events of a file changes nothing. What can't be read, or is of a newer program, is as no file.
 
 How many bytes of the capture a file tells of, digests, what is written, and what is said of a file are for those who write it.
 """
