@@ -9,6 +9,7 @@ import dataclasses
 from typing import List, Optional, Tuple
 
 from attending.answers import Answer, Entry
+from attending.emulated_evenings import emulated_evening
 from attending.evenings import Evening, evening, played
 from attending.stood import Read, in_order
 from decided.table import same
@@ -18,7 +19,7 @@ from live.device.asking import Asking
 from live.device.protocol import START_REQUEST, picture_of_placement
 from live.game.report import event_of
 
-EVENINGS = 60
+EVENINGS, EMULATED = 60, 8
 AHEAD = 1e-8  # seconds
 
 
@@ -114,13 +115,17 @@ def read_otherwise(lived: Evening) -> List[str]:
     return wrong
 
 
+def evenings() -> List[Evening]:
+    return [*map(evening, range(EVENINGS)), *map(emulated_evening, range(EMULATED))]
+
+
 def asked_alike() -> None:
-    for lived in map(evening, range(EVENINGS)):
+    for lived in evenings():
         same(f"{lived.name}: {len(lived.told)} times", asked_otherwise(lived)[:3], [])
 
 
 def read_alike() -> None:
-    for lived in map(evening, range(EVENINGS)):
+    for lived in evenings():
         same(f"{lived.name}: {len(lived.told)} times", read_otherwise(lived)[:3], [])
 
 

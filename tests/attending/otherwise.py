@@ -6,6 +6,8 @@ the crates, and what the recorders say.
 - A serial server is there again, and its board hasn't answered yet. The line is open; the recorders say UNPLUGGED until the board has
   answered, or is silent.
 - Other squares are in a hand: that is no news. A host has them from the report's `differs`.
+- A piece is off, then another one, and the first is put back. When the board has come no nearer for 15 s, the state is `WRONG` since the
+  first was off; but kind and squares are the same, and so that is no news. The recorders say since when all the same.
 - With the request that asks for the number it is said what is done until then; what comes behind it is held.
 - What was held comes to the game when the time for a number is over; the recorders wait for the next bytes.
 """
@@ -63,6 +65,18 @@ def other_squares_in_hand() -> None:
     same("and another one", (again.state, again.report[-1]), (None, "76 differs f3 g1"))
 
 
+def wrong_for_longer() -> None:
+    """f7 is off at 0 s, d2 at 3 s, f7 is back at 14 s, and the time is 15 s."""
+    both, one = differing(START, ["f7", "d2"]), differing(START, ["d2"])
+    shown = [(0, differing(START, ["f7"])), (3000, both), (14000, one)]
+    board = [brings(at, "added", dump(after)) for at, after in shown]
+    told = [Entry(0, "begin", 0), brings(0, "added", dump(START)), *board[:2], Entry(10000, "wake"), Entry(13000, "wake"), board[2]]
+    same("one is back", last(told).state, State("WRONG", 11000, ("d2",)))
+    late = [*told, Entry(15000, "wake")]
+    same("15 s after the first was off", last(late).state, None)
+    same("and what is read", read_there(late), ("WRONG since 12 s: d2", "WRONG since 15 s: d2"))
+
+
 def number_asked_for() -> None:
     """The board gives its number and its pieces once, and then nothing: at 2 s updates are asked for again."""
     told = [*NUMBERED, brings(50, "heard", number_message(b"01234") + dump(START)), Entry(1000, "wake"), Entry(2000, "wake")]
@@ -78,4 +92,4 @@ def held_until_then() -> None:
     same("5 s after the line was opened", (over.handling, over.kept), ("keep", dump(START)))
 
 
-TABLES = [same_picture_first, server_without_board, other_squares_in_hand, number_asked_for, held_until_then]
+TABLES = [same_picture_first, server_without_board, other_squares_in_hand, wrong_for_longer, number_asked_for, held_until_then]
