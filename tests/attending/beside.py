@@ -10,8 +10,9 @@ from typing import List, Optional, Tuple
 
 from attending.answers import Answer, Entry
 from attending.emulated_evenings import emulated_evening
-from attending.evenings import Evening, evening, played
-from attending.stood import Read, in_order
+from attending.evenings import Evening, played
+from attending.happenings import evening
+from attending.reading import Read, in_order
 from decided.table import same
 from live.board.state import BoardState
 from live.board.whose import Whose

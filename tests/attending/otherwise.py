@@ -19,7 +19,7 @@ from attending.beside import Stands
 from attending.evenings import number_message, played
 from attending.host import answers
 from attending.pictures import INITIAL, differing, dump, picture, updates
-from attending.stood import Read
+from attending.reading import Read
 from decided.table import same
 from live.board.state import BoardState
 

@@ -13,7 +13,8 @@ from typing import Iterator, List, Sequence, Tuple
 
 from attending.answers import Answer, Entry, brings
 from attending.emulated_evenings import emulated_evening
-from attending.evenings import OTHER, OWN, Evening, Mark, evening, number_message, sample
+from attending.evenings import OTHER, OWN, Evening, Mark, number_message
+from attending.happenings import evening, sample
 from attending.host import answers
 from attending.pictures import Picture, dump
 from decided.table import same
