@@ -9,8 +9,10 @@ import dataclasses
 from typing import List, Optional, Tuple
 
 from attending.answers import Answer, Entry
-from attending.evenings import Evening, evening, played
-from attending.stood import Read, in_order
+from attending.emulated_evenings import emulated_evening
+from attending.evenings import Evening, played
+from attending.happenings import evening
+from attending.reading import Read, in_order
 from decided.table import same
 from live.board.state import BoardState
 from live.board.whose import Whose
@@ -18,7 +20,7 @@ from live.device.asking import Asking
 from live.device.protocol import START_REQUEST, picture_of_placement
 from live.game.report import event_of
 
-EVENINGS = 60
+EVENINGS, EMULATED = 60, 8
 AHEAD = 1e-8  # seconds
 
 
@@ -39,6 +41,8 @@ class Line:
             self._asking, self._whose = Asking(has_number=bool(self._whose.own)), Whose(self._whose.own)
         elif entry.word == "opened":
             self._asking.connected(now)
+            self._whose.connected(now)
+        elif entry.word == "answered":
             self._whose.connected(now)
         elif entry.word in ("gone", "called"):
             self._asking.disconnected()
@@ -112,13 +116,17 @@ def read_otherwise(lived: Evening) -> List[str]:
     return wrong
 
 
+def evenings() -> List[Evening]:
+    return [*map(evening, range(EVENINGS)), *map(emulated_evening, range(EMULATED))]
+
+
 def asked_alike() -> None:
-    for lived in map(evening, range(EVENINGS)):
+    for lived in evenings():
         same(f"{lived.name}: {len(lived.told)} times", asked_otherwise(lived)[:3], [])
 
 
 def read_alike() -> None:
-    for lived in map(evening, range(EVENINGS)):
+    for lived in evenings():
         same(f"{lived.name}: {len(lived.told)} times", read_otherwise(lived)[:3], [])
 
 

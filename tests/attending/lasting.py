@@ -14,7 +14,8 @@ from attending.asked import begun, milliseconds
 from attending.host import Host
 from attending.pictures import Game, Picture, dump, fewer
 from attending.pictures import begun as game_of
-from attending.stood import OTHERS, Read
+from attending.reading import Read
+from attending.stood import OTHERS
 from decided.cases import cases
 from decided.table import same
 

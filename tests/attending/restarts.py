@@ -12,12 +12,14 @@ import random
 from typing import Iterator, List, Sequence, Tuple
 
 from attending.answers import Answer, Entry, brings
-from attending.evenings import OTHER, OWN, Evening, Mark, evening, number_message, sample
+from attending.emulated_evenings import emulated_evening
+from attending.evenings import OTHER, OWN, Evening, Mark, number_message
+from attending.happenings import evening, sample
 from attending.host import answers
 from attending.pictures import Picture, dump
 from decided.table import same
 
-EVENINGS = 30
+EVENINGS, EMULATED = 30, 4
 EACH = 4  # of the wakes and reads of an evening so many are passed over, but for one
 AWAY = 35000  # milliseconds from the last thing that the killed one was told to the next call
 
@@ -114,7 +116,7 @@ def differences(lived: Evening) -> Tuple[int, List[str]]:
 
 def alike() -> None:
     """Behind each entry of the evenings."""
-    for lived in [sample(), *map(evening, range(EVENINGS))]:
+    for lived in [sample(), *map(evening, range(EVENINGS)), *map(emulated_evening, range(EMULATED))]:
         count, wrong = differences(lived)
         same(f"{lived.name}: killed {count} times", wrong[:3], [])
 

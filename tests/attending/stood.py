@@ -1,76 +1,28 @@
 """How a board stands, over the recorder itself: the tables `texts`, `hints` and `turned round` of tests/decisions/state.json.
 
 The tables tell a state what the program reports; here a board shows the pictures of which it reports that, and answers each request
-but where it is to be silent. The recorder says a state when it is news. What is read of it at a time is worked out as a host does: since
-when, by its own clock; and of a board in a hand the squares that the last `differs` has, since other squares in a hand are no news.
+but where it is to be silent. The recorder says a state when it is news.
 
 `LOOK` and `DISK FULL` are left out of what is read: the hosts decide them. `lasting` has sentences. "No start is known" can't be played:
 the recorder knows its start. Of the hints that a table has without what the program reports, the hint alone is compared.
 """
 
-import dataclasses
-import re
 from typing import Any, List, Optional, Sequence, Tuple
 
-from attending.answers import Answer, Entry, State, brings
+from attending.answers import Entry, brings
 from attending.asked import milliseconds
 from attending.host import Call, Host
-from attending.pictures import FOOLS, INITIAL, Game, begun, dump, field, picture, updates
+from attending.pictures import FOOLS, INITIAL, Game, begun, dump, picture, updates
+from attending.reading import HINTS, in_order, read_of
 from decided.cases import bytes_of, cases
 from decided.table import same
-from live.board.state import DISK_FULL, OTHER_BOARD, TURNED_ROUND, Kind
-from live.board.state import State as HostState
+from live.board.state import DISK_FULL
 
 LATE = 90  # milliseconds after which a board answers
 SILENCE = 6000  # from the last request that a silent board answers to the one at which it is silent
 LOOK = "LOOK at 1. e4"
-KINDS = {kind.name.replace("_", "-"): kind for kind in Kind}
-HINTS = {"": "", "TURNED-ROUND": TURNED_ROUND, "OTHER-BOARD": OTHER_BOARD}
 OTHERS = ("look", "full", "written", "rest 0")  # that a recorder isn't told
 Happening = Tuple[int, str]
-
-
-@dataclasses.dataclass(frozen=True)
-class Read:
-    """What a host knows of a board: the state that was said last, and when; the squares that differed last, and the result."""
-
-    state: State = State("WAITS")
-    at: int = 0
-    differs: Tuple[str, ...] = ()
-    result: str = ""
-
-    def after(self, at: int, answer: Answer) -> "Read":
-        """With one more answer."""
-        differs, result = self.differs, self.result
-        for line in answer.report:
-            _, word, *rest = line.split(" ")
-            differs = tuple(rest) if word == "differs" else differs
-            result = rest[0] if word == "result" else result
-        state, since = (answer.state, at) if answer.state else (self.state, self.at)
-        return Read(state, since, differs, result)
-
-    @property
-    def since(self) -> Optional[int]:
-        return None if self.state.lasted is None else self.at - self.state.lasted
-
-    def text(self, now: float) -> str:
-        """What an arbiter reads at this time, in milliseconds."""
-        squares = self.differs if self.state.kind == "IN-HAND" else self.state.squares
-        since = self.at if self.since is None else self.since
-        return HostState(KINDS[self.state.kind], since / 1000, squares, self.result, HINTS[self.state.hint]).text(now / 1000)
-
-
-def read_of(call: Call) -> Read:
-    """What a host knows after a call so far."""
-    read = Read()
-    for entry, answer in call.told:
-        read = read.after(entry.at, answer)
-    return read
-
-
-def in_order(text: str) -> str:
-    """The text with its squares from a8 to h1."""
-    return re.sub(r"[a-h][1-8](?: [a-h][1-8])+", lambda found: " ".join(sorted(found[0].split(), key=field)), text)
 
 
 def of_the_board(text: str) -> str:
