@@ -15,6 +15,7 @@ their tags, moves and results. Prints what it saw; the status is 1 where somethi
 from __future__ import annotations
 
 import argparse
+import csv
 import http.client
 import json
 import os
@@ -449,7 +450,7 @@ def faults_of(trial: Trial) -> List[str]:
             faults.append(f"board {number}.{board} has the moves {' '.join(sans)}, and played were {' '.join(game.sans)} {game.result}")
     for number in ROUNDS:
         lines = bytes_of(trial.cup / f"round{number}" / "results.csv").decode("utf-8-sig").splitlines()
-        results = [line.rpartition(";")[2] for line in lines[1:]]
+        results = [row["Result"] for row in csv.DictReader(lines, delimiter=";")]
         if results != [trial.played[number, board].result for board in range(1, BOARDS + 1)]:
             faults.append(f"round {number}: results.csv has {results}")
     return faults
