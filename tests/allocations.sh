@@ -17,7 +17,7 @@ if ! command -v rt > /dev/null; then
 fi
 cd crates/test_allocations
 calls=22
-runs=1900
+runs=1840
 spared=43
 folder=$(mktemp -d)
 trap 'rm -rf "$folder"' EXIT
