@@ -43,14 +43,6 @@ fn add_tag(text: &mut Bytes, name: &str, value: &str) {
 }
 
 impl<'a> GameText<'a> {
-    /// The same without a move.
-    pub fn without_move(&self) -> GameText<'a> {
-        GameText {
-            movetext: "*",
-            ..*self
-        }
-    }
-
     /// The whole text.
     pub fn bytes(&self) -> Bytes {
         let mut text = Bytes::new();
@@ -81,15 +73,6 @@ pub fn text_of<'a>(outcome: &'a str, fen: &'a str, movetext: &'a str) -> Bytes {
         ..NO_MOVE
     };
     game.bytes()
-}
-
-/// These parts, and behind them the text of the game, if there is one.
-pub fn with_game(parts: &[&[u8]], game: &Option<GameText<'_>>) -> Bytes {
-    let mut bytes = Bytes::of(parts);
-    if let Some(game) = game {
-        bytes.add(game.bytes().get());
-    }
-    bytes
 }
 
 /// The text with a carriage return before each line feed.

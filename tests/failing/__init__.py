@@ -1,0 +1,1 @@
+"""Allocations that fail, one in each run of a program."""
