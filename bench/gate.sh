@@ -1,6 +1,6 @@
 #!/usr/bin/env bash
 # Runs tests/run in a clean clone of the last commit, and prints where the processor time went: for each crate its proof,
-# the proof of its tests, its wrong bodies and its must-fail edits, with the five slowest; last the sums, and the machine. It watches from
+# the proof of its tests, its wrong bodies and definitions; last the sums, and the machine. It watches from
 # outside, and changes nothing of what is run. Each single check stands in build/gate/checks.tsv, what tests/run printed in
 # build/gate/log. The status is that of tests/run.
 set -euo pipefail

@@ -4,10 +4,11 @@ import pathlib
 from typing import Callable, Dict, List, Sequence, Tuple
 
 from decided.table import same
-from planted import checking, verdict, wrong_body
+from planted import checking, verdict, wrong_body, wrong_definition
 from planted.rounds import next_round
 from planted.trying import tried
 from planted.wrong_body import Change, WrongBody
+from planted.wrong_definition import WrongDefinition
 
 SOURCE = """use std::io;
 
@@ -192,10 +193,36 @@ def plans() -> None:
         same(name, (asked, seen), (checks, expected))
 
 
+NAMED = [
+    ("# refused by: `laws::is_said_once`\nfile: f\nold: a\nnew: b\n", "c::laws::is_said_once"),
+    ("# refused by: `listed` of `Tag::index`\nfile: f\nold: a\nnew: b\n", "c::Tag::index"),
+    ("# says: a is b\nfile: f\nold: a\nnew: b\n", None),
+]
+# The sources, what the check says, whether it counts as refused.
+TURNED = [
+    ("a", "fn c::f: not proved\nonly=1 proved=0\n", True),
+    ("a", "fn c::f: no proof: it calls `c::g`, which is not proved\nonly=1 proved=0\n", True),
+    ("a", "fn c::f: proved\nonly=1 proved=1\n", False),
+    ("a", "fn c::g: not proved\nonly=1 proved=0\n", False),
+    ("a", "error: no such type\n", False),
+    ("a a", "fn c::f: not proved\nonly=1 proved=0\n", False),
+]
+
+
+def definitions() -> None:
+    for text, function in NAMED:
+        read = wrong_definition.read("c", "name", text)
+        same(text, read and read.function, function)
+    wrong = WrongDefinition("name", (Change("f", "a", "b"),), "c::f")
+    for source, text, refused in TURNED:
+        done = wrong_definition.tried(wrong, {"f": source}, lambda *_: verdict.read("c", text), pathlib.Path())
+        same(f"{source}: {text}", done.refused, refused)
+
+
 def libraries() -> None:
     uses = checking.crates_of("# libraries\nlow:\nmiddle: low itoa\nhigh: middle low  # the top\n")
     same("what each uses", uses, {"low": [], "middle": ["low", "itoa"], "high": ["middle", "low"]})
     same("what is below", checking.below(uses, "high"), ["low", "middle"])
 
 
-TABLES: Sequence[Callable[[], None]] = [places, edits, together, verdicts, plans, libraries]
+TABLES: Sequence[Callable[[], None]] = [places, edits, together, verdicts, plans, definitions, libraries]
