@@ -1,3 +1,4 @@
 pub mod Due
 pub mod Moments
 pub mod Squares
+pub mod Walking

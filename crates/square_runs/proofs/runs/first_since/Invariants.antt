@@ -1,8 +1,11 @@
-use Rattle.std.proofs.Common.{◌≡◌, ◌==◌, None, slice_index_or}
-use Rattle.std.specs.Prelude.{if◌then◌else◌}
-use Rattle.std.specs.Int.{bit_at}
-use Rattle.square_runs.specs.Squares.{first_below}
+use Rattle.std.proofs.Common.{◌≡◌}
+use Rattle.square_runs.specs.Keeping.{time_of}
+use Rattle.square_runs.specs.Lasting.{earlier}
+use Rattle.square_runs.specs.Squares.{first_of}
 use Rattle.square_runs.proofs.runs.first_since.Given as goal
 
-abbrev pub invariant-loop-s : goal.invariant-loop-s
-invariant-loop-s l = l.first ≡ first_below l.s (λ s. if bit_at l.squares s == 1 then slice_index_or l.since s None else None)
+abbrev pub invariant-left : goal.invariant-left
+invariant-left l = earlier l.first (first_of (time_of l.left l.since)) ≡ first_of (time_of l.squares l.since)
+
+abbrev pub decreases-left : goal.decreases-left
+decreases-left l = l.left

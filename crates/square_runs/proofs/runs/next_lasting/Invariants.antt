@@ -1,7 +1,12 @@
-use Rattle.std.proofs.Common.{◌≡◌, None, slice_index_or}
-use Rattle.square_runs.specs.Lasting.{will_have_lasted}
-use Rattle.square_runs.specs.Squares.{first_below}
+use Rattle.std.proofs.Common.{◌≡◌, Some, slice_index}
+use Rattle.square_runs.specs.Lasting.{earlier, will_have_lasted}
+use Rattle.square_runs.specs.Squares.{first_of}
+use Rattle.square_runs.proofs.Walking.{among}
 use Rattle.square_runs.proofs.runs.next_lasting.Given as goal
 
-abbrev pub invariant-loop-s : goal.invariant-loop-s
-invariant-loop-s l = l.next ≡ first_below l.s (λ s. will_have_lasted l.span l.now (slice_index_or l.since s None))
+abbrev pub invariant-left : goal.invariant-left
+invariant-left l = earlier l.next (first_of (among l.left (λ s. will_have_lasted l.span l.now (Some (slice_index l.since s)))))
+    ≡ first_of (among l.last (λ s. will_have_lasted l.span l.now (Some (slice_index l.since s))))
+
+abbrev pub decreases-left : goal.decreases-left
+decreases-left l = l.left
