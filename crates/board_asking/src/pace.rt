@@ -125,6 +125,10 @@ impl Pace {
     pub fn take(&mut self, event: Event)
         ensures { (past : List EventOf) → HasPace self.old past → HasPace self.new (event ∷ past) }
     {
+        if let Happening::Updates = event.what {
+            self.updated = Some(event.at);
+            return;
+        }
         self.dumped = dumped(
             event.what,
             event.at,

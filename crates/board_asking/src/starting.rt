@@ -76,6 +76,10 @@ impl Starting {
     pub fn take(&mut self, event: Event)
         ensures { (past : List EventOf) → HasStarting self.old past → HasStarting self.new (event ∷ past) }
     {
+        if let Happening::Updates = event.what {
+            self.has_updated = true;
+            return;
+        }
         self.is_start = starts(event.what, &self.dump, self.has_updated, self.is_start);
         self.has_updated = updates(event.what, self.has_updated);
         self.dump = last_dump(event.what, self.dump);

@@ -108,7 +108,7 @@ fn opened_after(what: Heard, before: bool) -> bool
 fn is_turned(picture: Picture) -> bool
     ensures { result ≡ is_turned_of picture }
 {
-    picture.turned.count_ones() <= ONE_MOVE && HALF_OF_PIECES <= picture.differs.count_ones()
+    HALF_OF_PIECES <= picture.differs.count_ones() && picture.turned.count_ones() <= ONE_MOVE
 }
 
 fn turned_after(what: Heard, before: bool) -> bool
@@ -134,7 +134,7 @@ fn other_after(what: Heard, is_opened: bool, was_shown: bool, before: bool) -> b
     match what {
         Heard::Shows(picture) => {
             let is_swapped = is_other_first(picture, is_opened, was_shown);
-            picture.differs.count_ones() != 0 && (is_swapped || before)
+            (is_swapped || before) && picture.differs.count_ones() != 0
         }
         Heard::Moves | Heard::Ends | Heard::Reopens => false,
         _ => before,
@@ -193,6 +193,11 @@ impl Standing {
     pub fn take(&mut self, event: Event)
         ensures { (past : List EventOf) → StandsFor self.old past → StandsFor self.new (event ∷ past) }
     {
+        if let Heard::Repeats = event.what {
+            self.is_opened = false;
+            self.waits = false;
+            return;
+        }
         self.is_other = other_after(
             event.what,
             self.is_opened,
