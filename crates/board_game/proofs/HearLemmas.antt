@@ -1,5 +1,5 @@
 -- What is told of an event and of what is put in.
-use Rattle.std.proofs.Common.{◌≡◌, ℕ, Bool, inl, List, [], ◌∷◌, ◌++◌, map, Option, Some, None, refl, sym, ap, subst, ◌∙◌, append_assoc}
+use Rattle.std.proofs.Common.{◌≡◌, ℕ, Bool, inl, List, [], ◌∷◌, ◌++◌, map, Option, Some, None, refl, sym, ap, subst, ◌∙◌, append_assoc, append-nil}
 use Rattle.dgt_frame.specs.declared.events.Event.{Event}
 use Rattle.dgt_frame.specs.Streams.{Timed}
 use Rattle.unseen_pairs.specs.declared.pair.Recovery.{Recovery}
@@ -44,10 +44,10 @@ TellsWith following setting recovers past items text time x lines lines' = (foun
 none_by : ShowsOnce → (following : Following) (setting : Setting) (recovers : Bool) (past : List Event) (items : List Item) (text more : List ℕ) (time : ℕ) (x : Timed)
     (frames line lines lines' : List ℕ) (found : Option Recovery) → Finds setting recovers past x.event found
     → HasKept following.keeper setting recovers (x.event ∷ past) (added setting past x.event found (events_of items)) → AddsPair setting (x.event ∷ past) x.offset found frames line
-    → frames ≡ [] → lines' ≡ lines ++ more → HasTold following.teller setting (Sent time x ∷ items) (text ++ more)
+    → frames ≡ [] → lines' ≡ (lines ++ more) ++ line → HasTold following.teller setting (Sent time x ∷ items) (text ++ more)
     → TellsWith following setting recovers past items text time x lines lines'
 none_by once following setting recovers past items text more time x frames line lines lines' None finds keeps adds none lines_are told =
-    (None, more, finds, lines_are, record { keeps = keeps; told = told })
+    (None, more, finds, lines_are ∙ ap (λ (t : List ℕ). (lines ++ more) ++ t) adds.1 ∙ append-nil (lines ++ more), record { keeps = keeps; told = told })
 none_by once following setting recovers past items text more time x frames line lines lines' (Some r) finds keeps adds none lines_are told =
     let entry = entry_at setting.first setting.rotated (x.event ∷ past) in
     let events = put_in setting.first setting.rotated entry r in
@@ -57,7 +57,7 @@ none_by once following setting recovers past items text more time x frames line 
 -- Nothing is put in.
 pub tells_none : ShowsOnce → (following : Following) (setting : Setting) (recovers : Bool) (past : List Event) (items : List Item) (text more : List ℕ) (time offset : ℕ) (event : Event)
     (frames line lines lines' : List ℕ) → KeepsEvent following.keeper setting recovers past (events_of items) offset event frames line
-    → frames ≡ [] → lines' ≡ lines ++ more → HasTold following.teller setting (Sent time (record { offset = offset; event = event }) ∷ items) (text ++ more)
+    → frames ≡ [] → lines' ≡ (lines ++ more) ++ line → HasTold following.teller setting (Sent time (record { offset = offset; event = event }) ∷ items) (text ++ more)
     → TellsWith following setting recovers past items text time (record { offset = offset; event = event }) lines lines'
 tells_none once following setting recovers past items text more time offset event frames line lines lines' k none lines_are told =
     none_by once following setting recovers past items text more time (record { offset = offset; event = event }) frames line lines lines' k.found k.finds k.keeps k.adds none lines_are told

@@ -1,5 +1,5 @@
 -- What is told of an event by itself.
-use Rattle.std.proofs.Common.{◌≡◌, ◌++◌, ℕ, List, [], ◌∷◌, Option, refl, ap, ◌∙◌}
+use Rattle.std.proofs.Common.{◌≡◌, ◌++◌, ℕ, List, [], ◌∷◌, Option, refl, sym, ap, ◌∙◌, append_assoc}
 use Rattle.dgt_frame.specs.Streams.{Timed}
 use Rattle.board_events.specs.Settings.{Setting}
 use Rattle.board_listing.specs.GivenGame.{GameLine, text_of}
@@ -14,15 +14,15 @@ use Rattle.board_game.specs.Inside.Shown.{HasSeen}
 use Rattle.board_game.specs.Inside.Telling.{HasTold}
 
 -- The parts of the teller have taken the event: so it is told.
-pub told_event : (old new : Teller) (setting : Setting) (items : List Item) (text : List ℕ) (time : ℕ) (x : Timed) (lines lines' space : List ℕ) (h : HasTold old setting items text)
-    → HasWatched new.watcher setting (x.event ∷ events_of items) × ((more : List GameLine) × (space ≡ [] ++ text_of more) × WatchesEvent setting (events_of items) x more)
+pub told_event : (old new : Teller) (setting : Setting) (items : List Item) (text : List ℕ) (time : ℕ) (x : Timed) (all lines before after : List ℕ) (h : HasTold old setting items text)
+    → HasWatched new.watcher setting (x.event ∷ events_of items) × ((more : List GameLine) × (after ≡ before ++ text_of more) × WatchesEvent setting (events_of items) x more)
     → HasSeen new.pictures setting (x.event ∷ events_of items)
     → (picture ended : Option Heard) × HearsEvent setting (events_of items) x.event picture ended × StandingStands new.standing (with_heard time ended (with_heard time picture h.heard))
-    → lines' ≡ lines ++ space
-    → (more : List ℕ) × (lines' ≡ lines ++ more) × HasTold new setting (Sent time x ∷ items) (text ++ more)
-told_event old new setting items text time x lines lines' space h watched seen hears is = (
+    → lines ++ before ≡ all
+    → (more : List ℕ) × (lines ++ after ≡ all ++ more) × HasTold new setting (Sent time x ∷ items) (text ++ more)
+told_event old new setting items text time x all lines before after h watched seen hears is = (
   text_of watched.1.0,
-  is ∙ ap (λ (t : List ℕ). lines ++ t) watched.1.1,
+  ap (λ (t : List ℕ). lines ++ t) watched.1.1 ∙ sym (append_assoc lines before (text_of watched.1.0)) ∙ ap (λ (t : List ℕ). t ++ text_of watched.1.0) is,
   record {
     watched = watched.0;
     seen = seen;

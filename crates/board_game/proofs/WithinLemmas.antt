@@ -18,9 +18,9 @@ use Rattle.board_game.specs.History.{Bytes, Came, Finds, Item, bytes_of, with_fo
 use Rattle.board_game.specs.Inside.Telling.{HasFollowed, IsWithin}
 
 -- no byte of it yet
-pub within_start : (game : Game) (setting : Setting) (recovers : Bool) (past : List Came) (text : List ℕ) (time : ℕ) (lines : List ℕ) → StandsFor game setting recovers past text
-    → IsWithin game.decoder game.following setting recovers past text text time [] lines lines
-within_start game setting recovers past text time lines s =
+pub within_start : (game : Game) (setting : Setting) (recovers : Bool) (past : List Came) (text : List ℕ) (time : ℕ) (lines gathered : List ℕ) → gathered ≡ [] → StandsFor game setting recovers past text
+    → IsWithin game.decoder game.following setting recovers past text text time [] lines (lines ++ gathered)
+within_start game setting recovers past text time lines gathered none s =
     let D : List ℕ → List Timed → Type 0 = λ bytes events. Decoded game.decoder bytes events in
     record {
       events = s.events;
@@ -34,7 +34,7 @@ within_start game setting recovers past text time lines s =
       adds = refl;
       follows = s.follows;
       text_is = sym (append-nil text);
-      lines_are = sym (append-nil lines);
+      lines_are = ap (λ (t : List ℕ). lines ++ t) none;
     }
 
 -- the bytes up to the next event

@@ -10,7 +10,7 @@ ghost use Rattle.board_game.specs.History.{Finds, Item, Noted, with_found};
 ghost use Rattle.board_game.specs.Inside.Telling.{HasFollowed, HasKept, KeepsEvent};
 ghost use Rattle.board_game.specs.Report.{first_line};
 
-use crate::telling::{Teller, append};
+use crate::telling::{Teller, flush};
 use board_captures::Method;
 use board_standing::Heard;
 use dgt_frame::Event;
@@ -19,28 +19,32 @@ use recovery::{Frames, Keeper, hear};
 use std::alloc::{AllocError, Global};
 use watched_streams::Lines;
 
-/// Gives the keeper an event, if there is one, and replaces what `frames` and `line` hold by what is put in there, and its
-/// line.
+/// Gives the keeper an event, if there is one. Replaces what `frames` holds by what is put in there, and adds its line
+/// behind those that are gathered.
 fn keep(
     alloc: Global,
     keeper: &mut Option<Keeper>,
     offset: u32,
     event: &Event,
     frames: &mut Frames,
-    line: &mut Lines,
+    gathered: &mut Lines,
+    lines: &mut Vec<u8>,
 ) -> Result<(), AllocError>
     requires range { IsInRange event.now }
     requires begun { (setting : Setting) × (recovers : Bool) × (past written : List EventOf) × HasKept keeper.old setting recovers past written }
     ensures { (setting : Setting) (recovers : Bool) (past written : List EventOf) → HasKept keeper.old setting recovers past written
-        → OnOk result (KeepsEvent keeper.new setting recovers past written offset event.now frames.new.items line.new.items) }
+        → OnOk result ((line : List ℕ) × (lines.new.items ++ gathered.new.items ≡ (lines.old.items ++ gathered.old.items) ++ line)
+        × KeepsEvent keeper.new setting recovers past written offset event.now frames.new.items line) }
 {
     match keeper {
         None => {
             frames.clear();
-            line.clear();
             Ok(())
         }
-        Some(keeper) => hear(alloc, keeper, offset, event, frames, line),
+        Some(keeper) => {
+            flush(gathered, lines)?;
+            hear(alloc, keeper, offset, event, frames, gathered)
+        }
     }
 }
 
@@ -76,14 +80,14 @@ impl Following {
         }
     }
 
-    /// Takes the next event, which came at this time, and appends what is told of it.
+    /// Takes the next event, which came at this time, and adds what is told of it behind what is gathered.
     pub fn take(
         &mut self,
         at: u64,
         offset: u32,
         event: &Event,
         frames: &mut Frames,
-        space: &mut Lines,
+        gathered: &mut Lines,
         lines: &mut Vec<u8>,
     ) -> Result<(), AllocError>
         requires frame { HasFrame event.now }
@@ -91,20 +95,28 @@ impl Following {
             × HasFollowed self.old setting recovers past items text }
         ensures { (setting : Setting) (recovers : Bool) (past : List EventOf) (items : List Item) (text : List ℕ)
             → HasFollowed self.old setting recovers past items text → OnOk result ((found : Option Recovery) × (more : List ℕ)
-            × Finds setting recovers past event.now found × (lines.new.items ≡ lines.old.items ++ more)
+            × Finds setting recovers past event.now found
+            × (lines.new.items ++ gathered.new.items ≡ (lines.old.items ++ gathered.old.items) ++ more)
             × HasFollowed self.new setting recovers (event.now ∷ past)
             (with_found setting past at (record { offset = offset; event = event.now }) found items) (text ++ more)) }
     {
         // For its clause: no bytes show no event.
         shows_once();
-        self.teller.take(at, offset, event, space, lines)?;
-        keep(self.alloc, &mut self.keeper, offset, event, frames, space)?;
+        self.teller.take(at, offset, event, gathered, lines)?;
+        keep(
+            self.alloc,
+            &mut self.keeper,
+            offset,
+            event,
+            frames,
+            gathered,
+            lines,
+        )?;
         let put = frames.as_slice();
         if is_nothing(put) {
             return Ok(());
         }
-        append(space.as_slice(), lines)?;
-        self.teller.put_in(at, offset, put, space, lines)?;
+        self.teller.put_in(at, offset, put, gathered, lines)?;
         Ok(())
     }
 

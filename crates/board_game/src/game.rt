@@ -37,6 +37,9 @@ pub struct Game {
     /// How many bytes were taken.
     count: u32,
     following: Following,
+    /// Room for what is put in, and for lines that are not appended yet. What they hold counts within a call.
+    frames: Frames,
+    gathered: Lines,
 }
 
 impl Game {
@@ -51,6 +54,8 @@ impl Game {
             decoder,
             count: 0,
             following,
+            frames: Frames::new(),
+            gathered: Lines::new(),
         }
     }
 
@@ -102,18 +107,24 @@ impl Game {
             → OnOk result ((more : List ℕ) × (lines.new.items ≡ lines.old.items ++ more)
             × StandsFor self.new setting recovers (Bytes at bytes.now ∷ past) (text ++ more)) }
     {
-        let mut frames = Frames::new();
-        let mut space = Lines::new();
+        self.gathered.clear();
         let mut event = BLANK;
         let mut taken = 0;
         'events: while let Some(more) = self.decoder.push_into(&bytes[taken..], &mut event) {
             taken += more;
             let offset = self.count + (taken - 1) as u32;
-            self.following
-                .take(at, offset, &event, &mut frames, &mut space, lines)?;
+            self.following.take(
+                at,
+                offset,
+                &event,
+                &mut self.frames,
+                &mut self.gathered,
+                lines,
+            )?;
         }
         // For its clause: the bytes show these events.
         self.decoder.pending();
+        append(self.gathered.as_slice(), lines)?;
         self.count += bytes.len() as u32;
         Ok(())
     }

@@ -1,6 +1,7 @@
 //! The pictures of a board, compared with others.
-ghost use Rattle.std.specs.Prelude.{◌≡◌, ◌↔◌, ◌∷◌, [], List, IsTrue};
+ghost use Rattle.std.specs.Prelude.{◌≡◌, ◌<◌, ◌∷◌, [], ℕ, List, false, length, slice_set, true};
 ghost use Rattle.dgt_frame.specs.declared.events.Event.{Event as EventOf};
+ghost use Rattle.settle_core.specs.Masks.{IsDiff};
 ghost use Rattle.board_events.specs.Entries.{is_entry as is_entry_of};
 ghost use Rattle.board_events.specs.History.{IsInRange, is_trusted};
 ghost use Rattle.board_events.specs.Settings.{Setting};
@@ -34,6 +35,8 @@ pub struct Pictures {
     has_shown: bool,
     /// The start, seen from the other side.
     turned: [u8; 64],
+    /// Where the last picture differs from it.
+    mask: u64,
 }
 
 /// Whether an event shows a picture, if updates count or don't.
@@ -47,10 +50,33 @@ fn is_entry(trusted: bool, event: &Event) -> bool
     }
 }
 
-fn is_picture(one: &[u8; 64], other: &[u8; 64]) -> bool
-    ensures { IsTrue result ↔ (one.now ≡ other.now) }
+/// Where two pictures differ that differed on this mask, now that the second one shows this code on one square.
+fn changed(mask: u64, picture: &[u8; 64], square: u8, code: u8) -> u64
+    requires { square < 64 }
+    ensures { (seen : List ℕ) → length seen ≡ 64 → IsDiff mask picture.now seen → IsDiff result picture.now (slice_set seen square code) }
 {
-    *one == *other
+    if picture[square as usize] == code {
+        mask & !(1 << square)
+    } else {
+        mask | (1 << square)
+    }
+}
+
+/// For its clause: a picture has 64 codes.
+fn count_codes(picture: &[u8; 64])
+    ensures { length picture.now ≡ 64 }
+{}
+
+/// Where a picture differs from the one before it, if there was one.
+fn changed_from(was_shown: bool, before: &[u8; 64], picture: &[u8; 64]) -> u64
+    ensures first { was_shown ≡ false → result ≡ 0 }
+    ensures later { was_shown ≡ true → IsDiff result before.now picture.now }
+{
+    if was_shown {
+        diff_mask(before, picture)
+    } else {
+        0
+    }
 }
 
 impl Pictures {
@@ -64,6 +90,7 @@ impl Pictures {
             view: View::new(rotated),
             has_shown: false,
             turned,
+            mask: 0,
         }
     }
 
@@ -75,22 +102,40 @@ impl Pictures {
         ensures shown { (setting : Setting) (past : List EventOf) → trusted ≡ is_trusted past → HasSeen self.old setting past
             → IsShown setting past event.now result }
     {
-        let had_shown = self.has_shown;
+        let was_shown = self.has_shown;
         let before = *self.view.picture();
-        let _change: Change = self.view.see(event);
-        if !is_entry(trusted, event) {
-            return Shown::Nothing;
-        }
-        self.has_shown = true;
+        // For its clause: a picture has 64 codes.
+        count_codes(&before);
+        let change = self.view.see(event);
         let picture = self.view.picture();
-        let turned = diff_mask(&self.turned, picture);
-        if !had_shown {
-            return Shown::Another { changed: 0, turned };
+        match change {
+            Change::Nothing => {
+                if is_entry(trusted, event) {
+                    Shown::Again
+                } else {
+                    Shown::Nothing
+                }
+            }
+            Change::Square { square, code } => {
+                let changed_here = changed(0, &before, square, code);
+                let turned = changed(self.mask, &self.turned, square, code);
+                self.has_shown = true;
+                self.mask = turned;
+                Shown::Another {
+                    changed: changed_here,
+                    turned,
+                }
+            }
+            Change::Picture => {
+                let changed_here = changed_from(was_shown, &before, picture);
+                let turned = diff_mask(&self.turned, picture);
+                self.has_shown = true;
+                self.mask = turned;
+                Shown::Another {
+                    changed: changed_here,
+                    turned,
+                }
+            }
         }
-        if is_picture(picture, &before) {
-            return Shown::Again;
-        }
-        let changed = diff_mask(&before, picture);
-        Shown::Another { changed, turned }
     }
 }

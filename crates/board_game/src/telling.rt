@@ -1,5 +1,6 @@
 //! Events to lines, and to what is heard of them.
-ghost use Rattle.std.specs.Prelude.{◌≡◌, ◌↔◌, ◌∷◌, [], ◌++◌, ℕ, IsTrue, List, Option, OnOk};
+ghost use Rattle.std.specs.Prelude.{◌≡◌, ◌≤◌, ◌+◌, ◌↔◌, ◌∷◌, [], ◌++◌, ℕ, IsTrue, List, Option, OnOk};
+ghost use Rattle.arrayvec.specs.ArrayVec.{array_vec_len};
 ghost use Rattle.dgt_frame.specs.declared.events.Event.{Event as EventOf};
 ghost use Rattle.dgt_frame.specs.Streams.{HasFrame};
 ghost use Rattle.settle_core.specs.Folding.{Score};
@@ -27,13 +28,37 @@ use dgt_frame::laws::shows_once;
 use dgt_frame::{BLANK, Decoder, Event, First};
 use settle_core::{Outcome, Settler};
 use std::alloc::{AllocError, Global};
-use watched_streams::Lines;
+use watched_streams::{GATHERED, Lines};
+
+/// Room for the lines of one event: they have no more bytes than this.
+const FREE: usize = 1024;
 
 /// Adds bytes to others.
 pub fn append(bytes: &[u8], out: &mut Vec<u8>) -> Result<(), AllocError>
     ensures { OnOk result (out.new.items ≡ out.old.items ++ bytes.now) }
 {
     out.extend_from_slice(bytes)
+}
+
+/// Appends the lines that were gathered.
+pub fn flush(gathered: &mut Lines, lines: &mut Vec<u8>) -> Result<(), AllocError>
+    ensures same { OnOk result (lines.new.items ≡ lines.old.items ++ gathered.old.items) }
+    ensures empty { OnOk result (gathered.new.items ≡ []) }
+{
+    append(gathered.as_slice(), lines)?;
+    gathered.clear();
+    Ok(())
+}
+
+/// Appends the lines that were gathered, if they leave too little room for those of one more event.
+fn make_room(gathered: &mut Lines, lines: &mut Vec<u8>) -> Result<(), AllocError>
+    ensures same { OnOk result (lines.new.items ++ gathered.new.items ≡ lines.old.items ++ gathered.old.items) }
+    ensures room { OnOk result (array_vec_len gathered.new + FREE ≤ GATHERED) }
+{
+    if GATHERED - FREE < gathered.len() {
+        return flush(gathered, lines);
+    }
+    Ok(())
 }
 
 /// What is heard of the picture of an event, before and after which the game had come so far.
@@ -127,26 +152,25 @@ impl Teller {
         }
     }
 
-    /// Tells the next event: appends its lines, and hears it at this time.
+    /// Tells the next event: adds its lines behind those that are gathered, and hears it at this time.
     pub fn take(
         &mut self,
         at: u64,
         offset: u32,
         event: &Event,
-        space: &mut Lines,
+        gathered: &mut Lines,
         lines: &mut Vec<u8>,
     ) -> Result<(), AllocError>
         requires frame { HasFrame event.now }
         requires begun { (setting : Setting) × (items : List Item) × (text : List ℕ) × HasTold self.old setting items text }
         ensures { (setting : Setting) (items : List Item) (text : List ℕ) → HasTold self.old setting items text
-            → OnOk result ((more : List ℕ) × (lines.new.items ≡ lines.old.items ++ more)
+            → OnOk result ((more : List ℕ) × (lines.new.items ++ gathered.new.items ≡ (lines.old.items ++ gathered.old.items) ++ more)
             × HasTold self.new setting (Sent at (record { offset = offset; event = event.now }) ∷ items) (text ++ more)) }
     {
         let old = stage_of(&self.watcher);
         let trusted = self.watcher.session().trusted();
-        space.clear();
-        self.watcher.add(space, offset, event)?;
-        append(space.as_slice(), lines)?;
+        make_room(gathered, lines)?;
+        self.watcher.add(gathered, offset, event)?;
         let shown = self.pictures.see(trusted, event);
         hear(&mut self.standing, &self.watcher, at, &old, shown);
         Ok(())
@@ -158,12 +182,13 @@ impl Teller {
         at: u64,
         offset: u32,
         frames: &[u8],
-        space: &mut Lines,
+        gathered: &mut Lines,
         lines: &mut Vec<u8>,
     ) -> Result<(), AllocError>
         requires begun { (setting : Setting) × (items : List Item) × (text : List ℕ) × HasTold self.old setting items text }
         ensures { (setting : Setting) (items : List Item) (text : List ℕ) (events : List EventOf) → HasTold self.old setting items text
-            → ShowsWhole frames.now events → OnOk result ((more : List ℕ) × (lines.new.items ≡ lines.old.items ++ more)
+            → ShowsWhole frames.now events → OnOk result ((more : List ℕ)
+            × (lines.new.items ++ gathered.new.items ≡ (lines.old.items ++ gathered.old.items) ++ more)
             × HasTold self.new setting (with_events at offset events items) (text ++ more)) }
     {
         // For its clause: bytes show one list of events.
@@ -173,7 +198,7 @@ impl Teller {
         let mut taken = 0;
         'events: while let Some(more) = decoder.push_into(&frames[taken..], &mut event) {
             taken += more;
-            self.take(at, offset, &event, space, lines)?;
+            self.take(at, offset, &event, gathered, lines)?;
         }
         // For its clause: the frames show these events.
         decoder.pending();

@@ -1,5 +1,5 @@
 -- What the machine's parts stand for. A reader needs none of it: the contracts hold for whatever this says.
-use Rattle.std.specs.Prelude.{◌≡◌, List}
+use Rattle.std.specs.Prelude.{◌≡◌, List, count_ones}
 use Rattle.square_runs.specs.Keeping.{StandsFor as RunsStandFor}
 use Rattle.square_runs.specs.Shown.{Shown, since_when}
 use Rattle.board_standing.specs.declared.heard.Event.{Event}
@@ -13,6 +13,7 @@ use Rattle.board_standing.specs.Pictures.{differs, fewest, is_no_nearer, is_set_
 pub record Keeps (kept : Seen) (past : List Shown) : Type 0 where
   pub last : kept.last ≡ last_time past
   pub squares : kept.squares ≡ last_squares past
+  pub count : kept.count ≡ count_ones (last_squares past)
   pub runs : RunsStandFor kept.runs (since_set_up past)
   pub differs_since : kept.differs_since ≡ since_when differs past
   pub no_nearer_since : kept.no_nearer_since ≡ since_when is_no_nearer past

@@ -25,6 +25,8 @@ pub struct Seen {
     /// When the last one was shown, and where it differs.
     last: Option<u64>,
     squares: u64,
+    /// How many these are.
+    count: u32,
     /// Since when each square has differed, of the pictures since a set-up left few.
     runs: Runs,
     differs_since: Option<u64>,
@@ -52,6 +54,7 @@ impl Seen {
         Seen {
             last: None,
             squares: 0,
+            count: 0,
             runs: Runs::new(),
             differs_since: None,
             no_nearer_since: None,
@@ -67,7 +70,7 @@ impl Seen {
         let count = squares.count_ones();
         let agrees = count == 0;
         let is_many = MOST_IN_HAND < count;
-        let is_left = MOST_IN_HAND < self.squares.count_ones() && !is_many;
+        let is_left = MOST_IN_HAND < self.count && !is_many;
         let is_no_nearer = !agrees && self.fewest <= count;
         carry_on(&mut self.runs, is_left, at, squares);
         self.differs_since = carried(!agrees, at, self.differs_since);
@@ -76,6 +79,7 @@ impl Seen {
         self.is_set_up = !agrees && (is_many || self.is_set_up);
         self.last = Some(at);
         self.squares = squares;
+        self.count = count;
     }
 
     /// Whether there was a picture.
@@ -138,7 +142,7 @@ impl Seen {
         if self.last.is_none() {
             return Kind::Waits;
         }
-        let count = self.squares.count_ones();
+        let count = self.count;
         if count == 0 {
             return Kind::Agrees;
         }

@@ -3,6 +3,7 @@ ghost use Rattle.std.specs.Prelude.{◌≡◌, ◌∷◌, [], ℕ, List, None, i
 ghost use Rattle.square_runs.specs.Shown.{Shown};
 ghost use Rattle.square_runs.specs.Squares.{Marks};
 ghost use Rattle.board_standing.specs.declared.heard.Event.{Event as EventOf};
+ghost use Rattle.board_standing.specs.declared.heard.Heard.TheVariants.{Shows};
 ghost use Rattle.board_standing.specs.Hints.{has_pictures, hint_of, is_opened as is_opened_of, is_swapped, is_turned as is_turned_of, opened_by, other_by, turned_by};
 ghost use Rattle.board_standing.specs.Keeping.{Keeps, StandsFor};
 ghost use Rattle.board_standing.specs.Line.{ended_by, pictures, played_by, silent_by, unplugged_by, waits_by, with_picture};
@@ -128,14 +129,20 @@ fn is_other_first(picture: Picture, is_opened: bool, was_shown: bool) -> bool
     is_opened && was_shown && ONE_MOVE < picture.changed.count_ones()
 }
 
+/// Whether this picture may be that of another board, if that was so before or not.
+fn is_other(picture: Picture, is_opened: bool, was_shown: bool, before: bool) -> bool
+    ensures { (past : List EventOf) → is_opened ≡ is_opened_of past → was_shown ≡ has_pictures (pictures past)
+        → result ≡ other_by (Shows picture) past before }
+{
+    let is_swapped = is_other_first(picture, is_opened, was_shown);
+    (is_swapped || before) && picture.differs.count_ones() != 0
+}
+
 fn other_after(what: Heard, is_opened: bool, was_shown: bool, before: bool) -> bool
     ensures { (past : List EventOf) → is_opened ≡ is_opened_of past → was_shown ≡ has_pictures (pictures past) → result ≡ other_by what past before }
 {
     match what {
-        Heard::Shows(picture) => {
-            let is_swapped = is_other_first(picture, is_opened, was_shown);
-            (is_swapped || before) && picture.differs.count_ones() != 0
-        }
+        Heard::Shows(picture) => is_other(picture, is_opened, was_shown, before),
         Heard::Moves | Heard::Ends | Heard::Reopens => false,
         _ => before,
     }
@@ -196,6 +203,15 @@ impl Standing {
         if let Heard::Repeats = event.what {
             self.is_opened = false;
             self.waits = false;
+            return;
+        }
+        if let Heard::Shows(picture) = event.what {
+            let was_shown = self.seen.has_pictures();
+            self.is_other = is_other(picture, self.is_opened, was_shown, self.is_other);
+            self.is_opened = false;
+            self.lies_turned = is_turned(picture);
+            self.waits = false;
+            self.seen.show(event.at, picture.differs);
             return;
         }
         self.is_other = other_after(

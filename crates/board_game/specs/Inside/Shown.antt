@@ -1,8 +1,9 @@
 -- What is known of the pictures of a list of events, which has the latest first.
-use Rattle.std.specs.Prelude.{◌≡◌, true, false, List, ◌∷◌, reverse, is_some}
+use Rattle.std.specs.Prelude.{◌≡◌, ℕ, true, false, List, ◌∷◌, reverse, Some, is_some}
 use Rattle.chess_rules.specs.Picture.{picture}
 use Rattle.dgt_frame.specs.declared.events.Event.{Event}
 use Rattle.settle_core.specs.Entries.{last_picture, repeats}
+use Rattle.settle_core.specs.Masks.{IsDiff}
 use Rattle.board_events.specs.Entries.{is_entry}
 use Rattle.board_events.specs.History.{picture_of}
 use Rattle.board_events.specs.Session.{entries_in}
@@ -18,6 +19,7 @@ pub record HasSeen (pictures : Pictures) (setting : Setting) (past : List Event)
   pub view : Views pictures.view setting.rotated past
   pub shown : pictures.has_shown ≡ is_some (last_picture (entries_in setting past))
   pub turned : pictures.turned ≡ reverse (picture setting.start)
+  pub mask : (seen : List ℕ) → last_picture (entries_in setting past) ≡ Some seen → IsDiff pictures.mask pictures.turned seen
 
 -- What an event after these shows.
 abbrev pub IsShown : Setting → List Event → Event → Shown → Type 0

@@ -13,8 +13,9 @@ returns-then-is_nothing c = λ setting recovers past items text h.
     let first = c.in_ok-take.ensures setting items text h.told in
     let kept = c.in_ok-keep.ensures setting recovers past (events_of items) h.keeps in
     let none : c.keep.new.frames.items ≡ [] = sym c.as_slice-put.ensures.value ∙ c.is_nothing.ensures.0 c.if-is_nothing.true in
-    tells_none c.shows_once.ensures _ setting recovers past items text first.0 c.args.at c.args.offset c.args.event.now c.keep.new.frames.items c.keep.new.line.items
-    c.args.lines.now.items c.take.new.lines.items kept none first.1 first.2
+    tells_none c.shows_once.ensures _ setting recovers past items text first.0 c.args.at c.args.offset c.args.event.now c.keep.new.frames.items kept.0
+    (c.args.lines.now.items ++ c.args.gathered.now.items) (c.keep.new.lines.items ++ c.keep.new.gathered.items) kept.2 none
+    (kept.1 ∙ ap (λ (t : List ℕ). t ++ kept.0) first.1) first.2
 
 pub put_in-requires : goal.put_in-requires
 put_in-requires c =
@@ -27,8 +28,9 @@ returns c = λ setting recovers past items text h.
     let first = c.in_ok-take.ensures setting items text h.told in
     let kept = c.in_ok-keep.ensures setting recovers past (events_of items) h.keeps in
     let some : c.keep.new.frames.items ≡ [] → ⊥ = λ e. clash _ (c.is_nothing.ensures.1 (c.as_slice-put.ensures.value ∙ e)) c.if-is_nothing.false in
-    let puts : PutsIn c.take.new.self c.put_in.new.self c.args.at c.args.offset c.keep.new.frames.items c.append.new.out.items c.put_in.new.lines.items =
+    let puts : PutsIn c.take.new.self c.put_in.new.self c.args.at c.args.offset c.keep.new.frames.items (c.keep.new.lines.items ++ c.keep.new.gathered.items)
+    (c.put_in.new.lines.items ++ c.put_in.new.gathered.items) =
     λ s is t es told whole. c.in_ok-put_in.ensures s is t es told (subst (λ (bs : List ℕ). ShowsWhole bs es) (sym c.as_slice-put.ensures.value) whole) in
-    tells_put _ c.take.new.self setting recovers past items text first.0 c.args.at c.args.offset c.args.event.now c.keep.new.frames.items c.keep.new.line.items
-    c.args.lines.now.items c.take.new.lines.items c.append.new.out.items c.put_in.new.lines.items kept some first.1 first.2
-    (c.in_ok-append.ensures ∙ ap (λ (t : List ℕ). c.take.new.lines.items ++ t) c.as_slice.ensures.value) puts
+    tells_put _ c.take.new.self setting recovers past items text first.0 c.args.at c.args.offset c.args.event.now c.keep.new.frames.items kept.0
+    (c.args.lines.now.items ++ c.args.gathered.now.items) (c.take.new.lines.items ++ c.take.new.gathered.items) (c.keep.new.lines.items ++ c.keep.new.gathered.items)
+    (c.put_in.new.lines.items ++ c.put_in.new.gathered.items) kept.2 some first.1 first.2 kept.1 puts

@@ -1,36 +1,65 @@
-use Rattle.std.proofs.Common.{◌≡◌, ◌∷◌, Bool, true, false, sym, ◌∙◌, rules}
+use Rattle.std.proofs.Common.{◌≡◌, ◌∷◌, ◌<◌, ◌^◌, ℕ, Bool, true, List, length, refl, sym, subst, ap, ◌∙◌, rules}
 use Prim.{search}
-use Rattle.board_game.proofs.SeeLemmas.{again_shown, another_shown, first_shown}
+use Rattle.settle_core.specs.Masks.{IsDiff}
+use Rattle.board_events.specs.declared.view.Change.{Change}
+use Rattle.board_events.specs.declared.view.Change.TheVariants.{Nothing, Square, Picture}
+use Rattle.board_events.specs.Pictures.{ChangesPictures, pictures}
+use Rattle.board_captures.proofs.ReadLemmas.{is_last}
+use Rattle.recovery.proofs.KeepLemmas.{repeats_here}
+use Rattle.board_game.specs.Hearing.{Changes}
+use Rattle.board_game.proofs.SeeLemmas.{again_seen, another_seen, another_shown, another_there, changes_from, changes_since, no_difference, one_changed}
 use Rattle.board_game.proofs.pictures.Pictures.see.Goals as goal
 
-clash : (b : Bool) → b ≡ true → b ≡ false → ⊥
-clash true e f = cc
-clash false e f = cc
+pub returns-then-is_entry-clause-seen : goal.returns-then-is_entry-clause-seen
+returns-then-is_entry-clause-seen c = λ setting past trust seen.
+    again_seen c.args.self.now _ setting past c.args.event.now (c.in-Nothing.ensures.shown setting.rotated past seen.view) (c.see-change.ensures.views setting.rotated past seen.view) refl refl refl seen
 
-pub returns-then-not-had_shown-clause-shown : goal.returns-then-not-had_shown-clause-shown
-returns-then-not-had_shown-clause-shown c = λ setting past trust seen.
-    let event = c.args.event.now in
-    let self = c.args.self.now in
-    let entry = sym (c.is_entry.ensures past trust) ∙ c.if-not-is_entry.false in
-    let views = c.see-change.ensures.views setting.rotated past seen.view in
-    first_shown setting past event c.picture-picture.result.now self.turned c.diff_mask-turned.result self.has_shown entry seen.shown c.if-not-had_shown.true
-    (c.picture-picture.ensures.last setting.rotated (event ∷ past) views) seen.turned (search rules) c.diff_mask-turned.ensures
+pub returns-then-is_entry-clause-shown : goal.returns-then-is_entry-clause-shown
+returns-then-is_entry-clause-shown c = λ setting past trust seen.
+    let entry = sym (c.is_entry.ensures past trust) ∙ c.if-is_entry.true in
+    (entry, repeats_here setting.first setting.rotated past c.args.event.now (c.in-Nothing.ensures.shown setting.rotated past seen.view) entry)
 
-pub returns-then-is_picture-clause-shown : goal.returns-then-is_picture-clause-shown
-returns-then-is_picture-clause-shown c = λ setting past trust seen.
+pub returns-in-Square-clause-seen : goal.returns-in-Square-clause-seen
+returns-in-Square-clause-seen c = λ setting past trust seen.
     let event = c.args.event.now in
-    let self = c.args.self.now in
-    let entry = sym (c.is_entry.ensures past trust) ∙ c.if-not-is_entry.false in
     let views = c.see-change.ensures.views setting.rotated past seen.view in
-    again_shown setting past event c.picture-picture.result.now c.picture.result.now self.has_shown entry seen.shown c.if-not-had_shown.false
-    (c.picture.ensures.last setting.rotated past seen.view) (c.picture-picture.ensures.last setting.rotated (event ∷ past) views) (c.is_picture.ensures.0 c.if-is_picture.true)
+    let one = one_changed setting past event c.picture.result.now c.picture-picture.result.now c.in-Square.square c.in-Square.code (c.in-Square.ensures.shown setting.rotated past seen.view)
+    (c.picture.ensures.last setting.rotated past seen.view) (c.picture-picture.ensures.last setting.rotated (event ∷ past) views) in
+    let differ = c.changed-turned.ensures c.picture.result.now c.count_codes.ensures (seen.mask c.picture.result.now one.last) in
+    another_seen _ setting past event c.picture-picture.result.now one.more views refl seen.turned
+    (subst (λ p. IsDiff c.changed-turned.result c.args.self.now.turned p) (sym one.is) differ)
 
-pub returns-clause-shown : goal.returns-clause-shown
-returns-clause-shown c = λ setting past trust seen.
+pub returns-in-Square-clause-shown : goal.returns-in-Square-clause-shown
+returns-in-Square-clause-shown c = λ setting past trust seen.
     let event = c.args.event.now in
-    let self = c.args.self.now in
-    let entry = sym (c.is_entry.ensures past trust) ∙ c.if-not-is_entry.false in
+    let before = c.picture.result.now in
+    let p = c.picture-picture.result.now in
     let views = c.see-change.ensures.views setting.rotated past seen.view in
-    another_shown setting past event c.picture-picture.result.now c.picture.result.now self.turned c.diff_mask-changed.result c.diff_mask-turned.result self.has_shown entry seen.shown
-    c.if-not-had_shown.false (c.picture.ensures.last setting.rotated past seen.view) (c.picture-picture.ensures.last setting.rotated (event ∷ past) views)
-    (λ e. clash _ (c.is_picture.ensures.1 e) c.if-is_picture.false) seen.turned (search rules) c.diff_mask-changed.ensures (search rules) c.diff_mask-turned.ensures
+    let one = one_changed setting past event before p c.in-Square.square c.in-Square.code (c.in-Square.ensures.shown setting.rotated past seen.view)
+    (c.picture.ensures.last setting.rotated past seen.view) (c.picture-picture.ensures.last setting.rotated (event ∷ past) views) in
+    let here = c.changed-changed_here.ensures before c.count_codes.ensures (no_difference before) in
+    let differ = c.changed-turned.ensures before c.count_codes.ensures (seen.mask before one.last) in
+    another_shown setting past event p c.args.self.now.turned c.changed-changed_here.result c.changed-turned.result one.more
+    (changes_since before p c.changed-changed_here.result _ one.last (search rules) (subst (λ q. IsDiff c.changed-changed_here.result before q) (sym one.is) here))
+    seen.turned (search rules) (subst (λ q. IsDiff c.changed-turned.result c.args.self.now.turned q) (sym one.is) differ)
+
+pub returns-in-Picture-clause-seen : goal.returns-in-Picture-clause-seen
+returns-in-Picture-clause-seen c = λ setting past trust seen.
+    let event = c.args.event.now in
+    let p = c.picture-picture.result.now in
+    let views = c.see-change.ensures.views setting.rotated past seen.view in
+    let more = another_there setting past event p (c.in-Picture.ensures.shown setting.rotated past seen.view) (c.picture-picture.ensures.last setting.rotated (event ∷ past) views) in
+    another_seen _ setting past event p more views refl seen.turned c.diff_mask-turned.ensures
+
+pub returns-in-Picture-clause-shown : goal.returns-in-Picture-clause-shown
+returns-in-Picture-clause-shown c = λ setting past trust seen.
+    let event = c.args.event.now in
+    let before = c.picture.result.now in
+    let p = c.picture-picture.result.now in
+    let was = c.picture.ensures.last setting.rotated past seen.view in
+    let views = c.see-change.ensures.views setting.rotated past seen.view in
+    let more = another_there setting past event p (c.in-Picture.ensures.shown setting.rotated past seen.view) (c.picture-picture.ensures.last setting.rotated (event ∷ past) views) in
+    another_shown setting past event p c.args.self.now.turned c.changed_from-changed_here.result c.diff_mask-turned.result more
+    (changes_from c.args.self.now.has_shown _ before p c.changed_from-changed_here.result seen.shown (λ some. is_last setting.first setting.rotated past before (sym seen.shown ∙ some) was)
+    c.changed_from-changed_here.ensures.first c.changed_from-changed_here.ensures.later (search rules))
+    seen.turned (search rules) c.diff_mask-turned.ensures

@@ -17,7 +17,7 @@ events-init c = record {
     c.new-decoder.ensures,
     λ setting items text h.
         let T : List ℕ → Type 0 = λ t. HasTold c.args.self.now setting items t in
-        ([], sym (append-nil c.args.lines.now.items), subst T (sym (append-nil text)) h),
+        ([], sym (append-nil (c.args.lines.now.items ++ c.args.gathered.now.items)), subst T (sym (append-nil text)) h),
   );
 }
 
@@ -58,7 +58,7 @@ events-preserved c =
             ap (λ (es : List Event). with_events time offset es items) (map-append (λ (t : Timed). t.event) fed.0 (x ∷ []))
             ∙ with_more time offset (map (λ (t : Timed). t.event) fed.0) event items in (
               old.0 ++ m.0,
-              m.1 ∙ ap (λ (t : List ℕ). t ++ m.0) old.1 ∙ append_assoc c.args.lines.now.items old.0 m.0,
+              m.1 ∙ ap (λ (t : List ℕ). t ++ m.0) old.1 ∙ append_assoc (c.args.lines.now.items ++ c.args.gathered.now.items) old.0 m.0,
               subst (T (with_events time offset (map (λ (t : Timed). t.event) later) items)) (append_assoc text old.0 m.0)
                   (subst (λ is. T is ((text ++ old.0) ++ m.0)) (sym order) m.2),
             ),
