@@ -1,0 +1,6 @@
+use Rattle.std.proofs.Common.{w64}
+use Rattle.board_doubts.proofs.Masks.{lacking}
+use Rattle.board_doubts.proofs.stood.without.Goals as goal
+
+pub returns : goal.returns
+returns c test marks s low = lacking c.args.mask c.args.others s c.ranges.others.fits low (test s) (marks s low)

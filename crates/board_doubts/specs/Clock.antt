@@ -1,0 +1,82 @@
+-- Moves that are made while the clock is stopped. Events are listed with the latest first.
+use Rattle.std.specs.Prelude.{ℕ, ◌+◌, ◌*◌, ◌/◌, ◌%◌, min, ◌==◌, ◌&&◌, ◌||◌, not, Bool, true, false, List, [], ◌∷◌, Option, Some, None, is_some, slice_index, if◌then◌else◌}
+use Rattle.square_runs.specs.Lasting.{carry, has_lasted}
+use Rattle.board_doubts.specs.declared.heard.Event.{Event}
+use Rattle.board_doubts.specs.declared.heard.Heard.{Heard}
+use Rattle.board_doubts.specs.declared.heard.Heard.TheVariants.{Moves, Away, Clock, Looked}
+use Rattle.board_doubts.specs.declared.stopped_clock.Tried.{Tried}
+
+-- An acknowledgement of a command to the clock has ten in the low four bits of the first or the fourth byte.
+abbrev pub acknowledges : List ℕ → Bool
+acknowledges bytes = (slice_index bytes 0 % 16 == 10) || (slice_index bytes 3 % 16 == 10)
+
+-- Bit 5 of the seventh byte says that no clock is connected.
+abbrev pub has_no_clock : List ℕ → Bool
+has_no_clock bytes = slice_index bytes 6 / 32 % 2 == 1
+
+-- whether the clock runs, by the seven bytes of a time message: bit 0 of the last one, unless they say nothing of it
+abbrev pub running : List ℕ → Option Bool
+running bytes = if acknowledges bytes || has_no_clock bytes then None else Some (slice_index bytes 6 % 2 == 1)
+
+-- The clock has run in this game.
+abbrev pub run_by : Heard → Bool → Bool
+run_by (Clock runs) before = runs || before
+run_by other before = before
+
+abbrev pub has_run : List Event → Bool
+has_run [] = false
+has_run (event ∷ past) = run_by event.what (has_run past)
+
+-- since when the clock stands: since the first message that says so, after the last one that said that it runs, and after the
+-- last time in which the board wasn't heard
+abbrev pub stands_by : Heard → ℕ → Option ℕ → Option ℕ
+stands_by (Clock runs) at since = if runs then None else carry true at since
+stands_by (Away gap) at since = None
+stands_by other at since = since
+
+abbrev pub stands_since : List Event → Option ℕ
+stands_since [] = None
+stands_since (event ∷ past) = stands_by event.what event.at (stands_since past)
+
+-- The clock has run, and stands now.
+abbrev pub is_stopped : List Event → Bool
+is_stopped past = has_run past && is_some (stands_since past)
+
+-- No more moves are counted than this.
+abbrev pub most : ℕ
+most = 9999
+
+-- the moves that were made one after the other while the clock was stopped: since it last ran, and since somebody looked.
+-- What an arbiter added was played, and isn't counted
+abbrev pub tried_by : Heard → Bool → Bool → ℕ → ℕ
+tried_by (Moves repeats) added stopped before = if added then before else if stopped then min most (before + 1) else 0
+tried_by (Clock runs) added stopped before = if runs then 0 else before
+tried_by Looked added stopped before = 0
+tried_by other added stopped before = before
+
+abbrev pub tried : List Event → ℕ
+tried [] = 0
+tried (event ∷ past) = tried_by event.what event.is_added (is_stopped past) (tried past)
+
+-- so many plies ago was the last one before them
+abbrev pub ago_by : Heard → Bool → Bool → ℕ → ℕ
+ago_by (Moves repeats) added none before = if none && not added then 1 else min most (before + 1)
+ago_by other added none before = before
+
+abbrev pub ago : List Event → ℕ
+ago [] = 0
+ago (event ∷ past) = ago_by event.what event.is_added (tried past == 0) (ago past)
+
+-- A move that was made before the clock was stopped may be seen within this after it, in milliseconds.
+abbrev pub seen_late : ℕ
+seen_late = 3000
+
+-- what somebody must look at if this move was made while the clock was stopped
+abbrev pub tries_by : Heard → Event → List Event → Option Tried
+tries_by (Moves repeats) event past =
+    if not event.is_added && (is_stopped past && has_lasted seen_late event.at (stands_since past))
+    then Some (record { moves = tried (event ∷ past); plies = ago (event ∷ past) }) else None
+tries_by other event past = None
+
+abbrev pub tries_of : Event → List Event → Option Tried
+tries_of event past = tries_by event.what event past

@@ -1,0 +1,2 @@
+-- What holds of each history. Events are listed with the latest first.
+use Rattle.std.specs.Prelude.{◌≡◌}

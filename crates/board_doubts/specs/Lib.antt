@@ -1,0 +1,8 @@
+pub mod Clock
+pub mod Doubts
+pub mod Keeping
+pub mod Laws
+pub mod Pace
+pub mod Pictures
+pub mod Recent
+pub mod Waiting

@@ -1,0 +1,1 @@
+//! What holds of each history. Each law is the contract of a function, which does nothing.

@@ -1,0 +1,21 @@
+//! Which news of a game is doubtful, and which moves were made while the clock was stopped, from what was heard and when.
+//!
+//! Begin with `heard.rt`: what is heard, and what is said of it. `doubts.rt` takes the one and says the other; `recent.rt`,
+//! `waited.rt` and `pace.rt` are its parts: what was heard since the last news, how long the last move has stood, how long
+//! the last plies took. `stopped_clock.rt` counts the moves that are made while the clock is stopped. `laws.rt` says what
+//! holds of each history.
+#![tactic(auto)]
+
+mod doubts;
+mod heard;
+pub mod laws;
+mod pace;
+mod recent;
+mod since;
+mod stood;
+mod stopped_clock;
+mod waited;
+
+pub use doubts::Doubts;
+pub use heard::{Doubt, Event, Gap, Heard, Place, Seen, Why};
+pub use stopped_clock::{StoppedClock, Tried, runs};
