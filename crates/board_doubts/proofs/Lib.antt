@@ -1,2 +1,4 @@
 pub mod Masks
 pub mod Paces
+pub mod Below
+pub mod Passing

@@ -1,5 +1,6 @@
 pub mod Clock
 pub mod Doubts
+pub mod Elsewhere
 pub mod Keeping
 pub mod Laws
 pub mod Pace

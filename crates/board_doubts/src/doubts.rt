@@ -7,6 +7,7 @@ ghost use Rattle.board_doubts.specs.Waiting.{moved_by, times_by};
 ghost use Rattle.board_doubts.specs.Keeping.{KeepsPace, KeepsRecent, StandsFor};
 
 use crate::heard::{Doubt, Event, Heard, Place, Seen, Why};
+use crate::logic::either;
 use crate::pace::Pace;
 use crate::recent::{Recent, is_news};
 use crate::waited::Waited;
@@ -101,12 +102,6 @@ fn time_for(one: bool, lasted: u64) -> u64
     ensures { result ≡ (if one then lasted else lasted / 2) }
 {
     if one { lasted } else { lasted / 2 }
-}
-
-fn either(one: bool, other: bool) -> bool
-    ensures { result ≡ (one || other) }
-{
-    one || other
 }
 
 /// Whether plies that fit may be hidden, if a position was repeated, and the recorder was away.

@@ -7,8 +7,10 @@
 #![tactic(auto)]
 
 mod doubts;
+mod elsewhere;
 mod heard;
 pub mod laws;
+mod logic;
 mod pace;
 mod recent;
 mod since;
@@ -17,5 +19,6 @@ mod stopped_clock;
 mod waited;
 
 pub use doubts::Doubts;
+pub use elsewhere::{Played, seen};
 pub use heard::{Doubt, Event, Gap, Heard, Place, Seen, Why};
 pub use stopped_clock::{StoppedClock, Tried, runs};

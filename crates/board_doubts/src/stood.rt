@@ -1,10 +1,11 @@
 //! Where pieces have stood.
-ghost use Rattle.std.specs.Prelude.{◌≡◌, ◌==◌, ◌&&◌, ◌||◌, ◌∷◌, [], not, ℕ, Bool, List};
+ghost use Rattle.std.specs.Prelude.{◌≡◌, ◌==◌, ◌&&◌, ◌∷◌, [], not, ℕ, Bool, List};
 ghost use Rattle.std.specs.Int.{bit_at};
 ghost use Rattle.square_runs.specs.Squares.{Marks};
 ghost use Rattle.board_doubts.specs.Pictures.{Laid, Squares};
 ghost use Rattle.board_doubts.specs.Keeping.{KeepsStood};
 
+use crate::logic::either;
 use square_runs::{Runs, has_any};
 
 /// Where pieces have stood.
@@ -22,12 +23,6 @@ fn without(mask: u64, others: u64) -> u64
     ensures { (test : ℕ → Bool) → Marks mask test → Marks result (λ s. test s && not (bit_at others s == 1)) }
 {
     mask & !others
-}
-
-fn either(one: bool, other: bool) -> bool
-    ensures { result ≡ (one || other) }
-{
-    one || other
 }
 
 impl Stood {

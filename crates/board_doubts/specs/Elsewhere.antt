@@ -1,0 +1,33 @@
+-- What a picture shows apart from the game's position. Pictures and positions are lists of the codes of 64 squares.
+use Rattle.std.specs.Prelude.{◌≡◌, ◌↔◌, ℕ, ◌==◌, ◌&&◌, not, Bool, nat_le, nat_lt, List, IsTrue, slice_index, if◌then◌else◌}
+use Rattle.square_runs.specs.Squares.{Marks, some_square}
+use Rattle.board_doubts.specs.declared.heard.Seen.{Seen}
+
+-- the code of a piece of Black's, or of White's
+abbrev pub is_of : Bool → ℕ → Bool
+is_of black code = if black then nat_le 7 code else (nat_le 1 code && nat_lt code 7)
+
+abbrev pub differs : List ℕ → List ℕ → ℕ → Bool
+differs position picture s = not (slice_index picture s == slice_index position s)
+
+-- The picture has a piece of this side there, which the position doesn't have there.
+abbrev pub elsewhere : Bool → List ℕ → List ℕ → ℕ → Bool
+elsewhere black position picture s = is_of black (slice_index picture s) && differs position picture s
+
+-- A piece of this side that moved from one position to the next isn't where it belongs then, in a picture of a position.
+abbrev pub is_gone : Bool → List ℕ → List ℕ → List ℕ → List ℕ → Bool
+is_gone black from to position picture = some_square (λ s. elsewhere black from to s && differs position picture s)
+
+-- A piece of this side isn't there, and nothing stands on its square.
+abbrev pub is_lifted : Bool → List ℕ → List ℕ → Bool
+is_lifted black position picture = some_square (λ s. is_of black (slice_index position s) && (slice_index picture s == 0))
+
+-- What a picture shows while Black or White is to move: apart from the position, from that before the last move, and from that
+-- before the move before.
+pub record Sees (seen : Seen) (black : Bool) (earlier before position picture : List ℕ) : Type 0 where
+  pub own : Marks seen.own (λ s. elsewhere black position picture s && differs before picture s)
+  pub others : Marks seen.others (elsewhere (not black) position picture)
+  pub off : seen.is_off ≡ is_gone (not black) before position position picture
+  pub back : IsTrue seen.is_back ↔ (picture ≡ before)
+  pub drawn : seen.was_drawn ≡ is_gone black earlier before position picture
+  pub hand : seen.in_hand ≡ is_lifted (not black) position picture
