@@ -9,6 +9,7 @@ use crate::heard::Seen;
 use crate::logic::{both, either};
 
 /// What a picture is compared with. Before the first moves these positions are the same.
+#[derive(Clone, Copy)]
 pub struct Played<'a> {
     /// Black is to move.
     pub black: bool,

@@ -1,9 +1,9 @@
 //! Tests of the public calls on boards and what they send. Of `watched_streams`, streams that fail; of `dgt_frame`, frames and
 //! times; of `board_captures` and `going_back`, captures that go back; of `board_asking`, what a board is sent when, and what is
 //! done with what it sends; of `board_cable`, the same with its bytes; of `board_times`, files of times; of `square_runs`, since
-//! when squares are in masks; of `board_standing`, how a board stands; of `board_game`, one game while its capture grows; of
-//! `board_live`, a board that is recorded; of `answer_lines`, the lines of an answer; of `live_lines`, what a host tells a
-//! recorder, and what it is answered.
+//! when squares are in masks; of `board_standing`, how a board stands; of `board_doubts`, which news of a game is doubtful; of
+//! `board_game`, one game while its capture grows; of `board_live`, a board that is recorded; of `answer_lines`, the lines of an
+//! answer; of `live_lines`, what a host tells a recorder, and what it is answered.
 //!
 //! The files `NAME_page.rt` have the examples on the crates' pages, as they stand there: `tests/pages` compares them. They are here
 //! since they load the same libraries.
@@ -21,6 +21,8 @@ mod board_asking_page;
 mod board_cable_page;
 #[cfg(test)]
 mod board_captures_page;
+#[cfg(test)]
+mod board_doubts_page;
 #[cfg(test)]
 mod board_events_page;
 #[cfg(test)]
@@ -51,6 +53,8 @@ mod coded_frames;
 mod dgt_frame_page;
 #[cfg(test)]
 mod dgt_replay_page;
+#[cfg(test)]
+mod doubted;
 #[cfg(test)]
 mod games;
 #[cfg(test)]
@@ -89,6 +93,8 @@ mod text_subcommands_page;
 mod times;
 #[cfg(test)]
 mod told_lines;
+#[cfg(test)]
+mod tried;
 #[cfg(test)]
 mod typed_lines_page;
 #[cfg(test)]
