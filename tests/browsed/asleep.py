@@ -48,7 +48,7 @@ window.program = { held: null };
 {
   const post = Worker.prototype.postMessage;
   Worker.prototype.postMessage = function (message) {
-    if (program.held && message.name === 'watch') program.held.push(() => post.call(this, message));
+    if (program.held && message.name === 'tell') program.held.push(() => post.call(this, message));
     else post.call(this, message);
   };
 }

@@ -10,7 +10,7 @@ from compared.browser import serving
 from paged.devtools import Browser, Tab
 
 CASES = TOP / "tests" / "decisions"
-FOLDERS = ("web", "tests/decisions", "live/web/page")
+FOLDERS = ("web", "hosts", "tests/decisions", "live/web/page")
 
 
 def files() -> Dict[str, bytes]:

@@ -21,6 +21,30 @@ for (const name of ['compile', 'instantiate', 'compileStreaming', 'validate']) {
   WebAssembly[name] = () => (name === 'validate' ? false : Promise.reject(new WebAssembly.CompileError('invalid memory limits')));
 }
 """
+NO_SUSPENDING = "delete WebAssembly.Suspending;"  # as before Chrome 137
+NO_ROOM = """
+const Whole = Blob;
+window.Blob = class extends Whole {
+  constructor(parts, given) {
+    const begins = `const Free = WebAssembly.Instance;
+      let isFull = false;
+      WebAssembly.Instance = function (...given) {
+        if (isFull) throw new RangeError('Out of memory: Cannot allocate Wasm memory for new instance');
+        return new Free(...given);
+      };
+      addEventListener('message', ({ data }) => { isFull = data.isFull ?? isFull; });`;
+    super(given?.type === 'text/javascript' ? [begins, ...parts] : parts, given);
+  }
+};
+const Begun = Worker;
+window.workers = [];
+window.Worker = class extends Begun {
+  constructor(url) {
+    super(url);
+    workers.push(this);
+  }
+};
+"""
 
 CALLS = (  # home, which nobody answers
     "fetch('http://127.0.0.1:9/').then(() => 'sent', (error) => error.name)",
@@ -165,6 +189,36 @@ def without_memory(folder: pathlib.Path) -> None:
         stage.until(lambda: "Chrome" in page.text("body") and "Edge" in page.text("body"), "which browser can")
         print(f"  the page says: {page.text('#notices')} {page.text('#welcome')[:80]}")
         same([told for told in page.tab.printed() if "exceptionDetails" in told], [])
+
+
+@with_chromium
+def without_suspending(folder: pathlib.Path) -> None:
+    """A browser that is too old to suspend the program: the page says so at once, and which browser can."""
+    with Hall(folder) as stage:
+        page = stage.tab([NO_SUSPENDING])
+        stage.until(lambda: "version 137 or later" in page.text("#notices"), "which browser can")
+        same((page.shows("#sample"), page.value("document.getElementById('add').disabled")), (True, True))
+        same([told for told in page.tab.printed() if "exceptionDetails" in told], [])
+
+
+@with_chromium
+def no_room(folder: pathlib.Path) -> None:
+    """The browser has no room for one more process of the program: the card says so, nothing is lost, and it is tried again."""
+    with Hall(folder) as stage:
+        page = stage.tab([NO_ROOM])
+        port = stage.board()
+        stage.add(page, port)
+        stage.enlarge(page, 1)
+        until_agrees(stage, page)
+        play(stage, page, port, RUY[:2], RUY_SANS[:2])
+        page.value("workers.forEach((worker) => worker.postMessage({ isFull: true }))")
+        page.click("#recover")
+        stage.until_part(page, "#state", "NOT RECORDED: the browser has no room to attend one more board")
+        page.value("workers.forEach((worker) => worker.postMessage({ isFull: false }))")
+        until_agrees(stage, page)
+        play(stage, page, port, RUY[2:4], RUY_SANS[2:4])
+        text, capture = stage.saved(page, "#save-game"), stage.saved(page, "#save-capture")
+        same(text, of_record(text, capture))
 
 
 @with_chromium

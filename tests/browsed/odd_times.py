@@ -40,7 +40,7 @@ BREAKS = """
 window.breaks = false;
 const post = Worker.prototype.postMessage;
 Worker.prototype.postMessage = function (message) {
-  if (window.breaks && message?.name === 'watch') {
+  if (window.breaks && message?.name === 'tell') {
     window.breaks = false;
     throw new Error('broken for a case');
   }

@@ -17,7 +17,7 @@ BOARDS = 4
 LATE_TEXTS = """
 const post = Worker.prototype.postMessage;
 Worker.prototype.postMessage = function (message) {
-  if (message?.name === 'record') setTimeout(() => post.call(this, message), 1000);
+  if (message?.name === 'run' && message.given.words[0] === 'record') setTimeout(() => post.call(this, message), 1000);
   else post.call(this, message);
 };
 """

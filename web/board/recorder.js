@@ -9,7 +9,7 @@ import { countingForfeit } from '../game/forfeits.js';
 import { textOfLook } from '../game/looks.js';
 import { dayOf } from '../game/names.js';
 import { ProgramError } from '../game/program.js';
-import { gameOf, newCourse } from '../game/reading.js';
+import { gameOf, newCourse, textOf } from '../game/reading.js';
 import { codesOf, shortOf, shownOf } from '../game/report.js';
 import { ABSENT, Refused } from '../game/typed.js';
 import { ADDED, HEARD, OVER, isOf, kept as foundIn } from '../game/times.js';
@@ -17,8 +17,8 @@ import { reached, readBack } from '../game/way_back.js';
 import { Capture, LARGEST } from '../kept/capture.js';
 import { spread, withMore } from '../kept/spread.js';
 import { Times } from '../kept/times.js';
+import { Attending } from './attending.js';
 import { Cable } from './cable.js';
-import { Reader } from './reader.js';
 import { BoardState, DISK_FULL, Kind, TURNED_ROUND, lasting } from './state.js';
 import { Typing } from './typing.js';
 import { another, back as backAgain, mayTake } from './whose.js';
@@ -49,8 +49,7 @@ export class Recorder {
    * new one was made; it answers owner(number) and lends(number, heard).
    */
   constructor(hall, guard, kept, hears) {
-    this.program = hall.program;
-    this.arbiter = hall.typing; // the program, for what an arbiter types
+    this.calls = hall.calls; // of the program
     this.database = hall.database;
     this.guard = guard;
     this.hears = hears;
@@ -68,7 +67,7 @@ export class Recorder {
     this.nextTry = null; // when that is tried again
     guard.opened(() => this.times.close()); // after the cable
     this.typing = new Typing(this);
-    this.reader = new Reader(hall, guard, this);
+    this.attending = new Attending(hall, guard, this);
     this.cable = new Cable(guard, kept.board.serial || '', this);
     const capture = kept.capture || new Capture(this.database, kept.game.id, kept.chunks);
     this.takeGame(kept.game, capture, new Times(this.database, guard, kept.game, capture, this));
@@ -83,10 +82,10 @@ export class Recorder {
     this.capture = capture;
     this.times = times;
     capture.hearBy({
-      kept: (bytes) => this.guard.call(() => this.reader.kept(bytes)),
+      kept: (bytes) => this.guard.call(() => this.attending.kept(bytes)),
       changed: () => this.guard.call(() => this.diskChanged()),
     });
-    this.reader.take(String(game.id), this.capture);
+    this.attending.take(this.capture);
     this.opened = this.capture.size;
     this.heardAt = this.capture.lastAt === null ? this.guard.now() : this.capture.lastAt;
     this.away = this.guard.away(); // the seconds that this page was away by then
@@ -133,7 +132,7 @@ export class Recorder {
 
   /** Everything is read again: at the beginning, with other options, or from another capture. */
   reread(isFirst = false) {
-    this.old = this.reader.size; // bytes whose report isn't news
+    this.old = this.attending.known; // bytes whose report isn't news
     this.isOld = true;
     this.course = newCourse(this.options);
     this.alarms = new Alarms(this.course, this.game.looks);
@@ -152,7 +151,7 @@ export class Recorder {
     this.starts = []; // where it was shown after the game's end
     this.isFirstReading = isFirst;
     this.wantText();
-    this.reader.begin();
+    this.attending.begin();
   }
 
   /** All lines have been heard. */
@@ -227,7 +226,7 @@ export class Recorder {
     if (this.gap) this.alarms.away(this.gap.seconds, this.gap.isRestart);
     this.gap = null;
     this.state.look = this.alarms.looks.short;
-    if (this.isFirstReading && this.reader.size > 0 && !this.showsItself) this.state.goesOn();
+    if (this.isFirstReading && this.old > 0 && !this.showsItself) this.state.goesOn();
     if (this.course.board) this.state.shows(this.course.board);
     for (const event of this.course.standing()) this.state.told(now, event);
     if (this.isOver) return;
@@ -457,14 +456,20 @@ export class Recorder {
     return this.pgn;
   }
 
+  /** The text of a game with this capture, up to its end. */
+  textOf({ end }) {
+    const sent = this.capture.bytes(end === null ? this.attending.known : end);
+    return textOf(this.calls, this.options, sent, this.forfeit);
+  }
+
   async makeText() {
     this.isMaking = true;
     try {
       while (this.wantsText && !this.guard.ended) {
         this.wantsText = false;
-        const { epoch } = this.reader;
-        const text = await this.reader.text(this.game.end);
-        if (epoch === this.reader.epoch) {
+        const { epoch } = this.attending;
+        const text = await this.textOf(this.game);
+        if (epoch === this.attending.epoch) {
           this.pgn = text;
           this.hears.placed();
         } else {
@@ -582,7 +587,7 @@ export class Recorder {
   /** A dump of the start, as the program makes it of what the board has shown up to this byte, and what came behind it. */
   async fromStart(offset) {
     const content = this.capture.bytes();
-    const { kind, put } = readBack(await this.arbiter.back(this.options, content.slice(0, offset + 1), NO_PLIES));
+    const { kind, put } = readBack(await this.calls.back(this.options, content.slice(0, offset + 1), NO_PLIES));
     if (!put) throw new ProgramError(`back has refused the start: ${kind}`);
     return joined(lastDump(put), content.slice(offset + 1));
   }
@@ -621,7 +626,7 @@ export class Recorder {
     await this.typing.exclusively(async () => {
       if (!this.isOver && this.course.result !== '*') this.end(Reason.RESULT);
       const dump = lastDump(this.capture.bytes());
-      const { plies } = await gameOf(this.program, given.options || this.options, dump);
+      const { plies } = await gameOf(this.calls, given.options || this.options, dump);
       if (plies.length > 0 && !takesMove) {
         this.awaitStart(given, shortOf(plies[0]));
         return;
@@ -647,7 +652,7 @@ export class Recorder {
 
   /** The next game begins with this. It has the same options, unless others are given. The game before it has ended so. */
   async begin(content, { options: given = this.options, name: wanted = '' } = {}, before = this.game) {
-    const pgn = await this.reader.text(before.end);
+    const pgn = await this.textOf(before);
     const options = { ...given, began: dayOf(new Date()) };
     const name = wanted || this.hears.nextName(before.name);
     const game = { board: this.board.id, name, options, end: null, looks: this.alarms.looks.open };
@@ -761,6 +766,7 @@ export class Recorder {
     const isRead = ['rotated', 'first', 'recover'].some((name) => options[name] !== this.options[name]);
     this.game = { ...this.game, ...changes, options };
     this.keepGame();
+    if (isRead) this.attending.readAnew();
     if (isRead) this.reread();
     else this.wantText();
     this.hears.changed();

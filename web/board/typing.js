@@ -94,7 +94,7 @@ export class Typing {
   /** The game isn't played. The result ends it as if it had been typed; if both players are absent, it has none. */
   async forfeit(kind) {
     const { recorder } = this;
-    await recorder.reader.read();
+    await recorder.attending.read();
     const { plies, result } = recorder.course;
     const why = whyPlayed(kind, plies.length, result);
     if (why) throw new Refused(why);
@@ -110,14 +110,14 @@ export class Typing {
    */
   async decided(decide, put) {
     for (let count = 1; count < TRIES; count += 1) {
-      await this.recorder.reader.read();
+      await this.recorder.attending.read();
       const seen = this.seen();
       const answer = await decide(seen);
       const done = await this.exclusively(() => (this.isStill(seen) ? this.putIn(seen, answer, put) : AGAIN));
       if (done !== AGAIN) return done;
     }
     return this.exclusively(async () => {
-      await this.recorder.reader.read();
+      await this.recorder.attending.read();
       const seen = this.seen();
       return this.putIn(seen, await decide(seen), put);
     });
@@ -137,7 +137,7 @@ export class Typing {
   /** Puts an answer in, once all lines about the capture have been heard. They may have ended the game. */
   async putIn(seen, answer, put) {
     const { recorder } = this;
-    await recorder.reader.read();
+    await recorder.attending.read();
     if (recorder.guard.ended) throw new Refused('the recording was just interrupted. Type it again');
     if (recorder.isAtStart || !this.isStill(seen)) throw new Refused(ENDING);
     return put(answer);
@@ -148,7 +148,7 @@ export class Typing {
     const { recorder } = this;
     this.asked = '';
     const decide = ({ capture, size, end }) =>
-      recorder.arbiter.add(recorder.options, capture.bytes(end === null ? size : end), text);
+      recorder.calls.add(recorder.options, capture.bytes(end === null ? size : end), text);
     const done = await this.decided(decide, async (answer) => {
       const said = readAnswer('add', answer);
       const { plies, result } = recorder.course;
@@ -181,7 +181,7 @@ export class Typing {
     this.asked = '';
     if (to === '*' && recorder.forfeit === BOTH) return PLAYED_AFTER_ALL; // the forfeit goes with whatever else is typed
     const decide = ({ capture, size, end }) =>
-      recorder.arbiter.back(recorder.options, capture.bytes(recorder.isAltered ? end : size), this.plyOf(to));
+      recorder.calls.back(recorder.options, capture.bytes(recorder.isAltered ? end : size), this.plyOf(to));
     try {
       return await this.decided(decide, (answer) => this.goBack(readBack(answer), to, asked));
     } catch (error) {

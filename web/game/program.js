@@ -1,6 +1,8 @@
 // Calls of the program, which runs in the worker.
 
-import { ofBoard, ofRecord, ofTyping } from './options.js';
+import { suspends } from '../../hosts/process.mjs';
+import { entryOf } from './attended.js';
+import { ofBoard, ofTyping } from './options.js';
 
 /** The program can't be run, or has ended as it shouldn't. */
 export class ProgramError extends Error {}
@@ -8,9 +10,11 @@ export class ProgramError extends Error {}
 // A module with a memory and a table of 64-bit addresses, as the program has them.
 const WIDE = Uint8Array.of(0, 0x61, 0x73, 0x6d, 1, 0, 0, 0, 4, 4, 1, 0x70, 4, 0, 5, 3, 1, 4, 0);
 
-/** Whether this browser can run the program. */
-export function isRunnable() {
-  return typeof WebAssembly === 'object' && WebAssembly.validate(WIDE) && typeof DecompressionStream === 'function';
+/** What this browser lacks to run the program; empty if it has all. */
+export function lacking() {
+  if (typeof WebAssembly !== 'object' || !WebAssembly.validate(WIDE)) return 'it has no 64-bit WebAssembly memory';
+  if (!suspends()) return "it can't suspend a WebAssembly program";
+  return typeof DecompressionStream === 'function' ? '' : 'it has no DecompressionStream';
 }
 
 /** The lines that the program has written. */
@@ -27,7 +31,7 @@ export class Program {
     this.calls = new Map();
     this.worker = null;
     this.begun = null; // a promise that ends when it is compiled
-    this.epoch = 0; // how often it was begun; each time it knows no capture
+    this.attended = 0; // boards so far
   }
 
   /** Has it compiled, unless it is. */
@@ -43,7 +47,6 @@ export class Program {
 
   /** Has it compiled, in a new worker. */
   async begin() {
-    this.epoch += 1;
     const url = URL.createObjectURL(new Blob([this.code], { type: 'text/javascript' }));
     this.worker = new Worker(url);
     URL.revokeObjectURL(url);
@@ -78,47 +81,42 @@ export class Program {
     });
   }
 
-  // Captures, by their keys.
+  // A board that is attended.
 
-  append(key, bytes) {
-    return this.call('append', { key, bytes });
+  /** A process of the program attends a board from now on. Its key is new. */
+  attend(options) {
+    this.attended += 1;
+    const key = this.attended;
+    const begun = this.call('attend', { key, words: ofTyping(options) });
+    begun.catch(() => {}); // what is told then fails too, and says why
+    return key;
   }
 
-  renew(key, bytes) {
-    return this.call('renew', { key, bytes });
+  /** Tells the process what happens: see `entryOf`. The promise has its answer. */
+  tell(key, at, word, given) {
+    return this.call('tell', { key, entry: entryOf(at, word, given) });
   }
 
-  forget(key) {
-    return this.call('forget', { key });
-  }
-
-  /** The report of a capture after the lines that are known: { from, lines, size }. */
-  watch(key, known, options) {
-    return this.call('watch', { key, known, words: ofBoard(options), recovers: Boolean(options.recover) });
-  }
-
-  /** The PGN of a capture, or of this many bytes of it. */
-  record(key, limit, options) {
-    const recovers = Boolean(options.recover);
-    return this.call('record', { key, limit, board: ofBoard(options), words: ofRecord(options), recovers });
+  /** Ends the process. */
+  leave(key) {
+    this.call('leave', { key }).catch(() => {});
   }
 
   // Bytes that are given.
 
   /** What `add` makes of a line that was typed for the game of these bytes: { status, output, errors }. */
-  async add(options, sent, line) {
-    await this.ready();
+  add(options, sent, line) {
     return this.run(['add', ...ofTyping(options), `--line=${line}`], sent);
   }
 
   /** The capture of these bytes, gone back as far as `to` says: { status, output, errors }. */
-  async back(options, sent, to) {
-    await this.ready();
+  back(options, sent, to) {
     return this.run(['back', ...ofTyping(options), `--to=${to}`], sent);
   }
 
   /** Calls it: { status, output, errors }. */
-  run(words, input = new Uint8Array(0)) {
+  async run(words, input = new Uint8Array(0)) {
+    await this.ready();
     return this.call('run', { words, input });
   }
 

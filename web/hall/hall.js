@@ -33,8 +33,8 @@ export class Hall {
     this.hears = hears;
     this.log = new Log();
     this.loop = new Loop();
-    this.program = new Program(code, module);
-    this.typing = new Program(code, module); // in a worker of its own, so that a typed line holds up no board
+    this.program = new Program(code, module); // attends the boards
+    this.calls = new Program(code, module); // answers calls that end, in a worker of its own, so that they hold up no board
     this.database = null;
     this.seats = new Map(); // by their numbers
     this.locks = new Map(); // what releases each board's lock
@@ -262,7 +262,7 @@ export class Hall {
 
   /** Shows a capture as a board. */
   async showCapture(fileName, content) {
-    const shown = new Shown(this.program, this.freeNumber(), fileName, content);
+    const shown = new Shown(this.calls, this.freeNumber(), fileName, content);
     await shown.read();
     this.seats.set(shown.id, shown);
     this.changed();

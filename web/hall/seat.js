@@ -62,7 +62,7 @@ export class Seat {
 
   /** Reads the games of this board that began today and are over. */
   async readFinished(guard) {
-    const { database, program } = this.hall;
+    const { database, calls } = this.hall;
     const today = dayOf(new Date());
     const games = (await database.games()).filter((game) => game.board === this.id && game.options.began === today);
     const current = (await database.board(this.id)).game;
@@ -71,7 +71,7 @@ export class Seat {
       const bytes = joined(...(await database.chunks(game.id)).map((chunk) => chunk.bytes));
       const sent = bytes.slice(0, game.end === null ? bytes.length : game.end);
       const times = textOfTimes((await this.readTimes(game.id)) || []);
-      const pgn = await textOf(program, game.options, sent, game.forfeit);
+      const pgn = await textOf(calls, game.options, sent, game.forfeit);
       if (!guard.ended && (!isUnplayed(pgn) || forfeitOf(game.forfeit, pgn))) this.finished.push({ ...game, bytes, times, pgn });
     }
   }
@@ -80,6 +80,7 @@ export class Seat {
   take(port, connection, came) {
     this.port = port;
     if (connection.closed) this.plug(port); // it is gone again
+    else if (this.guard.ended) connection.close(); // its recorder is begun again, and opens it
     else this.guard.call(() => this.recorder.cable.take(connection, came));
   }
 

@@ -3,7 +3,7 @@
 import { drawPieces } from '../../live/web/page/diagram.js';
 import { Hall } from '../hall/hall.js';
 import { missingDevice, systemOf, whichDevice } from '../device/systems.js';
-import { isRunnable } from '../game/program.js';
+import { lacking } from '../game/program.js';
 import { announce } from './announcer.js';
 import { Cards } from './cards.js';
 import { Dropping } from './dropping.js';
@@ -13,7 +13,7 @@ import { RoundDialog } from './round_dialog.js';
 import { at, bytesIn, failed } from './elements.js';
 
 const WHERE_SERIAL = 'To record a board, open this page in Chrome or Edge on a computer (Windows, macOS, Linux, ChromeOS)';
-const WHERE_MODULE = 'Open this page in Chrome or Edge, version 133 or later';
+const WHERE_MODULE = 'Open this page in Chrome or Edge, version 137 or later';
 
 async function begin() {
   drawPieces();
@@ -49,8 +49,9 @@ async function begin() {
     const what = "This browser can't reach a board: it has no Web Serial";
     messages.notice('serial', `${what}. ${WHERE_SERIAL}. Captures can be shown here.`, [], true);
   }
-  if (!isRunnable()) {
-    const what = "This browser can't run the recorder: it has no 64-bit WebAssembly memory";
+  const lacks = lacking();
+  if (lacks) {
+    const what = `This browser can't run the recorder: ${lacks}`;
     messages.notice('module', `${what}. ${WHERE_MODULE}.`, [], true);
     hall.isReady = true;
     cards.show(hall);

@@ -1,15 +1,18 @@
-// The worker: it calls the proved program, a WebAssembly module. It has the captures, and reads each anew when bytes
-// come, so no state lives in the module.
+// The worker: it runs the proved program, a WebAssembly module. Each board that is recorded has a process that attends it, and is
+// suspended while nothing happens there; all other calls end at once.
 
+import { start } from '../../hosts/process.mjs';
 import { run } from '../../hosts/wasm.mjs';
-import { lineOf, wordsOf } from '../game/report.js';
-import { Places, pairsIn } from '../game/places.js';
+import { Answers } from '../game/attended.js';
 
-const decoder = new TextDecoder();
-const text = (bytes) => decoder.decode(bytes);
+// A browser has room for some 62 instances of the program; the rest is for short calls.
+const MOST = 48;
+const TOO_MANY = `the browser has room for ${MOST} boards at a time. Remove one that isn't played on`;
+const NO_ROOM = 'the browser has no room to attend one more board. Close other tabs of this page, or remove a board';
+
 let program = null;
 let ready = Promise.resolve(); // ends when it is compiled
-const captures = new Map(); // by their keys: { bytes, size, lines }
+const attended = new Map(); // by their keys
 
 /** Compiles the module, which came under gzip in base64. */
 async function begin({ module }) {
@@ -18,93 +21,81 @@ async function begin({ module }) {
   program = await WebAssembly.compile(await new Response(stream).arrayBuffer());
 }
 
-function call(words, input) {
-  const { status, output, errors } = run(program, words, input);
-  return { status, output, errors };
-}
-
-/** What the program writes, if it ends well. */
-function written(words, input) {
-  const answer = call(words, input);
-  if (answer.status !== 0) throw new Error(`${words[0]} ended with status ${answer.status}: ${text(answer.errors).trim()}`);
-  return answer;
-}
-
-/** The capture of a key, with room for more. */
-function captureOf(key) {
-  if (!captures.has(key)) captures.set(key, { bytes: new Uint8Array(1 << 14), size: 0, lines: [] });
-  return captures.get(key);
-}
-
-function append({ key, bytes }) {
-  const capture = captureOf(key);
-  const size = capture.size + bytes.length;
-  if (size > capture.bytes.length) {
-    const larger = new Uint8Array(Math.max(size, 2 * capture.bytes.length));
-    larger.set(capture.bytes.subarray(0, capture.size));
-    capture.bytes = larger;
+/** A board that is attended: its process, and those who wait for its answers, in order. */
+class Attended {
+  constructor() {
+    this.answers = new Answers();
+    this.waiting = [];
+    this.process = null;
+    this.why = ''; // why there is no process, or none any more
   }
-  capture.bytes.set(bytes, capture.size);
-  capture.size = size;
+
+  begin(words) {
+    try {
+      this.process = start(program, ['live', ...words], (bytes) => this.wrote(bytes));
+    } catch (error) {
+      this.ended(`${NO_ROOM} (${error.message})`);
+      return;
+    }
+    this.process.ended.then(
+      ({ status, errors }) => this.ended(`the recorder has ended with status ${status}: ${errors.trim()}`),
+      (error) => this.ended(`the recorder has ended: ${error.message}`),
+    );
+  }
+
+  /** Tells it something. The promise has the answer. */
+  tell(entry) {
+    if (this.why) throw new Error(this.why);
+    return new Promise((done, failed) => {
+      this.waiting.push({ done, failed });
+      this.process.push(entry);
+    });
+  }
+
+  wrote(bytes) {
+    for (const answer of this.answers.take(bytes)) this.waiting.shift().done(answer);
+  }
+
+  ended(why) {
+    this.process = null;
+    this.why = why;
+    this.waiting.forEach(({ failed }) => failed(new Error(why)));
+    this.waiting = [];
+  }
 }
 
-function renew({ key, bytes }) {
-  captures.delete(key);
-  append({ key, bytes });
+function attend({ key, words }) {
+  const one = new Attended();
+  const count = [...attended.values()].filter(({ process }) => process).length;
+  attended.set(key, one);
+  if (count < MOST) one.begin(words);
+  else one.ended(TOO_MANY);
 }
 
-/** A line as `watch` would print it for the capture itself. */
-function printed({ offset, event }) {
-  if (event.kind === 'picture') return `${offset} picture ${event.placement}`;
-  if (event.kind === 'position') return `${offset} position ${event.fen}`;
-  if (event.kind === 'clock') return `${offset} clock ${event.white} ${event.black}`;
-  return `${offset} ${event.kind === 'recovered' ? event.text : wordsOf(event)}`;
+/** Tells a process something. A board that has none fails so. */
+function tell({ key, entry }) {
+  if (!attended.has(key)) throw new Error('the recorder has ended');
+  return attended.get(key).tell(entry);
 }
 
-/** The lines of the report of a capture: with the pairs that `recover` adds, if that is asked for. */
-function linesOf(capture, words, recovers) {
-  const sent = capture.bytes.subarray(0, capture.size);
-  if (!recovers) return text(written(['watch', ...words], sent).output).split('\n').slice(0, -2); // without `rest N`
-  const { output, errors } = written(['recover', ...words], sent);
-  const places = new Places(output, pairsIn(text(errors)));
-  const lines = text(written(['watch', ...words], output).output).split('\n').map(lineOf);
-  return lines.filter((line) => line).flatMap((line) => places.of(line)).map(printed);
-}
-
-/** The lines after those that are known; all of them if the known ones have changed: { from, lines, size }. */
-function watch({ key, known, words, recovers }) {
-  const capture = captureOf(key);
-  const before = capture.lines;
-  const lines = linesOf(capture, words, recovers);
-  capture.lines = lines;
-  let same = 0;
-  while (same < known && same < before.length && before[same] === lines[same]) same += 1;
-  const from = same === known ? known : 0;
-  return { from, lines: lines.slice(from), size: capture.size };
-}
-
-/** The PGN of a capture, or of this many bytes of it. */
-function record({ key, limit, board, words, recovers }) {
-  const capture = captureOf(key);
-  const sent = capture.bytes.subarray(0, limit === null ? capture.size : Math.min(limit, capture.size));
-  const whole = recovers ? written(['recover', ...board], sent).output : sent;
-  return text(written(['record', ...words], whole).output);
+function leave({ key }) {
+  const { process } = attended.get(key) || {};
+  if (process) process.kill();
+  attended.delete(key);
 }
 
 const CALLS = {
-  append,
-  renew,
-  watch,
-  record,
-  forget: ({ key }) => captures.delete(key),
-  run: ({ words, input }) => call(words, input),
+  attend,
+  tell,
+  leave,
+  run: ({ words, input }) => run(program, words, input),
 };
 
 onmessage = async ({ data: { number, name, given } }) => {
   try {
     if (name === 'begin') ready = begin(given);
     await ready;
-    postMessage({ number, answer: name === 'begin' ? null : CALLS[name](given) });
+    postMessage({ number, answer: name === 'begin' ? null : await CALLS[name](given) });
   } catch (error) {
     postMessage({ number, error: String(error && error.message ? error.message : error) });
   }

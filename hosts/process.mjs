@@ -1,0 +1,107 @@
+/**
+ * Runs the program as a WebAssembly module (bin/wasm/dgt_replay.wasm) that goes on while bytes come: where it reads and nothing is
+ * there, it is suspended until there is. The host of hosts/wasm.c, for a browser with JavaScript Promise Integration.
+ *
+ *     const { push, kill, ended } = start(program, ["live"], (bytes) => show(bytes));
+ *     push(bytes);
+ *
+ * Each process has an instance, a memory and a stack of its own. A suspended one that is forgotten is never collected: kill it.
+ */
+
+const OUTPUT = 1; // the number of standard output; standard input is 0, standard error 2
+const NONE = -1n; // there is no such argument
+const TOO_LONG = -2n; // it is longer than the room for it
+const TURN = 8; // milliseconds that it reads on while others may wait
+
+/** Whether this browser can suspend a program. */
+export function suspends() {
+  return typeof WebAssembly.Suspending === "function" && typeof WebAssembly.promising === "function";
+}
+
+/**
+ * Starts the program.
+ *
+ * @param {WebAssembly.Module} program
+ * @param {string[]} words the arguments: a subcommand and its options
+ * @param {(bytes: Uint8Array) => void} wrote gets what it writes on standard output; an exception there ends the process
+ * @param {number} most the bytes of memory that it may have: where it needs more, its status is 4
+ * @returns `push(bytes)`, which it reads next; `kill()`; and `ended`, with { status, errors } when it has ended. It fails where the
+ *   process was killed, or its stack of 1 MiB doesn't suffice
+ */
+export function start(program, words, wrote, most = 2 ** 32) {
+  const list = ["dgt_replay", ...words].map((word) => new TextEncoder().encode(word));
+  const decoder = new TextDecoder();
+  const given = []; // parts that it hasn't read
+  let wake = null; // ends the wait of the read that has nothing
+  let killed = null;
+  let turn = performance.now();
+  let errors = "";
+  /** Bytes of the module's memory. The memory that it had before it grew is gone, so they are looked up in each call. */
+  const bytes = (at, length) => new Uint8Array(instance.exports.memory.buffer, Number(at), Number(length));
+  const host = {
+    read: new WebAssembly.Suspending(async (_stream, at, length) => {
+      if (performance.now() - turn > TURN) {
+        await scheduler.postTask(() => {
+          turn = performance.now();
+        });
+      }
+      while (given.length === 0 && !killed) {
+        await new Promise((go) => {
+          wake = go;
+        });
+        turn = performance.now();
+      }
+      if (killed) {
+        throw killed;
+      }
+      const taken = given[0].subarray(0, Number(length));
+      if (taken.length === given[0].length) {
+        given.shift();
+      } else {
+        given[0] = given[0].subarray(taken.length);
+      }
+      bytes(at, taken.length).set(taken);
+      return BigInt(taken.length);
+    }),
+    write(stream, at, length) {
+      const written = bytes(at, length).slice();
+      if (stream === OUTPUT) {
+        wrote(written);
+      } else {
+        errors += decoder.decode(written, { stream: true });
+      }
+      return length;
+    },
+    arg_count: () => BigInt(list.length),
+    arg(index, at, length) {
+      const word = list[Number(index)];
+      if (word === undefined) {
+        return NONE;
+      }
+      const part = word.subarray(0, Number(length));
+      bytes(at, part.length).set(part);
+      return part.length === word.length ? BigInt(word.length) : TOO_LONG;
+    },
+  };
+  const instance = new WebAssembly.Instance(program, { host });
+  const ended = WebAssembly.promising(instance.exports.start)(BigInt(most)).then((status) => ({ status, errors }));
+  const rouse = () => {
+    if (wake) {
+      wake();
+    }
+    wake = null;
+  };
+  return {
+    ended,
+    push(more) {
+      if (more.length > 0) {
+        given.push(more);
+      }
+      rouse();
+    },
+    kill() {
+      killed = new Error("killed");
+      rouse();
+    },
+  };
+}
