@@ -5,6 +5,9 @@ Prints the file's size; the time from opening the file to the first board being 
 captures have an hour of play: from a move's last byte to its line on the screen, and to its text on the disk. The files are
 in the browser's private folder, since nobody is there to choose one; so the page comes from a server of this machine for
 that. A machine on which nothing else runs is needed: elsewhere the times are waits for a processor.
+
+Two numbers may be given: how many boards there are, and how often each dump of the hour stands in a capture, one after the other: with
+72 it has 20 MB.
 """
 
 from __future__ import annotations
@@ -45,7 +48,7 @@ HOUR = """(async (count) => {
     const moves = %(moves)s;
     let bytes = [];
     for (let second = 0; second < %(seconds)d; second += 1) {
-      bytes.push(0x86, 0, 67, ...codes(squares));
+      for (let dumps = 0; dumps < %(dumps)d; dumps += 1) bytes.push(0x86, 0, 67, ...codes(squares));
       const two = (value) => 16 * Math.floor(value / 10) + value %% 10;
       const left = 5400 - second;
       bytes.push(0x8d, 0, 10, Math.floor(left / 3600), two(Math.floor(left / 60) %% 60), two(left %% 60), 1, 0x30, 0, 1);
@@ -148,12 +151,12 @@ def last_move(pgn: str) -> str:
     return f"{(len(sans) + 1) // 2}.{'' if len(sans) % 2 else '..'} {sans[-1]}" if sans else ""
 
 
-def play(browser: Browser, url: str, count: int) -> None:
-    """So many boards, each with a capture of an hour."""
+def play(browser: Browser, url: str, count: int, dumps: int) -> None:
+    """So many boards, each with a capture of an hour, in which each dump comes so often."""
     tab = opened(browser, url, "")
     tab.until("document.getElementById('add').disabled", False)
     moves = str([[start, end] for start, end, _ in MOVES])
-    tab.value(HOUR % {"seconds": SECONDS, "moves": moves, "each": EACH, "count": count})
+    tab.value(HOUR % {"seconds": SECONDS, "moves": moves, "each": EACH, "count": count, "dumps": dumps})
     tab.close()
     before = "".join(f"boards.add({number}, true, START_SQUARES);" for number in range(1, count + 1))
     plies = SECONDS // EACH
@@ -192,7 +195,7 @@ def play(browser: Browser, url: str, count: int) -> None:
         ]
         lines += [(line[0] - then) / 1000] if line else []
         texts += [(text[0] - then) / 1000] if text else []
-    print(f"{count} boards with an hour of play, {len(played)} moves in {PLAYED:.0f} s:")
+    print(f"{count} boards with an hour of play, {dumps} dumps a second, {len(played)} moves in {PLAYED:.0f} s:")
     told("to the line on the screen", lines)
     told("to the text on the disk", texts)
     tab.close()
@@ -203,9 +206,10 @@ def main() -> int:
     print(f"from opening the file to the first board being asked: {first_asked():.0f} ms")
     server = serving()
     threading.Thread(target=server.serve_forever, daemon=True).start()
-    for count in (1, 16):
+    counts, dumps = ([int(sys.argv[1])], int(sys.argv[2])) if len(sys.argv) > 2 else ([1, 16], 1)
+    for count in counts:
         with Browser() as browser:
-            play(browser, f"http://127.0.0.1:{server.server_address[1]}/", count)
+            play(browser, f"http://127.0.0.1:{server.server_address[1]}/", count, dumps)
     server.shutdown()
     return 0
 

@@ -83,8 +83,12 @@ export function start(program, words, wrote, most = 2 ** 32) {
       return part.length === word.length ? BigInt(word.length) : TOO_LONG;
     },
   };
-  const instance = new WebAssembly.Instance(program, { host });
+  let instance = new WebAssembly.Instance(program, { host });
   const ended = WebAssembly.promising(instance.exports.start)(BigInt(most)).then((status) => ({ status, errors }));
+  const free = () => {
+    instance = null; // its memory may be collected, whoever still has the process
+  };
+  ended.then(free, free);
   const rouse = () => {
     if (wake) {
       wake();

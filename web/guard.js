@@ -10,6 +10,7 @@ export class Guard {
     this.broke = broke;
     this.closes = [];
     this.ended = false;
+    this.error = null; // that has ended it
   }
 
   now() {
@@ -47,6 +48,7 @@ export class Guard {
 
   fail(error) {
     if (this.ended) return;
+    this.error = error;
     this.end();
     this.broke(error);
   }

@@ -42,7 +42,7 @@ window.timer = { longest: 0 };
   }, 250);
 }
 """
-# Has the program report a game only when that is asked for.
+# Has the program told what happens only when that is asked for.
 HOLDS = """
 window.program = { held: null };
 {
@@ -135,9 +135,8 @@ def reported_late(folder: pathlib.Path) -> None:
         for ply, state in ((4, "agrees"), (5, "LOOK since 3. Bb5")):
             page.value(HOLD)
             port.board.play(RUY[ply])
-            stage.until_dumped(page, port)
+            stage.rest(1)
             port.board.clock(clock[0], clock[1], False)
-            stage.until_dumped(page, port)
             stage.rest(4)
             page.value(REPORT)
             stage.until_moves(page, RUY_SANS[: ply + 1])

@@ -50,7 +50,7 @@ def away(stage: Hall, page: Page, number: Optional[int] = None) -> Port:
 def goes_on(stage: Hall, page: Page, port: Port) -> None:
     """The large board is recorded from this port, and there is no other card."""
     stage.until(lambda: page in port.holders, "the board to be opened")
-    until_agrees(stage, page)
+    stage.until_part(page, "#state", "agrees")  # it was away, so somebody may have to look
     play(stage, page, port, RUY[2:4], RUY_SANS[2:4])
     same((page.value(CARDS), page.text("#title")), (1, "Board 1"))
     text, capture = stage.saved(page, "#save-game"), stage.saved(page, "#save-capture")
@@ -164,6 +164,76 @@ def chosen_for_another(folder: pathlib.Path) -> None:
         stage.enlarge(page, 1)
         choose(page, second, "#choose")
         stage.until_text(page, "#title", "Board 2")
-        until_agrees(stage, page)
+        stage.until_part(page, "#state", "agrees")
         play(stage, page, second, RUY[2:4], RUY_SANS[2:4])
         same(page.value(CARDS), 2)
+
+
+def exchange(stage: Hall, first: Port, second: Port) -> None:
+    """The boards of two ports change places."""
+    for port in (first, second):
+        stage.pull(port)
+    first.board, second.board = second.board, first.board
+    for port in (first, second):
+        stage.plug(port)
+    stage.until(lambda: first.holders and second.holders, "both boards to be opened again")
+
+
+@with_chromium
+def cables_exchanged(folder: pathlib.Path) -> None:
+    """Two boards change places, and later change back: each game has the moves of its own board, and somebody must look."""
+    with Hall(folder) as stage:
+        page = stage.tab()
+        first, second = numbered(stage.board(), 10001), numbered(stage.board(), 10002)
+        for port, moves, sans in ((first, RUY[:2], RUY_SANS[:2]), (second, QUEENS[:2], QUEENS_SANS[:2])):
+            page.click("#back") if page.shows("#back") else None
+            stage.add(page, port)
+            stage.enlarge(page, port.number)
+            until_agrees(stage, page)
+            play(stage, page, port, moves, sans)
+        exchange(stage, first, second)
+        goes = "what it sends goes to the game of board 1"
+        stage.until(lambda: any(goes in line for line in page.messages), "a word on the other board")
+        play(stage, page, first, QUEENS[2:4], QUEENS_SANS[2:4])  # the board of the second game, on the first port
+        page.click("#back")
+        stage.enlarge(page, 1)
+        stage.until_part(page, "#state", "LOOK at the cable")
+        play(stage, page, second, RUY[2:4], RUY_SANS[2:4])
+        exchange(stage, first, second)
+        stage.until(lambda: any("its own, 10001, is back" in line for line in page.messages), "a word that it is back")
+        play(stage, page, first, RUY[4:6], RUY_SANS[4:6])
+        text, capture = stage.saved(page, "#save-game"), stage.saved(page, "#save-capture")
+        same(text, of_record(text, capture))
+        page.click("#back")
+        stage.enlarge(page, 2)
+        play(stage, page, second, QUEENS[4:], QUEENS_SANS[4:])
+        same(page.tab.printed(), [])
+
+
+@with_chromium
+def another_board(folder: pathlib.Path) -> None:
+    """A board is replaced by another one: what that sends is kept back until somebody presses OK, and then the game has all of it."""
+    with Hall(folder) as stage:
+        page = stage.tab()
+        port = numbered(stage.board(), 10001)
+        stage.add(page, port)
+        stage.enlarge(page, 1)
+        until_agrees(stage, page)
+        play(stage, page, port, RUY[:2], RUY_SANS[:2])
+        stage.pull(port)
+        spare = stage.board(port.board.codes)
+        numbered(spare, 10009)
+        port.board, spare.board = spare.board, port.board
+        port.board.pull()
+        stage.plug(port)
+        stage.until_part(page, "#state", "LOOK at the cable")
+        before = len(page.kept(1))
+        port.board.play(RUY[2])
+        stage.rest(2)
+        same((page.moves, len(page.kept(1))), (RUY_SANS[:2], before))
+        page.click("#ok")
+        stage.until_moves(page, RUY_SANS[:3])
+        stage.until_part(page, "#state", "LOOK at 2. Nf3")  # nobody knows what was played until then
+        play(stage, page, port, RUY[3:5], RUY_SANS[3:5])
+        text, capture = stage.saved(page, "#save-game"), stage.saved(page, "#save-capture")
+        same(text, of_record(text, capture))

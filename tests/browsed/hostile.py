@@ -45,6 +45,26 @@ window.Worker = class extends Begun {
   }
 };
 """
+# Boards that were recorded earlier, each with a game of which nothing was sent.
+KEPT = """
+(async () => {
+  const answer = (request) => new Promise((done, failed) => {
+    request.onsuccess = () => done(request.result);
+    request.onerror = () => failed(request.error);
+  });
+  const database = await answer(indexedDB.open('dgt_recorder'));
+  const change = database.transaction(['boards', 'games'], 'readwrite');
+  const options = { rotated: false, first: null, fen: null, recover: null, began: '2026.11.26', tags: {}, event: null, site: null, date: null,
+    round: null, white: null, black: null };
+  for (let id = 1; id <= %d; id += 1) {
+    change.objectStore('boards').put({ id, serial: String(10000 + id), info: {}, game: id });
+    change.objectStore('games').put({ id, board: id, name: `board ${id}`, options, end: null, looks: [] });
+  }
+  await new Promise((done) => { change.oncomplete = done; });
+  database.close();
+})()
+"""
+MOST = 48  # boards
 
 CALLS = (  # home, which nobody answers
     "fetch('http://127.0.0.1:9/').then(() => 'sent', (error) => error.name)",
@@ -219,6 +239,23 @@ def no_room(folder: pathlib.Path) -> None:
         play(stage, page, port, RUY[2:4], RUY_SANS[2:4])
         text, capture = stage.saved(page, "#save-game"), stage.saved(page, "#save-capture")
         same(text, of_record(text, capture))
+
+
+@with_chromium
+def too_many_boards(folder: pathlib.Path) -> None:
+    """There are more boards than the browser has room for: the card of the last one says so, until another one is removed."""
+    with Hall(folder) as stage:
+        page = stage.tab()
+        stage.until(lambda: page.shows("#add"), "the page")
+        page.value(KEPT % (MOST + 1))
+        stage.open(page)
+        last = f"a.tile[href='#{MOST + 1}']"
+        stage.until_part(page, last, f"NOT RECORDED: the browser has room for {MOST} boards at a time")
+        same([page.value("document.querySelectorAll('a.tile').length"), said(page).count("NOT RECORDED")], [MOST + 1, 1])
+        stage.enlarge(page, 1)
+        page.click("#remove")
+        page.click("#remove")
+        stage.until_part(page, last, "UNPLUGGED")
 
 
 @with_chromium

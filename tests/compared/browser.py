@@ -49,6 +49,7 @@ class Page:
             "/": b"<!doctype html><title>dgt_replay</title>",
             "/dgt_replay.wasm": module.read_bytes(),
             "/hosts/wasm.mjs": (TOP / "hosts" / "wasm.mjs").read_bytes(),
+            "/hosts/process.mjs": (TOP / "hosts" / "process.mjs").read_bytes(),
             "/run.mjs": pathlib.Path(__file__).with_name("run.mjs").read_bytes(),
         }
         self.server = serving(self.files)
@@ -79,3 +80,16 @@ class Page:
                 answer = Answer(it["status"], base64.b64decode(it["output"]), base64.b64decode(it["errors"]))
                 given.append((answer, it["seconds"]))
         return given
+
+    def goes_on(self, words: Sequence[str], parts: Sequence[bytes]) -> Answer:
+        """What a process gives that is given parts of its input one after the other."""
+        self.files["/parts"] = json.dumps({"words": words, "parts": [base64.b64encode(part).decode() for part in parts]}).encode()
+        it = self.tab.value("import('/run.mjs').then((page) => page.goes_on())")
+        assert isinstance(it, dict), it
+        return Answer(it["status"], base64.b64decode(it["output"]), it["errors"].encode())
+
+    def many(self) -> Dict[str, Any]:
+        """How many processes there may be, and what is then."""
+        it = self.tab.value("import('/run.mjs').then((page) => page.many())")
+        assert isinstance(it, dict), it
+        return it

@@ -221,6 +221,39 @@ def module_runs_out_of_memory() -> None:
     expect("some run out, and some don't", {it.status for it in got}, {0, 4})
 
 
+def an_evening(chance: random.Random, sample: bytes) -> List[bytes]:
+    """What a host tells of a game that a board sends, and last what is no entry."""
+    parts = [b"0 begin 0\n", b"0 opened\n"]
+    at = now = 0
+    while at < len(sample):
+        read = sample[at : at + chance.randrange(1, 90)]
+        now += chance.choice((3, 90, 700))
+        parts += [b"%d wake\n" % now] if chance.random() < 0.3 else []
+        parts.append(b"%d heard %d\n%b" % (now, len(read), read))
+        at += len(read)
+    return [*parts, b"what\n"]
+
+
+def module_goes_on_as_x86_64() -> None:
+    """`live` is told a game by parts, and waits for each: with moves that are recovered, and without."""
+    chance = random.Random(SEED)
+    sample = (TOP / "samples" / "long-game.dgt").read_bytes()
+    with page() as browser:
+        for words in (("live",), ("live", "--recover"), ("live", "--rotated", "--first=black")):
+            evening = an_evening(chance, sample)
+            cuts = [b"".join(evening[at : at + 3]) for at in range(0, len(evening), 3)]
+            same([Call(words, b"".join(evening))], [browser.goes_on(words, cuts)])
+
+
+def module_has_processes() -> None:
+    """A browser has room for the boards of a round at least, and has it again when they have ended."""
+    with page() as browser:
+        found = browser.many()
+    print(f"  {found}")
+    expect("room for 48 boards and short calls, and again", (found["most"] >= 56, found["again"]), (True, True))
+    expect("those that were ended", found["killed"], found["most"])
+
+
 class Halves(ctypes.Structure):
     """A number of 128 bits, which x86-64 passes and returns as these two."""
 

@@ -5,6 +5,7 @@
  * to it; without `most` a run has as much memory as `run` gives it. The answers are {"status", "output", "errors", "seconds"},
  * both texts in base64; where an error was thrown, it is the status.
  */
+import { start } from "/hosts/process.mjs";
 import { run } from "/hosts/wasm.mjs";
 
 const program = WebAssembly.compileStreaming(fetch("/dgt_replay.wasm"));
@@ -43,4 +44,45 @@ export async function answers() {
     }
     return { ...answer, seconds: (performance.now() - begun) / 1000 };
   });
+}
+
+/** What a process answers that is given parts of its input one after the other, and ends by itself at the last one. */
+export async function goes_on() {
+  const { words, parts } = await (await fetch("/parts")).json();
+  const written = [];
+  const going = start(await program, words, (bytes) => written.push(...bytes));
+  for (const part of parts) {
+    going.push(bytes_of(part));
+    await new Promise((next) => setTimeout(next));
+  }
+  const { status, errors } = await going.ended;
+  return { status, output: base64_of(Uint8Array.from(written)), errors };
+}
+
+/** Starts processes until there is no room for one more, and ends them: how many there were, and whether there is room again. */
+export async function many() {
+  const module = await program;
+  const going = [];
+  const begins = () => start(module, ["live"], () => {});
+  try {
+    while (going.length < 1000) {
+      going.push(begins());
+    }
+  } catch (error) {
+    if (!(error instanceof RangeError)) {
+      throw error;
+    }
+  }
+  going.forEach(({ kill }) => kill());
+  const ends = await Promise.all(going.map(({ ended }) => ended.catch((error) => error.message)));
+  for (let tries = 0; tries < 100; tries += 1) {
+    await new Promise((next) => setTimeout(next, 100));
+    try {
+      begins().ended.catch(() => {});
+      return { most: going.length, killed: ends.filter((why) => why === "killed").length, again: true };
+    } catch {
+      // The browser hasn't given the room back yet.
+    }
+  }
+  return { most: going.length, again: false };
 }

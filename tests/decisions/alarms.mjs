@@ -1,5 +1,4 @@
-/** When a board has gone on without its game, when the clock was stopped, and when moves are made after the end. */
-import { Agreement } from "/web/board/agreement.js";
+/** When the clock was stopped, and when moves are made after the end. */
 import { pictureOfPlacement } from "/web/device/protocol.js";
 import { AfterTheEnd } from "/web/game/after_the_end.js";
 import { Alarms } from "/web/game/alarms.js";
@@ -11,29 +10,6 @@ import { bytesOf } from "./table.mjs";
 
 const INITIAL = pictureOfPlacement("rnbqkbnr/pppppppp/8/8/8/8/PPPPPPPP/RNBQKBNR");
 const TIME = "time ";
-
-export function agreements(counts, cases) {
-  for (const [name, pictures, expected] of cases("agreements")) {
-    const agreement = new Agreement();
-    const left = [...pictures];
-    const seen = expected.map(([now]) => {
-      while (left.length && left[0][0] < now) {
-        const [when, squares] = left.shift();
-        if (squares) {
-          agreement.differs(when, squares);
-        } else {
-          agreement.agrees();
-        }
-      }
-      return [now, agreement.due()];
-    });
-    counts.same(name, seen, expected);
-  }
-  const agreement = new Agreement();
-  agreement.agrees();
-  agreement.differs(5, 2);
-  counts.same("at 15 s, and not before", [agreement.isOverdue(19.9), agreement.isOverdue(20)], [false, true]);
-}
 
 export function clocks(counts, cases) {
   for (const [data, running] of cases("runs")) {

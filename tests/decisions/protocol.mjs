@@ -1,8 +1,6 @@
 /** Frames, dumps and placements. */
-import * as protocol from "/web/device/protocol.js";
-import { bytesOf, lettersOf } from "./table.mjs";
-
-const { Frames, differing, pictureOfPlacement, serialOf } = protocol;
+import { Frames, differing, endedIn, pictureOfDump, pictureOfPlacement, serialOf } from "/web/device/protocol.js";
+import { bytesOf } from "./table.mjs";
 
 export function serials(counts, cases) {
   for (const [text, expected] of cases("serials")) {
@@ -32,5 +30,16 @@ export function pictures(counts, cases) {
   for (const text of cases("no placements")) {
     counts.refused(`placement ${text}`, "Error", () => pictureOfPlacement(text));
   }
-  counts.same("requests", [protocol.DUMP_REQUEST, protocol.START_REQUEST].map(lettersOf), cases("requests"));
+}
+
+/** What ends in a read: the frames of the streams, counted. */
+export function ended(counts, cases) {
+  for (const [text, expected] of cases("streams")) {
+    const { dumps, time } = endedIn(new Frames(), bytesOf(text));
+    const count = (kind) => expected.filter(([, one]) => one === kind).length;
+    counts.same(text, [dumps, time.length], [count("dump"), count("time") ? 7 : 0]);
+  }
+  for (const [text, expected] of cases("serials")) {
+    counts.same(text, endedIn(new Frames(), bytesOf(text)).serial, expected);
+  }
 }

@@ -1,25 +1,6 @@
-/** Whose board is on a cable: what it says of itself, and whether what comes from it is the game's. */
-import { another, back, mayTake, Whose } from "/web/board/whose.js";
+/** What is said if another board is on a cable. */
+import { another, back, mayTake } from "/web/board/whose.js";
 import { textOfLook } from "/web/game/looks.js";
-
-export function boards(counts, cases) {
-  for (const [name, own, steps, expected] of cases("boards")) {
-    const whose = new Whose(own);
-    for (const [now, step] of steps) {
-      if (step === "connected") {
-        whose.connected(now);
-      } else if (step === "asked") {
-        whose.asked(now);
-      } else if (step === "dump") {
-        whose.dumped();
-      } else {
-        whose.told(step);
-      }
-    }
-    const seen = expected.map(([now]) => [now, whose.isUnsure(now) ? "unsure" : whose.isOther ? "other" : "here"]);
-    counts.same(name, seen, expected);
-  }
-}
 
 export function alarms(counts, cases) {
   for (const [other, hasMoves, text, takes] of cases("told")) {

@@ -1,97 +1,204 @@
-// Has the program attend a board: it is told what comes, as soon as that is kept, and reports its game line by line.
+// Has the program attend the board of a game: it is told what happens, and decides. What it gives to the game is kept before
+// anything of the answer is shown; what it sends to the board goes out at once.
 
+import { ADDED, AWAY, BEGIN, GONE, HEARD, OPENED } from '../game/times.js';
+import { KEEP, OTHER } from '../game/attended.js';
 import { lineOf } from '../game/report.js';
+import { Attendant } from './attendant.js';
+
+const MOST_HELD = 1 << 20; // bytes that no game has, as in the program
+const OPENS = 0.2; // seconds in which a recorder that is begun may get its line
+
+const textBytes = (text) => new TextEncoder().encode(text);
 
 export class Attending {
   /**
-   * `hears` has options, those of the game, and gets hear(line) for each line, and heardAll() when all lines of what was told have
-   * been heard.
+   * `hears` has options and number, those of the game and of its board; and isConnected, whether its line is open or is being
+   * opened. It gets keeps(bytes, at, now, number) with what the capture gets;
+   * asks(words, at) with what the board is sent; handled(handling, other), whose board is on the cable; lends(number, bytes), which
+   * says whether another game has taken them; and, as soon as all is kept, hear(line) for each line, heardAll() after them, and
+   * stands(state, entry) with what the board's state is said to be.
    */
   constructor(hall, guard, hears) {
     this.program = hall.program;
     this.guard = guard;
     this.hears = hears;
-    this.key = null; // of the process
-    this.isAnew = true; // whether another process is to read the capture
+    this.attendant = null;
+    this.isOpen = false; // the line, as the program was told
     this.epoch = 0; // how often the lines were heard from the first one on
     this.lines = [];
     this.heard = 0; // lines that were heard in this epoch
-    this.told = Promise.resolve(); // ends when all lines of what was told have been heard
-    guard.opened(() => this.leave());
+    this.told = 0; // entries
+    this.shown = 0; // the last of them whose answer was shown
+    this.pending = []; // answers that wait until the capture's first `mark` bytes are kept
+    this.isShowing = false;
+    this.held = []; // entries with what the board has sent and no game has
+    this.waiting = []; // those who wait until an entry's answer is shown
+    this.paused = null; // what happens while nothing is told
+    this.later = []; // what the board has sent meanwhile
+    guard.opened(() => this.close());
   }
 
-  /** Attends the board of this capture from now on. All that it has may be read. */
-  take(capture) {
+  /** Attends the board of this capture from now on. All that it has may be shown. */
+  take(capture, times) {
     this.capture = capture;
-    this.size = capture.size; // bytes that were told
+    this.times = times;
+    this.kept = capture.size; // bytes that may be shown
+    this.known = capture.size; // bytes whose lines are heard again with the next `begin`
     this.isAnew = true;
+    this.isHistory = this.attendant === null; // whether its bytes came in the calls before; else the board has just shown them
+    this.before = this.isHistory ? () => this.times.before : () => '';
+    this.began = () => this.times.began;
   }
 
   /** The options of the game are others: the capture is read anew, with the next `begin`. */
   readAnew() {
     this.isAnew = true;
+    this.isHistory = true;
+    this.known = this.capture.size;
+    this.before = () => this.times.all;
+    this.began = () => this.guard.counted();
   }
 
-  /** The bytes whose lines are heard again with the next `begin`. */
-  get known() {
-    return this.isAnew ? this.size : this.answered;
-  }
-
-  leave() {
-    if (this.key !== null) this.program.leave(this.key);
-    this.key = null;
+  close() {
+    if (this.attendant) this.attendant.leave();
+    this.waiting.forEach(({ done }) => done());
+    this.waiting = [];
   }
 
   /** All lines are heard again. */
   begin() {
     this.epoch += 1;
     this.heard = 0;
-    if (this.isAnew) this.attend();
-    else this.then(async () => this.hear());
+    if (this.isAnew) {
+      this.attend();
+      return;
+    }
+    this.told += 1;
+    this.pending.push({ number: this.told, mark: 0, entry: null, answer: { report: [], state: null } });
+    this.guard.call(() => Promise.resolve().then(() => this.show())); // whoever wants them again goes on first
   }
 
   /** A process reads the capture, and attends the board from now on. */
   attend() {
     this.isAnew = false;
-    this.leave();
-    this.key = this.program.attend(this.hears.options);
+    const isBegun = this.attendant !== null;
+    if (isBegun) this.attendant.leave();
+    const { held, isHistory } = this;
+    const { options, number } = this.hears;
+    const sent = this.capture.bytes();
+    const hears = {
+      told: (entry) => this.hasTold(entry),
+      answered: (entry, answer) => this.answered(entry, answer),
+      wake: () => this.tell('wake'),
+    };
+    const attendant = new Attendant(this.program, this.guard, options, hears, this.began());
+    this.attendant = attendant;
     this.lines = [];
-    this.answered = this.size; // bytes whose lines are known once the process has read what was there before
-    if (this.size > 0) this.tell('capture', this.capture.bytes(this.size));
-    this.tell('begin', this.size);
+    this.pending = [];
+    this.held = [];
+    const before = isHistory ? this.before() : '';
+    if (before) attendant.send('kept', textBytes(before));
+    if (isHistory && sent.length > 0) attendant.send('capture', sent);
+    attendant.send(BEGIN, isHistory ? sent.length : 0);
+    if (this.times.awayFor !== null) attendant.send(AWAY, this.times.awayFor);
+    if (number) attendant.send('number', textBytes(number));
+    if (isBegun || this.isOpen) attendant.send(this.isOpen ? OPENED : GONE);
+    else this.guard.after(OPENS, () => this.hears.isConnected || this.tell(GONE));
+    if (!isHistory && sent.length > 0) attendant.send(ADDED, sent);
+    held.forEach(({ given, at }) => attendant.send(HEARD, given, at));
   }
 
-  /** These bytes are kept: they may be reported. */
-  kept(bytes) {
-    this.size += bytes.length;
-    this.tell('added', bytes, bytes.length);
+  // What it is told.
+
+  /** This happens. */
+  tell(word, given = null, at = this.guard.counted()) {
+    if (this.paused && word === HEARD) this.later.push(given);
+    this.inTurn(() => this.tellNow(word, given, at));
   }
 
-  /** Tells the process something. It has so many bytes more when that is answered. */
-  tell(word, given, more = 0) {
-    const { key } = this;
-    const asked = this.program.tell(key, 0, word, given);
-    asked.catch(() => {}); // it is looked at in its turn
-    this.then(async () => {
-      if (key !== this.key) return;
-      const answer = await asked.catch((error) => this.fails(key, error));
-      if (key !== this.key) return;
-      this.answered += more;
+  /** The same, also while nothing else is told. */
+  tellNow(word, given = null, at = this.guard.counted()) {
+    if (word === OPENED || word === GONE) this.isOpen = word === OPENED;
+    this.attendant.tell(word, given, at);
+  }
+
+  /** Does this now, or when what happens is told again. */
+  inTurn(work) {
+    if (this.paused) this.paused.push(work);
+    else work();
+  }
+
+  /** Nothing is told until `goOn`. */
+  pause() {
+    this.paused = this.paused || [];
+  }
+
+  goOn() {
+    const works = this.paused || [];
+    this.paused = null;
+    this.later = [];
+    this.guard.call(() => works.forEach((work) => work()));
+  }
+
+  hasTold(entry) {
+    this.told += 1;
+    entry.number = this.told;
+    if (entry.word === HEARD) this.held.push(entry);
+  }
+
+  // What it answers.
+
+  answered(entry, answer) {
+    entry.isAnswered = true;
+    if (answer.handling) this.settle(entry, answer);
+    if (answer.kept.length > 0) this.hears.keeps(answer.kept, entry.at, entry.now, answer.number);
+    if (answer.handling) this.hears.handled(answer.handling, answer.other);
+    if (answer.handling === OTHER) this.lend(answer.other);
+    if (answer.asks) this.hears.asks(answer.asks, entry.at);
+    this.pending.push({ number: entry.number, mark: this.capture.size, entry, answer });
+    this.show();
+  }
+
+  /** What was held has come to the game, or is another board's, or is dropped with its line. */
+  settle({ word }, { handling, other }) {
+    const isOld = (one) => one.isAnswered && (handling === KEEP || (handling === OTHER && one.owner && one.owner !== other));
+    const isDropped = (one) => one.isAnswered && !one.owner && (word === OPENED || word === GONE);
+    this.held = this.held.filter((one) => !isOld(one) && !isDropped(one));
+    if (handling === OTHER) this.held.filter(({ isAnswered }) => isAnswered).forEach((one) => Object.assign(one, { owner: other }));
+    let size = this.held.reduce((sum, { given }) => sum + given.length, 0);
+    while (size > MOST_HELD) size -= this.held.shift().given.length;
+  }
+
+  /** Gives what another board has sent to the game that has it, if there is one. */
+  lend(number) {
+    const count = this.held.length;
+    while (this.held.length > 0 && this.held[0].isAnswered && this.hears.lends(number, this.held[0].given)) this.held.shift();
+    if (this.held.length < count) this.tell('lent');
+  }
+
+  /** These bytes are kept: they may be shown. */
+  isKept(bytes) {
+    this.kept += bytes.length;
+    this.show();
+  }
+
+  /** Shows the answers of which all is kept. */
+  show() {
+    if (this.isShowing) return;
+    this.isShowing = true;
+    while (this.pending.length > 0 && this.pending[0].mark <= this.kept && !this.guard.ended) {
+      const { number, mark, entry, answer } = this.pending.shift();
       for (const line of answer.report) this.lines.push(line);
-      this.hear();
-    });
-  }
-
-  /** A process that another one has replaced may end as it likes. */
-  fails(key, error) {
-    if (key === this.key) throw error;
-  }
-
-  /** Does this after what was begun before it. An error ends the recording. */
-  then(work) {
-    const done = this.told.then(() => (this.guard.ended ? null : work()));
-    this.told = done.catch(() => {});
-    this.guard.call(() => done);
+      this.known = Math.max(this.known, mark);
+      if (answer.report.length > 0 || !entry) this.hear();
+      if (answer.state) this.hears.stands(answer.state, entry);
+      this.shown = number;
+    }
+    this.isShowing = false;
+    const { shown } = this;
+    this.waiting.filter(({ number }) => number <= shown).forEach(({ done }) => done());
+    this.waiting = this.waiting.filter(({ number }) => number > shown);
   }
 
   hear() {
@@ -105,11 +212,21 @@ export class Attending {
     this.hears.heardAll();
   }
 
-  /** The promise ends when all lines of what was kept have been heard. */
-  async read() {
-    for (let { told } = this; ; told = this.told) {
-      await told;
-      if (told === this.told) return;
-    }
+  /** The promise ends when all is shown that comes of what was told. */
+  read() {
+    const number = this.told;
+    if (this.shown >= number || this.guard.ended) return Promise.resolve();
+    return new Promise((done) => {
+      this.waiting.push({ number, done });
+    });
+  }
+
+  /** What the program hasn't answered, and can't any more: it counts as the game's, unless what came before it was held. */
+  takeUnanswered() {
+    const isHeld = this.held.some(({ isAnswered }) => isAnswered);
+    const unanswered = isHeld ? [] : [...this.held.map(({ given }) => given), ...this.later];
+    this.held = [];
+    this.later = [];
+    return unanswered;
   }
 }

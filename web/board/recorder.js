@@ -1,7 +1,7 @@
 // The games of one board while it is recorded. What came is kept first, then reported, and the PGN is made anew when
 // the game has changed.
 
-import { STRAY, joined, lastDump, same } from '../device/protocol.js';
+import { Frames, endedIn, joined, lastDump, same } from '../device/protocol.js';
 import { AfterTheEnd } from '../game/after_the_end.js';
 import { Alarms, acknowledged } from '../game/alarms.js';
 import { endingWithSign, gameEnd } from '../game/ending.js';
@@ -12,26 +12,24 @@ import { ProgramError } from '../game/program.js';
 import { gameOf, newCourse, textOf } from '../game/reading.js';
 import { codesOf, shortOf, shownOf } from '../game/report.js';
 import { ABSENT, Refused } from '../game/typed.js';
-import { ADDED, HEARD, OVER, isOf, kept as foundIn } from '../game/times.js';
+import { ADDED, ASKED, HEARD, OVER, isOf, kept as foundIn } from '../game/times.js';
 import { reached, readBack } from '../game/way_back.js';
 import { Capture, LARGEST } from '../kept/capture.js';
 import { spread, withMore } from '../kept/spread.js';
 import { Times } from '../kept/times.js';
 import { Attending } from './attending.js';
 import { Cable } from './cable.js';
-import { BoardState, DISK_FULL, Kind, TURNED_ROUND, lasting } from './state.js';
+import { DISK_FULL, Kind, lasting, stateOf } from './state.js';
 import { Typing } from './typing.js';
 import { another, back as backAgain, mayTake } from './whose.js';
 
 const LINGER = 10.0; // seconds after which a result ends the game
 const LATE = 1.0; // seconds by which a timer is late if the page was stopped meanwhile
-const SETTLES = 0.2; // seconds after which all lines of a byte have been heard
-const SURELY_SETTLES = 1.0; // the same, if a late line would be taken for another one
+const STANDS = 0.2; // seconds for which the start is shown before it ends a game
 const TICK = 1.0; // seconds between two looks at what waits
 const NO_PLIES = '0';
 const ROOM = 1 << 20; // bytes that are left for what `recover` adds: the program reads no more than LARGEST
 const SAID = [Kind.WRONG, Kind.NO_START]; // states that are reported as lines too
-const TOLD = ['move', 'result', 'differs', 'agrees'];
 
 const Reason = {
   RESULT: 'it has a result',
@@ -58,9 +56,13 @@ export class Recorder {
     this.made = null; // a promise that ends when the wanted text is made
     this.trouble = ''; // why it isn't recorded
     this.isStopped = false;
+    this.isSilent = false; // whether no board answers
     this.wasAway = false; // unplugged or silent since it was last heard
     this.isPutBack = false; // whether plies were taken off, or the game goes on, and that isn't reported yet
     this.gap = null; // how long it wasn't heard, while the report is read anew
+    this.said = { kind: 'WAITS', lasted: null, squares: [], hint: '' }; // of the board's state; `saidAt` is when
+    this.saidAt = guard.now();
+    this.differs = []; // the squares that the report has named last
     this.isUnkept = false; // whether the game's record couldn't be kept
     this.keeping = null; // a promise that ends when it was last kept, or couldn't be
     this.isLate = false; // whether the next game couldn't be begun
@@ -69,11 +71,12 @@ export class Recorder {
     this.typing = new Typing(this);
     this.attending = new Attending(hall, guard, this);
     this.cable = new Cable(guard, kept.board.serial || '', this);
+    guard.opened(() => this.keepUnanswered());
     const capture = kept.capture || new Capture(this.database, kept.game.id, kept.chunks);
     this.takeGame(kept.game, capture, new Times(this.database, guard, kept.game, capture, this));
     this.times.open(kept.times, Boolean(kept.capture));
     this.tick = guard.after(TICK, () => this.eachSecond());
-    this.reread(true);
+    this.reread();
   }
 
   /** Records this game from now on. */
@@ -82,15 +85,16 @@ export class Recorder {
     this.capture = capture;
     this.times = times;
     capture.hearBy({
-      kept: (bytes) => this.guard.call(() => this.attending.kept(bytes)),
+      kept: (bytes) => this.guard.call(() => this.attending.isKept(bytes)),
       changed: () => this.guard.call(() => this.diskChanged()),
     });
-    this.attending.take(this.capture);
+    this.attending.take(capture, times);
     this.opened = this.capture.size;
     this.heardAt = this.capture.lastAt === null ? this.guard.now() : this.capture.lastAt;
     this.away = this.guard.away(); // the seconds that this page was away by then
     this.isRestart = this.capture.lastAt !== null;
-    this.showsItself = !this.isRestart;
+    this.frames = new Frames(); // of what comes on its own cable
+    this.lentFrames = new Frames(); // of what comes on another game's
     this.awaitsDump = false;
     this.byHand = [0, 0]; // the bytes that were added last
   }
@@ -131,27 +135,17 @@ export class Recorder {
   // Reading the capture.
 
   /** Everything is read again: at the beginning, with other options, or from another capture. */
-  reread(isFirst = false) {
+  reread() {
     this.old = this.attending.known; // bytes whose report isn't news
     this.isOld = true;
     this.course = newCourse(this.options);
     this.alarms = new Alarms(this.course, this.game.looks);
-    const before = this.state;
-    this.state = new BoardState(this.course.start, TURNED_ROUND);
-    if (before) {
-      this.state.silentSince = before.silentSince;
-      this.state.unpluggedSince = before.unpluggedSince;
-    } else {
-      this.state.unplugged(this.guard.now());
-    }
-    this.state.disk(this.capture.trouble);
     this.cancelLingering();
     this.after = null;
     this.startAt = null; // where the start was last shown
     this.starts = []; // where it was shown after the game's end
-    this.isFirstReading = isFirst;
-    this.wantText();
     this.attending.begin();
+    this.wantText();
   }
 
   /** All lines have been heard. */
@@ -170,6 +164,7 @@ export class Recorder {
     if (this.isOld && !isOld) this.tellOld();
     const now = this.capture.times.of(offset); // when it came: the report may be late
     if (event.kind === 'picture' && same(codesOf(event.placement), this.course.start)) this.startAt = offset;
+    if (event.kind === 'differs') this.differs = event.squares;
     if (this.isOver && offset >= this.game.end) {
       if (offset >= this.overTo) this.hearAfter(line, isOld);
       return;
@@ -179,15 +174,11 @@ export class Recorder {
     if (isOld) return;
     const isByHand = offset >= this.byHand[0] && offset < this.byHand[1];
     const look = this.alarms.take(now, line, isByHand);
-    if (event.kind === 'picture') {
-      this.state.shows(codesOf(event.placement));
-      if (this.course.standsAgain) this.guard.after(SETTLES, () => this.lookAtStart());
-    } else if (event.kind === 'recovered') {
+    if (event.kind === 'picture' && this.course.standsAgain) this.guard.after(STANDS, () => this.lookAtStart());
+    if (event.kind === 'recovered') {
       this.hears.says(`${event.text}: look whether these moves were played`);
-    } else if (TOLD.includes(event.kind)) {
-      this.state.showsItself();
-      this.state.told(now, event);
-      if (event.kind === 'move' || event.kind === 'result') this.hearChange(event);
+    } else if (event.kind === 'move' || event.kind === 'result') {
+      this.hearChange(event);
     }
     this.tellLook(look);
   }
@@ -216,32 +207,45 @@ export class Recorder {
     return this.isOver && this.after !== null && this.after.isAltered;
   }
 
-  /** Takes over what was played earlier, and the board's last state until the board shows itself. */
+  /** Takes over what was played earlier. */
   tellOld() {
     this.isOld = false;
-    const now = this.guard.now();
     this.alarms = new Alarms(this.course, this.game.looks);
     if (this.isPutBack) this.alarms.putBack(this.course.board);
     this.isPutBack = false;
     if (this.gap) this.alarms.away(this.gap.seconds, this.gap.isRestart);
     this.gap = null;
-    this.state.look = this.alarms.looks.short;
-    if (this.isFirstReading && this.old > 0 && !this.showsItself) this.state.goesOn();
-    if (this.course.board) this.state.shows(this.course.board);
-    for (const event of this.course.standing()) this.state.told(now, event);
     if (this.isOver) return;
     this.hearResult(this.course.result, true);
-    if (this.course.stoodAgain) this.guard.after(SETTLES, () => this.lookAtStart());
+    if (this.course.stoodAgain) this.guard.after(STANDS, () => this.lookAtStart());
   }
 
-  // What the cable brings.
+  // What the program decides.
 
-  /** The board has sent this. */
-  heard({ bytes, ended }) {
-    if (this.typing.holds({ bytes, ended })) return;
+  /** The number of the game's board, empty if unknown. */
+  get number() {
+    return this.cable.number;
+  }
+
+  /** Whether its line is open, or is being opened. */
+  get isConnected() {
+    return this.cable.isOpen;
+  }
+
+  /**
+   * The game gets what the board on its cable has sent. It came then, by the clock that counts on, and by the page's. The
+   * program may say the number that the game's board has from now on.
+   */
+  keeps(bytes, at, now, number) {
+    const ended = endedIn(this.frames, bytes);
+    if (number || ended.serial) this.cable.gives(number || ended.serial, bytes);
+    if (!this.cable.isLeft) this.takeSent(bytes, ended, at, now); // else another game has this board, and these bytes
+  }
+
+  /** What its board has sent comes to the game. */
+  takeSent(bytes, ended, at, now) {
     const room = LARGEST - this.capture.size;
     if (room <= 0) return; // the game is over, and nobody has begun another one
-    const now = this.guard.now();
     const unheard = this.guard.away() - this.away;
     const silence = Math.max(now - this.heardAt, unheard);
     this.heardAt = now;
@@ -255,15 +259,62 @@ export class Recorder {
     this.wasAway = false;
     this.isRestart = false;
     if (ended.time.length > 0) this.alarms.time(now, ended.time, this.capture.size);
-    this.append(bytes.slice(0, room), HEARD);
-    if (ended.dumped) this.dumped();
+    this.append(bytes.slice(0, room), HEARD, at, now);
+    if (ended.dumps > 0 && this.awaitsDump) {
+      this.awaitsDump = false;
+      this.guard.call(() => this.tellStands());
+    }
     this.lookAtLimit();
   }
 
-  /** Appends what the board has sent, or somebody has added. */
-  append(bytes, what) {
-    this.capture.append(bytes, this.guard.now());
-    this.times.note(what, bytes.length);
+  /** Once all lines about a dump have been heard. */
+  async tellStands() {
+    await this.attending.read();
+    if (!this.guard.ended) this.tellLook(this.alarms.stands(this.guard.now()));
+  }
+
+  /** The capture gets what the board has sent, or somebody has added. */
+  append(bytes, what, at = this.guard.counted(), now = this.guard.now()) {
+    this.capture.append(bytes, now);
+    this.times.note(what, bytes.length, at);
+  }
+
+  /** If an error ends the recording, what the program hasn't answered is kept. */
+  keepUnanswered() {
+    if (!this.guard.error) return;
+    for (const bytes of this.attending.takeUnanswered()) this.append(bytes, HEARD);
+  }
+
+  /** The board is asked with these letters. */
+  asks(letters, at) {
+    if (this.cable.write(new TextEncoder().encode(letters))) this.times.note(ASKED, letters.length, at);
+  }
+
+  handled(handling, other) {
+    this.cable.handled(handling, other);
+  }
+
+  /** Another game's cable has brought this, which is this board's. */
+  takeLent(bytes) {
+    this.attending.inTurn(() => {
+      this.takeSent(bytes, endedIn(this.lentFrames, bytes), this.guard.counted(), this.guard.now());
+      this.attending.tellNow(ADDED, bytes);
+    });
+  }
+
+  /** This is the state of the board from now on. */
+  stands(said, { word, now }) {
+    this.said = said;
+    this.saidAt = now;
+    const isSilent = said.kind === 'SILENT';
+    if (isSilent !== this.isSilent) this.silence(isSilent, word);
+    this.hears.changed();
+  }
+
+  /** How the board stands. */
+  get state() {
+    const beside = { result: this.course.result, disk: this.capture.trouble, look: this.alarms.looks.short };
+    return stateOf(this.said, this.saidAt, this.differs, beside);
   }
 
   /** A game is over when its capture has as many bytes as the program reads. */
@@ -278,41 +329,33 @@ export class Recorder {
     if (!this.isOver) this.hears.says(`${what}: the board wasn't heard`);
   }
 
-  /** What came ends a complete dump. The program's report on it follows soon. */
-  dumped() {
-    if (!this.showsItself) {
-      this.showsItself = true;
-      this.guard.after(SETTLES, () => {
-        this.state.showsItself();
-        this.hears.changed();
-      });
-    }
-    if (this.awaitsDump) {
-      this.awaitsDump = false;
-      this.guard.after(SURELY_SETTLES, () => this.tellLook(this.alarms.stands(this.guard.now())));
-    }
-  }
-
   says(text) {
     this.hears.says(text);
   }
 
+  // What the cable brings.
+
+  /** The board has sent this. */
+  came(bytes) {
+    this.attending.tell(HEARD, bytes);
+  }
+
   /** This happens on its cable. */
-  happened(what, count) {
-    this.times.note(what, count);
+  happened(what) {
+    const at = this.guard.counted();
+    this.times.note(what, null, at);
+    this.attending.tell(what, null, at);
   }
 
   plugged() {
     this.trouble = '';
     this.isStopped = false;
-    this.state.plugged();
     this.hears.changed();
   }
 
   unplugged() {
     this.wasAway = true;
     if (!this.isOver) this.hears.says("its device isn't there: plug it in again; the recording then goes on");
-    this.state.unplugged(this.guard.now());
     this.hears.changed();
   }
 
@@ -322,15 +365,13 @@ export class Recorder {
     this.hears.changed();
   }
 
-  silence(isSilent) {
+  /** No board answers, or one does again: that is said if it has sent something. */
+  silence(isSilent, word) {
+    this.isSilent = isSilent;
     this.wasAway = this.wasAway || isSilent;
-    this.state.silent(this.guard.now(), isSilent);
-    this.hears.says(
-      isSilent
-        ? "no board answers on its device; it is asked again and again. Look at the cable, and at the board's power"
-        : 'the board answers again',
-    );
-    this.hears.changed();
+    const what = "no board answers on its device; it is asked again and again. Look at the cable, and at the board's power";
+    if (isSilent) this.hears.says(what);
+    else if (word === HEARD) this.hears.says('the board answers again');
   }
 
   numbered(number) {
@@ -353,8 +394,8 @@ export class Recorder {
     this.tellLook(this.alarms.add(backAgain(this.cable.number, other)));
   }
 
-  lends(number, heard) {
-    return this.hears.lends(number, heard);
+  lends(number, bytes) {
+    return this.hears.lends(number, bytes);
   }
 
   // Alarms.
@@ -366,7 +407,6 @@ export class Recorder {
   }
 
   looksChanged() {
-    this.state.look = this.alarms.looks.short;
     this.game = { ...this.game, looks: this.alarms.looks.open };
     this.keepGame();
     this.hears.changed();
@@ -413,7 +453,6 @@ export class Recorder {
   }
 
   diskChanged() {
-    this.state.disk(this.capture.trouble);
     const { trouble, why } = this.capture;
     const what = `${trouble}: the browser can't keep what the board sends (${why}). Don't reload this page.`;
     const room = trouble === DISK_FULL ? 'Make room on the disk' : 'Is there room on the disk?';
@@ -432,7 +471,7 @@ export class Recorder {
 
   /** Reports an alarm of the state, once. */
   sayState() {
-    const state = this.state.state(this.guard.now());
+    const { state } = this;
     const news = JSON.stringify([this.game.id, ...state.news]);
     const isNew = news !== this.lastNews;
     this.lastNews = news;
@@ -668,10 +707,8 @@ export class Recorder {
     this.takeGame(game, capture, this.times.next(game, capture));
     this.times.goOn();
     this.isRestart = false;
-    this.showsItself = true;
     this.pgn = '';
     this.reread();
-    this.cable.added(STRAY);
   }
 
   // What is put into the capture.
@@ -680,8 +717,8 @@ export class Recorder {
   async add(put) {
     this.byHand = [this.capture.size, this.capture.size + put.length];
     this.append(put, ADDED);
+    this.attending.tellNow(ADDED, put);
     this.game = { ...this.game, typedTo: this.capture.size };
-    this.cable.added(put);
     await Promise.all([this.capture.write(), this.keepGame()]);
   }
 
@@ -733,11 +770,9 @@ export class Recorder {
     capture.trouble = this.capture.trouble;
     this.takeGame(game, capture, times);
     this.isRestart = false;
-    this.showsItself = true;
     this.wasAway = true; // pieces may have been moved meanwhile
     this.isPutBack = changes.end === null;
     this.reread();
-    this.cable.added(STRAY);
   }
 
   /** Puts in what a longer capture of this game has beyond what was kept when the game was opened, with its times. */

@@ -1,13 +1,6 @@
-// The state of a board, as an arbiter reads it: from what the program reports, what the line and the disk do, and the
-// time. Its words are those of dgt_round.
+// The state of a board in an arbiter's words, which are those of dgt_round. The program decides which it is. Pure.
 
-import { differing } from '../device/protocol.js';
-import { Agreement } from './agreement.js';
-
-const HAND = 10.0; // seconds that a hand may take
-const MOST_IN_HAND = 6; // squares: castling changes four, and a neighbour or two may be straightened
 const MOST_LISTED = 8;
-const ONE_MOVE = 4; // squares that a move changes, at most
 export const TURNED_ROUND = 'is the board turned round?';
 const OTHER_BOARD = 'another board may be on this cable';
 export const DISK_FULL = 'DISK FULL'; // the disk has no room
@@ -24,6 +17,18 @@ export const Kind = {
   SILENT: 'SILENT',
   UNPLUGGED: 'UNPLUGGED',
 };
+const KINDS = {
+  WAITS: Kind.WAITS,
+  AGREES: Kind.AGREES,
+  RESULT: Kind.RESULT,
+  'IN-HAND': Kind.IN_HAND,
+  WRONG: Kind.WRONG,
+  'NO-START': Kind.NO_START,
+  'SETTING-UP': Kind.SETTING_UP,
+  SILENT: Kind.SILENT,
+  UNPLUGGED: Kind.UNPLUGGED,
+};
+const HINTS = { 'TURNED-ROUND': TURNED_ROUND, 'OTHER-BOARD': OTHER_BOARD };
 const ALARMS = [Kind.WRONG, Kind.NO_START, Kind.SILENT, Kind.UNPLUGGED];
 
 /** A duration in words: `40 s`, `3 min`, `2 h 05 min`. */
@@ -34,7 +39,7 @@ export function lasting(seconds) {
   return `${Math.floor(whole / 3600)} h ${String(Math.floor(whole / 60) % 60).padStart(2, '0')} min`;
 }
 
-/** The state at a moment. */
+/** The state at a moment. `since` is null if it isn't known for how long it has been so. */
 export class State {
   constructor(kind, since, { squares = [], result = '', hint = '', disk = '', look = '' } = {}) {
     Object.assign(this, { kind, since, squares, result, hint, disk, look });
@@ -81,155 +86,18 @@ export class State {
   /** The state in a line. */
   text(now, mostListed = MOST_LISTED) {
     const [front, rest] = this.parts(mostListed);
-    const lasts = ALARMS.includes(this.kind) && now >= this.since + 1 ? ` since ${lasting(now - this.since)}` : '';
+    const isLong = this.since !== null && now >= this.since + 1;
+    const lasts = ALARMS.includes(this.kind) && isLong ? ` since ${lasting(now - this.since)}` : '';
     return front + lasts + rest;
   }
 }
 
-/** Takes what happens at a board, and says its state at any time. */
-export class BoardState {
-  constructor(start = null, turnedHint = TURNED_ROUND) {
-    this.start = start; // of the game, for the hint on a board that lies the other way round
-    this.turnedHint = turnedHint;
-    this.look = ''; // the open alarms, in few words
-    this.since = 0; // when it was first seen, when it agreed, or when the first square differed
-    this.seen = false;
-    this.squares = new Map(); // those that differ, and since when each one has
-    this.changedAt = 0;
-    this.settingUp = false;
-    this.played = false;
-    this.result = '';
-    this.silentSince = null;
-    this.unpluggedSince = null;
-    this.trouble = '';
-    this.picture = null;
-    this.replugged = false;
-    this.hint = '';
-    this.isOld = false; // what was reported is from before this recorder began, and the board has shown nothing since
-    this.agreement = new Agreement();
-  }
-
-  /** What the program reports about a picture. */
-  told(now, event) {
-    if (!event) return;
-    if (event.kind === 'move') {
-      this.played = true;
-      this.differs(now, []);
-    } else if (event.kind === 'result') {
-      this.result = '';
-      this.differs(now, []);
-      this.result = event.outcome.replace('*', '');
-    } else if (event.kind === 'agrees') {
-      this.differs(now, []);
-    } else if (event.kind === 'differs') {
-      this.differs(now, event.squares);
-    }
-  }
-
-  /** The picture differs from the game's position on these squares; on none, it agrees. */
-  differs(now, squares) {
-    const before = this.squares;
-    this.squares = new Map([...squares].map((square) => [square, before.has(square) ? before.get(square) : now]));
-    const isLeftOfSetUp = this.squares.size <= MOST_IN_HAND && MOST_IN_HAND < before.size;
-    if (isLeftOfSetUp) this.squares.forEach((since, square) => this.squares.set(square, now));
-    this.changedAt = now;
-    if (this.squares.size > 0) this.agreement.differs(now, this.squares.size);
-    else this.agreement.agrees();
-    if (this.squares.size === 0) {
-      this.settingUp = false;
-      this.hint = '';
-    } else if (this.squares.size > MOST_IN_HAND) {
-      this.settingUp = true;
-    }
-    if (!this.result && !(this.seen && before.size > 0 && this.squares.size > 0)) this.since = now;
-    this.seen = true;
-  }
-
-  /** A dump has shown this picture. */
-  shows(picture) {
-    if (this.replugged && this.picture && differing(this.picture, picture).length > ONE_MOVE) {
-      this.hint = OTHER_BOARD;
-    } else if (this.hint !== OTHER_BOARD) {
-      const turned = this.start && !this.played && turnedRound(picture, this.start);
-      this.hint = turned ? this.turnedHint : '';
-    }
-    this.picture = picture;
-    this.replugged = false;
-  }
-
-  /** The next reports are from before this recorder began, until the board shows itself. */
-  goesOn() {
-    this.isOld = true;
-  }
-
-  /** From now on the reports give the board's present state. */
-  showsItself() {
-    this.isOld = false;
-  }
-
-  /** The line has gone away. */
-  unplugged(now) {
-    if (this.unpluggedSince === null) this.unpluggedSince = now;
-    this.silentSince = null;
-  }
-
-  /** The line is open, or open again. Its next picture is compared with the last one. */
-  plugged() {
-    this.replugged = true;
-    this.unpluggedSince = null;
-  }
-
-  /** Whether the board answers. */
-  silent(now, isSilent) {
-    if (!isSilent) this.silentSince = null;
-    else if (this.silentSince === null) this.silentSince = now;
-  }
-
-  /** What keeps something from being written, if anything. */
-  disk(trouble) {
-    this.trouble = trouble;
-  }
-
-  /** The state at this time. */
-  state(now) {
-    const beside = { disk: this.trouble, look: this.look };
-    if (this.unpluggedSince !== null) return new State(Kind.UNPLUGGED, this.unpluggedSince, beside);
-    if (this.silentSince !== null) return new State(Kind.SILENT, this.silentSince, beside);
-    if (this.isOld) return new State(Kind.WAITS, this.since, beside);
-    const [kind, squares] = this.shown(now);
-    let since = squares.length > 0 ? Math.min(...squares.map((square) => this.squares.get(square))) : this.since;
-    if (squares.length > 0 && this.agreement.isOverdue(now)) since = this.agreement.since;
-    return new State(kind, since, { ...beside, squares, result: this.result, hint: this.hint });
-  }
-
-  /** What the pictures say, and the squares that are shown with it. */
-  shown(now) {
-    if (!this.seen) return [Kind.WAITS, []];
-    if (this.result) return [Kind.RESULT, []];
-    if (this.squares.size === 0) return [Kind.AGREES, []];
-    const moving = now < this.changedAt + HAND;
-    const many = this.squares.size > MOST_IN_HAND;
-    const all = [...this.squares.keys()];
-    const old = all.filter((square) => now >= this.squares.get(square) + HAND);
-    if (this.agreement.isOverdue(now)) {
-      const isWrong = this.played || this.agreement.hasAgreed;
-      return [isWrong ? Kind.WRONG : Kind.NO_START, old.length > 0 ? old : all];
-    }
-    if (this.settingUp && (moving || (many && !this.played))) return [Kind.SETTING_UP, []];
-    return old.length > 0 ? [Kind.WRONG, old] : [Kind.IN_HAND, all];
-  }
-
-  /** When the state changes even if nothing happens. */
-  due(now) {
-    if (this.squares.size === 0) return Infinity;
-    const times = [...this.squares.values()].map((since) => since + HAND);
-    times.push(this.changedAt + HAND, this.agreement.due());
-    return Math.min(Infinity, ...times.filter((time) => time > now));
-  }
-}
-
-/** Whether a board that lies the other way round shows the start, but for a piece or two that are still to come. */
-export function turnedRound(picture, start) {
-  const turned = differing([...picture].reverse(), start).length;
-  return turned <= ONE_MOVE && differing(picture, start).length >= 16;
+/**
+ * The state that the program has said at this time. `differs` are the squares that its report has named last; `beside` has the
+ * game's result, and what the page itself says: { result, disk, look }.
+ */
+export function stateOf({ kind, lasted, squares, hint }, at, differs, { result, disk, look }) {
+  const since = lasted === null ? null : at - lasted / 1000;
+  const named = KINDS[kind] === Kind.IN_HAND ? differs : squares;
+  return new State(KINDS[kind], since, { squares: named, result: result.replace('*', ''), hint: HINTS[hint] || '', disk, look });
 }

@@ -27,32 +27,22 @@ function unkept({ trouble, why }) {
 export class Typing {
   constructor(recorder) {
     this.recorder = recorder;
-    this.held = []; // what comes while something is being put in
-    this.isHolding = false;
     this.last = Promise.resolve();
     this.answered = Promise.resolve(); // ends when all lines typed so far are answered
     this.asked = ''; // the last question before many plies would go
-  }
-
-  /** Holds back what the board has sent while something is being put in. Returns whether it does. */
-  holds(heard) {
-    if (this.isHolding) this.held.push(heard);
-    return this.isHolding;
   }
 
   /** Does this work while all that comes waits: none of it is taken or shown meanwhile. */
   exclusively(work) {
     const { recorder } = this;
     const done = this.last.then(async () => {
-      this.isHolding = true;
+      recorder.attending.pause();
       try {
+        await recorder.attending.read();
         await recorder.capture.write();
         return await work();
       } finally {
-        this.isHolding = false;
-        const { held } = this;
-        this.held = [];
-        recorder.guard.call(() => held.forEach((one) => recorder.heard(one)));
+        recorder.attending.goOn();
       }
     });
     this.last = done.catch(() => {});

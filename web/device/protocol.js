@@ -1,17 +1,12 @@
-// The board's protocol, as far as a recorder needs it: where frames end, three requests, the dump of a picture, and the
-// board's serial number. What the frames mean is the program's to say.
-
-export const DUMP_REQUEST = Uint8Array.of(0x42); // a board dump
-export const START_REQUEST = Uint8Array.of(0x42, 0x4b); // a board dump, then field updates, and times when they change
-export const SERIAL_REQUEST = Uint8Array.of(0x45); // the board's serial number
+// The board's protocol, as far as a recorder needs it: where frames end, the dump of a picture, and the board's serial
+// number. What the frames mean is the program's to say.
 
 export const DUMP_ID = 0x86;
 const UPDATE_ID = 0x8e;
-export const TIME_ID = 0x8d;
+const TIME_ID = 0x8d;
 const SERIAL_ID = 0x91;
-export const STRAY = Uint8Array.of(0x00); // in no frame: a fault, after which no update counts until the next dump
 export const SIZES = { [DUMP_ID]: 67, [UPDATE_ID]: 5, [TIME_ID]: 10 };
-export const HEADER = 3; // bytes of a frame before its data
+const HEADER = 3; // bytes of a frame before its data
 const HIGHEST_CODE = 15;
 const HIGHEST_FIELD = 63;
 const SERIAL_LENGTH = 5; // characters of a serial number
@@ -79,6 +74,18 @@ export class Frames {
     this.frame = [];
     return KINDS[this.whole[0]] || 'other';
   }
+}
+
+/** What ends in these bytes: how many dumps; the last time message, as its seven bytes; the board's serial number. */
+export function endedIn(frames, bytes) {
+  const ended = { dumps: 0, time: new Uint8Array(0), serial: '' };
+  for (const byte of bytes) {
+    const kind = frames.take(byte);
+    if (kind === 'dump') ended.dumps += 1;
+    else if (kind === 'time') ended.time = frames.whole.slice(HEADER);
+    else if (kind === 'other') ended.serial = serialOf(frames.whole) || ended.serial;
+  }
+  return ended;
 }
 
 /** The last complete dump in these bytes: without one no update counts. Empty if there is none. */

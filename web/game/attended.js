@@ -1,8 +1,9 @@
-// What `live` is told of a board that is attended, and what it answers, as bytes. Pure: docs/FORMATS.md has the lines, in section 6.
+// What `live` is told of a board that is attended, and what it answers, as bytes. Pure: docs/FORMATS.md has the lines, in
+// section 6.
 
 const NEWLINE = 0x0a;
 const ALARMED = ['TURNED-ROUND', 'OTHER-BOARD'];
-const [KEEP, HOLD, OTHER] = ['keep', 'hold', 'other'];
+export const [KEEP, HOLD, OTHER] = ['keep', 'hold', 'other'];
 
 /** A line that stands in no answer. */
 export class NoAnswer extends Error {}
@@ -20,7 +21,7 @@ export function entryOf(at, word, given = null) {
 
 /** An answer of which nothing is read yet. */
 function noAnswer() {
-  return { kept: new Uint8Array(0), report: [], handling: '', other: '', asks: '', isFull: false, state: null, due: null };
+  return { kept: new Uint8Array(0), report: [], handling: '', other: '', number: '', asks: '', isFull: false, state: null, due: null };
 }
 
 const spanOf = (word) => (word === '-' ? null : Number(word));
@@ -77,6 +78,8 @@ export class Answers {
     } else if (word === KEEP || word === HOLD || word === OTHER) {
       answer.handling = word;
       answer.other = rest.join(' ');
+    } else if (word === 'number') {
+      [answer.number] = rest;
     } else if (word === 'ask') {
       [answer.asks] = rest;
     } else if (word === 'full') {

@@ -44,7 +44,7 @@ export class Hall {
     this.wasUnsaved = false; // what the boards send couldn't be kept
     this.folders = new Folders(this);
     this.awake = new Awake();
-    this.ports = new Ports(navigator.serial || null, this.loop, {
+    this.ports = new Ports(this.program, navigator.serial || null, this.loop, {
       awaited: () => this.recorded().filter((seat) => seat.isWaiting || seat.isSilent),
       uses: (port) => this.recorded().some((seat) => seat.port === port && !seat.isWaiting),
       says: (text) => this.says(text),

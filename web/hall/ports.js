@@ -1,10 +1,15 @@
 // The serial ports: which board is on a port that has just come. A board that was unplugged is found again by its port
 // or by its serial number.
 
+import { Attendant } from '../board/attendant.js';
 import { Connection } from '../device/connection.js';
+import { Frames, endedIn } from '../device/protocol.js';
+import { BEGIN, HEARD, OPENED } from '../game/times.js';
+import { optionsOf } from '../game/options.js';
 import { Guard } from '../guard.js';
 
 const DUMPS = 2; // complete dumps without a number: a board sends its number before it shows its pieces
+const NOBODY = new TextEncoder().encode('-----'); // a number that is awaited: so it is asked for again if the answer is lost
 const AGAIN = 2.0; // seconds between two looks for boards that are awaited
 
 /** Whether the device on a port is of this kind. */
@@ -30,7 +35,8 @@ export class Ports {
    * `hears` has awaited(), the seats that don't hear their boards; uses(port), whether a seat records from it; says(text);
    * and unclear(port, heard) when a board has come that isn't known to be an awaited one.
    */
-  constructor(serial, loop, hears) {
+  constructor(program, serial, loop, hears) {
+    this.program = program;
     this.serial = serial;
     this.loop = loop;
     this.hears = hears;
@@ -118,22 +124,39 @@ export class Ports {
     return new Promise((done, failed) => {
       const guard = new Guard(this.loop, failed);
       const came = [];
+      const frames = new Frames();
       let dumps = 0;
-      const decide = (number) => done({ connection, came, number, isSilent: dumps === 0 && !number });
+      let attendant = null;
+      const end = (answer) => {
+        if (attendant) attendant.leave();
+        done(answer);
+      };
+      const decide = (number) => end({ connection, came, number, isSilent: dumps === 0 && !number });
       const connection = new Connection(guard, port, {
-        came: (bytes, ended) => {
-          came.push({ bytes, ended });
-          dumps += ended.dumped ? 1 : 0;
+        heard: (bytes) => {
+          came.push(bytes);
+          const ended = endedIn(frames, bytes);
+          dumps += ended.dumps;
           if (ended.serial || dumps >= DUMPS) decide(ended.serial);
+          else if (attendant) attendant.tell(HEARD, bytes);
         },
-        asked: () => {},
-        happened: () => {}, // no game has the board yet
-        silence: (isSilent) => isSilent && decide(''),
-        lost: () => done(null),
+        lost: () => end(null),
       });
-      connection.asking.hasNumber = true; // so it is asked again if its answer is lost
+      guard.opened(() => connection.close());
+      const answered = (entry, { asks, state }) => {
+        if (asks) connection.write(new TextEncoder().encode(asks));
+        if (state && state.kind === 'SILENT') decide('');
+      };
+      const begin = () => {
+        attendant = new Attendant(this.program, guard, optionsOf(), { told: () => {}, answered, wake: () => attendant.tell('wake') });
+        guard.opened(() => attendant.leave());
+        attendant.send(BEGIN, 0);
+        attendant.send('number', NOBODY);
+        attendant.tell(OPENED);
+      };
       // Another program may have it, or a tab that is just being closed.
-      connection.open().catch(() => connection.close().then(() => done(null)));
+      const gone = () => connection.close().then(() => end(null));
+      connection.open().then(() => guard.call(begin), gone);
     });
   }
 }

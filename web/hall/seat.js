@@ -109,7 +109,7 @@ export class Seat {
 
   /** Whether its device is there, and no board answers on it. */
   get isSilent() {
-    return this.recorder !== null && this.recorder.cable.isOpen && this.recorder.state.silentSince !== null;
+    return this.recorder !== null && this.recorder.cable.isOpen && this.recorder.isSilent;
   }
 
   /** Whether it doesn't hear its board. */
@@ -180,8 +180,7 @@ export class Seat {
   /** What somebody must look at, in full; the hint of the state; and whether its device isn't there. */
   get asks() {
     const { alarms, state, cable, isOver, isStopped } = this.recorder;
-    const hint = state.state(this.hall.loop.now()).hint;
-    return { looks: alarms.looks.all, hint, lacksDevice: !cable.isOpen && !isOver && !isStopped };
+    return { looks: alarms.looks.all, hint: state.hint, lacksDevice: !cable.isOpen && !isOver && !isStopped };
   }
 
   /** The game before the one that is on, if it has no result; else null. */
@@ -258,7 +257,7 @@ export class Seat {
     if (recorder.forfeit && !recorder.capture.trouble) return resting(wordsOfForfeit(recorder.forfeit), looks);
     if (recorder.isOver && !recorder.capture.trouble) return resting(over, looks);
     if (recorder.isStopped) return resting('stopped', looks);
-    return standing(recorder.state.state(now), now);
+    return standing(recorder.state, now);
   }
 
   // What the recorder reports and asks.
@@ -297,10 +296,11 @@ export class Seat {
     return other ? { name: `board ${other.id}`, hasMoves: other.recorder.course.plies.length > 0 } : null;
   }
 
-  lends(number, heard) {
+  /** Gives what another board has sent to its game. Returns whether it has one. */
+  lends(number, bytes) {
     const other = this.hears.seatOf(number, this);
-    if (!other) return false;
-    other.guard.call(() => other.recorder.heard(heard));
+    if (!other || other.guard.ended) return false;
+    other.guard.call(() => other.recorder.takeLent(bytes));
     return true;
   }
 

@@ -37,6 +37,9 @@ export class Times {
     this.epoch = database.epoch; // of the database that has the rows
     this.events = []; // without lines yet, by the clock's own time
     this.began = 0; // when the call began, by that clock
+    this.awayFor = null; // for how many milliseconds nobody was there before that, if it is known
+    this.before = ''; // all lines from before that
+    this.last = 0; // when something was noted last
     this.line = []; // what was last noted of the cable
     this.wasAway = guard.away();
     this.timer = null;
@@ -97,15 +100,19 @@ export class Times {
   /** A call begins, or the game goes on from another capture: it has this many bytes. */
   begin(away = null, size = this.capture.size) {
     this.began = this.guard.counted();
+    this.awayFor = away;
+    this.before = this.text;
+    this.last = this.began;
     this.events.push([this.began, BEGIN, size]);
     if (away !== null) this.events.push([this.began, AWAY, away]);
     for (const what of this.line) this.events.push([this.began, what, null]);
     this.writeSoon();
   }
 
-  /** This has happened. */
-  note(what, count = null) {
-    const now = this.guard.counted();
+  /** This has happened then, by the clock that counts on. */
+  note(what, count = null, at = this.guard.counted()) {
+    const now = Math.max(at, this.last);
+    this.last = now;
     const away = this.guard.away();
     if (away > this.wasAway) this.events.push([now, STOPPED, Math.floor(1000 * (away - this.wasAway))]);
     this.wasAway = away;

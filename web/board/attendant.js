@@ -1,0 +1,63 @@
+// A process of the program that attends a board: it is told what happens and when, and is woken when it has asked for that. It
+// learns of each time in which nobody listened.
+
+import { STOPPED } from '../game/times.js';
+
+export class Attendant {
+  /**
+   * `hears` gets told(entry) for what is told, { word, given, at, now }; answered(entry, answer) in the same order; and wake() when
+   * the process is to be woken. `began` is when its call begins, by the clock that counts on.
+   */
+  constructor(program, guard, options, hears, began = guard.counted()) {
+    this.program = program;
+    this.guard = guard;
+    this.hears = hears;
+    this.began = began;
+    this.wasAway = guard.away();
+    this.timer = null;
+    this.isLeft = false;
+    this.key = program.attend(options);
+  }
+
+  /** This happens, in this call. */
+  tell(word, given = null, at = this.guard.counted()) {
+    const away = this.guard.away();
+    if (away > this.wasAway) this.send(STOPPED, Math.floor(1000 * (away - this.wasAway)), at);
+    this.wasAway = away;
+    this.send(word, given, at);
+  }
+
+  /** This happens, or is from the calls before. An error in the process ends the recording. */
+  send(word, given = null, at = this.began) {
+    if (this.isLeft || this.guard.ended) return;
+    const entry = { word, given, at, now: this.guard.now() };
+    this.hears.told(entry);
+    const asked = this.program.tell(this.key, Math.max(0, at - this.began), word, given);
+    this.guard.call(() => asked.then((answer) => this.answered(entry, answer), (error) => this.fails(error)));
+  }
+
+  answered(entry, answer) {
+    if (this.isLeft || this.guard.ended) return;
+    this.wakeIn(answer.due, entry.at);
+    this.hears.answered(entry, answer);
+  }
+
+  fails(error) {
+    if (!this.isLeft) throw error;
+  }
+
+  /** Wakes it so many milliseconds after this time; never if that is null. */
+  wakeIn(due, at) {
+    if (this.timer) this.timer.cancel();
+    const wakes = () => this.isLeft || this.hears.wake();
+    this.timer = due === null ? null : this.guard.after((at + due - this.guard.counted()) / 1000, wakes);
+  }
+
+  /** Ends it. */
+  leave() {
+    if (this.isLeft) return;
+    this.isLeft = true;
+    if (this.timer) this.timer.cancel();
+    this.program.leave(this.key);
+  }
+}
