@@ -2,8 +2,8 @@
 
 `device/serial_line.py` reads it. `device/asking.py` cuts it into frames and says when to ask the board, and
 `device/connection.py` asks. `board/cable.py` passes it on to `board/recorder.py`, which passes it to `board/recording.py`. That
-appends it to the capture (`game/files.py`) before anything else is done. `game/watching.py` gives the capture to `dgt_replay
-watch`, and `game/report.py` reads the program's lines. `game/course.py` keeps the course of the game, `board/standing.py` shows
+appends it to the capture (`game/files.py`) before anything else is done. `game/attending.py` tells it to `dgt_replay live`, and
+`game/report.py` reads the lines of its report. `game/course.py` keeps the course of the game, `board/standing.py` shows
 the board's state, and `game/making_pgn.py` makes NAME.pgn anew. `board/board.py` guards all of that. `round/published.py`
 writes `round.pgn`.
 

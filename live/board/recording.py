@@ -11,13 +11,14 @@ from dataclasses import dataclass
 from typing import Callable, List, Optional, Protocol, Sequence
 
 from live.beside import Worker
-from live.board.arrivals import Arrivals
 from live.board.disk import Disk, unwritten_of
 from live.board.lingering import Lingering
 from live.board.standing import Standing
 from live.board.state import lasting, mend_of, trouble_of
 from live.game import ending
 from live.game.alarms import Alarms, acknowledged
+from live.game.attended import Answer
+from live.game.attending import Attending
 from live.game.course import Start
 from live.game.edited import told_of_edit
 from live.game.files import text_of
@@ -26,9 +27,8 @@ from live.game.game import Game, forget_question, largest, mark_end, mebibytes
 from live.game.looks import Look, Looks
 from live.game.making_pgn import Made, Maker
 from live.game.opening import Opened
-from live.game.report import Clock, Fault, Line, Move, Picture, Position, Recovered, Result
+from live.game.report import Clock, Fault, Line, Move, Picture, Position, Recovered, Result, line_of
 from live.game.times import ADDED, HEARD
-from live.game.watching import Watching
 from live.guard import Guard
 from live.loop import Timer
 from live.steps import Resume, Steps
@@ -36,8 +36,6 @@ from live.terminal.screen import Screen
 
 TICK = 1.0  # seconds between two looks at what waits
 PATIENCE = 5.0  # seconds that the last lines may take
-SETTLES = 0.2  # seconds after which all lines of a byte have been heard
-SURELY_SETTLES = 1.0  # the same, if a late line would be taken for another one
 OF_A_BYTE = operator.attrgetter("offset")  # lines of one byte have the same
 LARGE = 48 * 1024 * 1024  # bytes of a capture, at which somebody may still look at its board
 
@@ -112,7 +110,6 @@ class Recording:
         self._alarms = Alarms(self.game.paths, self.course)
         if self.course.board and self._old == front_of(self.game.paths, self.game.capture) != 0:  # nothing has come since then
             self._alarms.put_back(self.course.board)
-        self._arrivals = Arrivals()
         self._heard_at = guard.now()  # when the board was heard last
         self._came_at = 0  # the capture's size before what came last
         self._away = guard.away.seconds  # for how long this recorder was away by then
@@ -128,7 +125,7 @@ class Recording:
         self._tick = guard.after(TICK, self._each_second)
         if opened.old.lines:
             self._tell_old()
-        self._watching = Watching(guard, self.game, self, opened.old.lines)
+        self._attending = Attending(guard, self.game, self, opened.old.lines)
 
     def _tell_old(self) -> None:
         """Shows what was played before this call, and the board's state then, until the board shows itself."""
@@ -170,7 +167,6 @@ class Recording:
     def _append(self, sent: bytes, now: float, what: str = HEARD) -> None:
         """Appends what the board has sent or somebody has added."""
         kept, capture = self._disk.append(sent), self.game.capture
-        self._arrivals.came(now, capture.size)
         if capture.size >= LARGE and not self._is_large:
             self._is_large = True
             most = mebibytes(self.game.options)
@@ -178,31 +174,28 @@ class Recording:
                 f"{capture.path} has 48 MiB, and none may have more than {most}: does a piece stand badly, and its square chatter?",
                 f"At {most} MiB the recording ends; the game can go on under another name, with --fen",
             )
-        self._watching.feed()
+        self._attending.feed()
         if kept:
             self.game.times.happened(what, kept)  # while the program reads
         if capture.size >= LARGE and capture.at_limit:
             self._end(Reason.LIMIT)
 
     def dumped(self) -> None:
-        """What came ends a whole dump: the board has shown itself. The program will soon report what that means."""
+        """What came ends a whole dump: the board has shown itself."""
         if not self._shows_itself:
             self._shows_itself = True
-            self._guard.after(SETTLES, self._has_shown_itself)
+            self._attending.then(self._has_shown_itself)
         if self._was_away:
             self._was_away = False
-            self._guard.after(SURELY_SETTLES, self._stands)
+            self._attending.then(self._stands)
 
     def _stands(self) -> None:
-        """The first dump after the board was away is fully reported."""
+        """The first dump after the board was away is reported."""
         self._tell_look(self._alarms.stands(self._guard.now()))
 
     def _has_shown_itself(self) -> None:
-        if self._watching.caught_up:
-            self.standing.board.shows_itself()
-            self.standing.show()
-        else:
-            self._guard.after(SETTLES, self._has_shown_itself)
+        self.standing.board.shows_itself()
+        self.standing.show()
 
     def remake(self) -> None:
         """Makes the text anew, whatever is there."""
@@ -219,8 +212,8 @@ class Recording:
         if self._alarms.trouble:
             self._keep_looks()
         self.game.times.wake()
-        self._watching.feed()
-        self._watching.wake()
+        self._attending.feed()
+        self._attending.wake()
         self._maker.wake()
         if self._faults:
             more = len(self._faults) - 1
@@ -230,19 +223,20 @@ class Recording:
 
     # What the program reports.
 
-    def heard(self, lines: Sequence[Line]) -> None:
-        """Takes the next lines of its report, which came at once. The state is shown last and once: states that lasted no time would
-        help nobody."""
-        news = [self._hear(list(of_a_byte)) for _, of_a_byte in itertools.groupby(lines, OF_A_BYTE)]
+    def answered(self, at: float, answer: Answer) -> None:
+        """Takes the lines of its report about what came at this time. The state is shown last and once: states that lasted no time
+        would help nobody."""
+        lines = filter(None, map(line_of, answer.report))
+        news = [self._hear(at, list(of_a_byte)) for _, of_a_byte in itertools.groupby(lines, OF_A_BYTE)]
         if any(news):
             self.standing.show()
 
-    def _hear(self, lines: Sequence[Line]) -> bool:
-        """Takes the lines of a byte. What changes the game is printed first, since somebody waits for it. Returns whether the state
+    def _hear(self, came: float, lines: Sequence[Line]) -> bool:
+        """Takes the lines of a byte, which came then. What changes the game is printed first, since somebody waits for it. Returns whether the state
         may have changed."""
         if self._begins_anew:
             return False
-        came, is_changed = self._arrivals.at(lines[0].offset, self._guard.now()), False
+        is_changed = False
         if self.end is not None:  # the game is over with this many bytes
             lines = [line for line in lines if line.offset < self.end or line.is_picture]
         for line in lines:
@@ -458,7 +452,7 @@ class Recording:
         if self._has_ended and not self._marks:
             self._note_end()
         self._watchdog = self._guard.after(PATIENCE, self._all_is_heard)
-        self._watching.finish(self._all_is_heard)
+        self._attending.then(self._all_is_heard)
 
     def _mark(self) -> None:
         paths = self.game.paths
@@ -475,7 +469,7 @@ class Recording:
         if self._watchdog:
             self._watchdog.cancel()
             self._watchdog = None
-        self._watching.close()
+        self._attending.close()
         pgn, course = self.game.paths.pgn, self.course
         if course.recovered:
             pairs = "; ".join(pair.replace("recovered ", "") for pair in course.recovered)
@@ -495,5 +489,5 @@ class Recording:
         if self._watchdog:
             self._watchdog.cancel()
         self.standing.close()
-        self._watching.close()
+        self._attending.close()
         self._maker.close()

@@ -114,8 +114,12 @@ class Options:
     # Which calls of the program get which options.
 
     def of_board(self) -> Tuple[str, ...]:
-        """The options that `watch` and `recover` have."""
+        """The options that `watch` has."""
         return Options(self.rotated, self.first, self.fen).words()
+
+    def of_live(self) -> Tuple[str, ...]:
+        """The options that `live` has."""
+        return Options(self.rotated, self.first, self.fen, recover=self.recover or None).words()
 
     def of_record(self) -> Tuple[str, ...]:
         """The options that `record` has."""

@@ -1,28 +1,28 @@
-"""The course of a game from its capture: by one call of `watch`, for callers that may wait for it."""
+"""The course of a game from its capture: by one call of the program, for callers that may wait for it. It is `watch`, or `live` if pairs
+of moves are recovered."""
 
 from __future__ import annotations
 
 import array
-import contextlib
-import mmap
 import os
 import subprocess
 import time
 from dataclasses import dataclass
-from typing import TYPE_CHECKING, Iterator, List, Optional, Sequence, Tuple
+from typing import Iterator, List, Optional, Sequence
 
 from live.device import protocol
 from live.device.protocol import DUMP_BEGINS
+from live.game.attended import CAPTURE, entry
 from live.game.course import Course
 from live.game.ending import ONE_MOVE
+from live.game.files import Opened
 from live.game.game import Game
 from live.game.making_pgn import source_of
 from live.game.options import Options
 from live.game.program import CHUNK, Program, ending_of
 from live.game.report import Agrees, Clock, Differs, Picture, event_of, line_of
 
-if TYPE_CHECKING:
-    from live.game.whole import Places
+PIECE = 64 * 1024  # bytes of a capture that `live` is told at once: the report of a piece is in its memory as a whole
 
 
 @dataclass(frozen=True)
@@ -47,16 +47,15 @@ def nothing_old(options: Options, size: int) -> Old:
 
 def read_game(game: Game, limit: Optional[int], now: float) -> Old:
     """What the capture has, or this many bytes of it, at this time. Raises OSError if it can't be read."""
-    with contextlib.ExitStack() as opened:
-        source = source_of(game, limit)
-        opened.callback(os.close, source)
+    with Opened() as opened:
+        source = opened.keep(source_of(game, limit))
         times = Times(source, now)
         gap = max(0.0, time.time() - os.fstat(source).st_mtime)
-        places: Optional[Places] = None
+        words = ("watch", *game.options.of_board())
         if game.options.recover:
-            source, places = _recovered(game, source, opened)
+            source, words = opened.keep(_as_told(source, times.size)), ("live", *game.options.of_live())
         course = new_course(game.options)
-        count = take_all(course, game.program, ("watch", *game.options.of_board()), source, places, times)
+        count = take_all(course, game.program, words, source, times)
     return Old(times.size, count, course, gap)
 
 
@@ -102,10 +101,8 @@ def dumps_in(source: int, size: int) -> Iterator[int]:
         before = text[1 - len(DUMP_BEGINS) :]
 
 
-def take_all(
-    course: Course, program: Program, words: Sequence[str], source: int, places: Optional[Places], times: Times
-) -> int:
-    """Takes the lines of a child that reads a file. `places` are known if pairs may have been added. Returns the lines' number."""
+def take_all(course: Course, program: Program, words: Sequence[str], source: int, times: Times) -> int:
+    """Takes the lines of a child that reads a file. Returns their number."""
     into, out = os.pipe()
     try:
         child = program.start(words, source, out, subprocess.DEVNULL)
@@ -114,14 +111,14 @@ def take_all(
         raise
     finally:
         os.close(out)
-    count = 0
+    count, has_others = 0, words[0] == "live"  # as `done -`
     try:
         for texts in _lines(into):
-            count += len(texts) - texts[-1].startswith("rest ")
-            for text in texts if places and places.has_pairs else wanted(texts, course.start):
-                line = line_of(text)
-                for one in () if line is None else places.of(line) if places else (line,):
-                    course.take(one, times.of(one.offset))
+            if has_others or texts[-1].startswith("rest "):
+                texts = [text for text in texts if text[0].isdigit()]
+            count += len(texts)
+            for line in filter(None, map(line_of, wanted(texts, course.start))):
+                course.take(line, times.of(line.offset))
     finally:
         os.close(into)
         status = child.wait()
@@ -168,27 +165,17 @@ def _last(words: Sequence[str], letter: str) -> Sequence[int]:
     return next(([at] for at in range(len(words) - 1, -1, -1) if words[at][0] == letter), [])
 
 
-def _recovered(game: Game, source: int, opened: contextlib.ExitStack) -> Tuple[int, Places]:
-    """A file with the recovered pairs added, and where its lines come from."""
-    from live.game.whole import Places, pairs_in
-
-    files = [os.memfd_create(name) for name in ("whole", "pairs")]
-    for file in files:
-        opened.callback(os.close, file)
-    status = game.program.start(("recover", *game.options.of_board()), source, *files).wait()
-    if status != 0:
-        raise OSError(f"recover {ending_of(status)}")
-    os.lseek(files[0], 0, os.SEEK_SET)
-    pairs = pairs_in(os.pread(files[1], os.fstat(files[1]).st_size, 0))
-    return files[0], Places(_mapped(files[0], opened), pairs)
-
-
-def _mapped(source: int, opened: contextlib.ExitStack) -> Sequence[int]:
-    """The bytes of a file, read only where they are used."""
-    if not os.fstat(source).st_size:
-        return b""
-    content = mmap.mmap(source, 0, access=mmap.ACCESS_READ)
-    opened.callback(content.close)
-    view = memoryview(content)
-    opened.callback(view.release)
-    return view
+def _as_told(source: int, size: int) -> int:
+    """A file with what `live` is told of a capture. It has no name, and is in memory."""
+    told = os.memfd_create("told")
+    try:
+        for at in range(0, size, PIECE):
+            part = os.pread(source, PIECE, at)
+            text = entry(0, CAPTURE, len(part), part)
+            while text:
+                text = text[os.write(told, text) :]
+        os.lseek(told, 0, os.SEEK_SET)
+    except BaseException:
+        os.close(told)
+        raise
+    return told

@@ -391,11 +391,11 @@ TOP = pathlib.Path(__file__).resolve().parents[2]
 # The modules of live/ that each recorder of one board has from its start. What waits for a rare event isn't among them.
 AT_THE_START = {
     "": "beside descriptors guard later lock loop refused steps time_away",
-    "board": "agreement arrivals asked_first board cable disk lingering plan recorder recording single standing state typed_lines whose",
+    "board": "agreement asked_first board cable disk lingering plan recorder recording single standing state typed_lines whose",
     "device": "asking connection line network_address protocol serial_line",
     "doors": "calls dgt_live door",
-    "game": "alarms control course doubts edited ending file_names files forfeiting front game log looks making_pgn names opening options "
-    "program reading reply report stopped_clock tags timed times watching",
+    "game": "alarms attended attending control course doubts edited ending file_names files forfeiting front game log looks making_pgn names opening options "
+    "program reading reply report stopped_clock tags timed times",
     "terminal": "columns screen terminal",
 }
 HEAVY = ["pathlib", "urllib", "hashlib", "json", "email", "traceback", "datetime", "zlib", "zipfile", "shlex"]

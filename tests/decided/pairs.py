@@ -1,11 +1,11 @@
-"""Pairs of moves that two hands hid: when they are recovered, what is told of them, and where what was put in belongs; and
-which other options a game goes on with, and what is told of that."""
+"""Pairs of moves that two hands hid: when they are recovered, and what is told of them; and which other options a game goes on with,
+and what is told of that."""
 
 from live.game.making_pgn import told_of_reading, told_of_result
 from live.doors.calls import parse
 from live.game.options import Options
 from live.refused import Refused
-from live.game.whole import Pair, Place, place_in
+from live.game.report import Line, Recovered, line_of
 
 from decided.table import refused, same
 
@@ -93,8 +93,8 @@ RESULTS = {
     ("1-0", "1/2-1/2"): ["the result is 1/2-1/2, and was 1-0"],
 }
 LINES = {
-    "350 recovered 3. Bc4 3... Nc6": Pair(350, "recovered 3. Bc4 3... Nc6"),
-    "0 recovered 12... Qxd5 13. O-O-O+": Pair(0, "recovered 12... Qxd5 13. O-O-O+"),
+    "350 recovered 3. Bc4 3... Nc6": Line(350, Recovered("recovered 3. Bc4 3... Nc6")),
+    "0 recovered 12... Qxd5 13. O-O-O+": Line(0, Recovered("recovered 12... Qxd5 13. O-O-O+")),
     "input: too long": None,
     "350 move 3. Bc4": None,
     "recovered 3. Bc4 3... Nc6": None,
@@ -108,6 +108,8 @@ def kept() -> None:
     options = Options.of_words(("--rotated", "--recover", "--white", "Anna"))
     same("of record", options.of_record(), ("--rotated", "--white=Anna"))
     same("of the board", options.of_board(), ("--rotated",))
+    same("of live", options.of_live(), ("--rotated", "--recover"))
+    same("of live, strict", Options.of_words(("--strict", "--white", "Anna")).of_live(), ())
     same("no longer", options.recovering(False).words(), ("--rotated", "--white=Anna"))
 
 
@@ -155,27 +157,9 @@ def told_of_options() -> None:
 
 
 def told() -> None:
-    for line, pair in LINES.items():
-        same(line, Pair.of_line(line), pair)
+    for text, expected in LINES.items():
+        line = line_of(text)
+        same(text, line if line and isinstance(line.event, Recovered) else None, expected)
 
 
-def places() -> None:
-    """Two pairs: behind the byte at 96 three dumps were put in, and behind that at 126 a time too, before them and behind two."""
-    one, two = Pair(96, "one"), Pair(126, "two")
-    content = bytes(97) + b"\x86" + bytes(200) + bytes(30) + b"\x8d" + bytes(220) + bytes(10)
-    for offset, place in (
-        (0, Place(0)),
-        (96, Place(96)),
-        (97, Place(96, one)),
-        (297, Place(96, one)),
-        (298, Place(97)),
-        (327, Place(126)),
-        (328, Place(126, two)),
-        (548, Place(126, two)),
-        (549, Place(127)),
-    ):
-        same(f"the byte at {offset}", place_in(content, (one, two), offset), place)
-    same("nothing was put in", place_in(content, (), 97), Place(97))
-
-
-TABLES = [kept, goes_on, calls, told_of_options, told, places]
+TABLES = [kept, goes_on, calls, told_of_options, told]

@@ -4,7 +4,7 @@ player's hand for its first ten seconds."""
 from typing import Any, Iterable, Tuple
 
 from decided.table import same
-from given.case import Case, but, leave, leave_by_bytes, left_by
+from given.case import Case, but, leave, leave_by_bytes, left_by, updates
 from given.messages import E2_EMPTY, INITIAL, TURNED, TWO_KINGS
 from given.recovered import BISHOP, HIDDEN
 from given.watched import START
@@ -196,4 +196,32 @@ def recovers() -> None:
         same(f"{words}", (status, out.count(b"116 recovered 2. Nf3 2... Nc6\n"), err), (0, count, b""))
 
 
-TABLES = [live, recovers]
+# After them 3... a6, 4. Ba4 and Nf6 by two hands at once, and 5. d3.
+BEHIND = updates("a7- a6p b5- g8- a4B f6n d2- d3P")
+
+# Each line of the game is at its byte of the capture, though six dumps were put in.
+WITH_PAIRS = [
+    b"76 move 1. e4",
+    b"86 move 1... e5",
+    b"116 recovered 2. Nf3 2... Nc6",
+    b"116 move 2. Nf3",
+    b"116 move 2... Nc6",
+    b"116 move 3. Bb5",
+    b"126 move 3... a6",
+    b"156 recovered 4. Ba4 4... Nf6",
+    b"156 move 4. Ba4",
+    b"156 move 4... Nf6",
+    b"156 move 5. d3",
+]
+
+
+def offsets() -> None:
+    """Of two pairs, and of what comes behind them."""
+    sent = INITIAL + HIDDEN + BISHOP + BEHIND
+    for told in (b"0 heard %d\n" % len(sent) + sent, b"0 capture %d\n" % len(sent) + sent):
+        _, out, _, _ = left_by(but(LIVE, words=["live", "--recover"], sent=told))
+        lines = [line for line in out.split(b"\n") if line.partition(b" ")[2].startswith((b"move", b"recovered"))]
+        same(f"{told[:12]!r}", lines, WITH_PAIRS)
+
+
+TABLES = [live, recovers, offsets]

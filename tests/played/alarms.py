@@ -146,7 +146,7 @@ HELD_UP = """
 import subprocess, sys
 start = subprocess.Popen.__init__
 def starts(self, words, *more, **named):
-    late = [sys.executable, "-S", "-c", {script!r}] if "watch" in words else []
+    late = [sys.executable, "-S", "-c", {script!r}] if "live" in words else []
     if late:
         named.pop("executable", None)
     start(self, [*late, *words], *more, **named)

@@ -134,7 +134,7 @@ def child_killed_often(folder: pathlib.Path) -> None:
 
     def kills() -> bool:
         for child in live.children():
-            if "watch" in command(child):
+            if "live" in command(child):
                 signal_to(child)
         return live.says("NOT RECORDED")
 

@@ -69,7 +69,7 @@ class Killer:
 
     def kill(self, live: Live, kind: str, moment: str) -> None:
         victims = self.victims(live, kind)
-        names = [word for word in ("record", "watch", "recover") if victims and word in command(victims[0])]
+        names = [word for word in ("record", "live") if victims and word in command(victims[0])]
         for victim in victims:
             signal_to(victim)
         if victims:

@@ -93,7 +93,7 @@ def recovered_and_killed(folder: pathlib.Path) -> None:
     board, live = begin(folder)
 
     def recovering() -> int:
-        found = [process for process in processes(live.process.pid) if "recover" in command(process)]
+        found = [process for process in processes(live.process.pid) if "live" in command(process)]
         return found[0] if len(found) == 1 else 0
 
     ended_ones = [0]

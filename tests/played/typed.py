@@ -109,7 +109,7 @@ def held_at_last(folder: pathlib.Path) -> None:
 def as_the_start_is_shown(folder: pathlib.Path) -> None:
     """The pieces have been set up, which ends the game, and moves are typed before the program has reported that: they are refused,
     and don't vanish."""
-    environment, stuck = held_up(folder, REPORTS_LATE, "watch"), folder / "stuck"
+    environment, stuck = held_up(folder, REPORTS_LATE, "live"), folder / "stuck"
     board = a_board(folder)
     live = Live(board.device, folder / "game", typed=True, start=[sys.executable], environment=environment)
     begun(live)

@@ -146,7 +146,7 @@ def always_failing(folder: pathlib.Path) -> None:
     def fails() -> bool:
         for child in live.children():
             called = command(child)
-            if "watch" in called and "--rotated" in called:
+            if "live" in called and "--rotated" in called:
                 signal_to(child)
         return live.says("  2  isn't recorded: a part of the program failed again and again")
 

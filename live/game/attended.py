@@ -1,0 +1,121 @@
+"""What a recorder is told of its board, and what it answers: the lines of `dgt_replay live`, as docs/FORMATS.md has them in section 6.
+Pure: values and bytes."""
+
+from __future__ import annotations
+
+import re
+from dataclasses import dataclass, field
+from typing import List, Optional, Tuple
+
+KEPT, CAPTURE, NUMBER, LENT, WAKE = "kept", "capture", "number", "lent", "wake"  # further words are those of NAME.times
+KEEP, HOLD, OTHER = "keep", "hold", "other"
+HINTS = ("TURNED-ROUND", "OTHER-BOARD")
+KEPT_LINE = b"kept "
+HISTORY_ENDS = b"done -"  # the answer to a capture
+NO_HISTORY = re.compile(rb"^[^0-9d]", re.MULTILINE)  # a line that isn't in such an answer
+
+
+class NoAnswer(ValueError):
+    """A line that stands in no answer."""
+
+
+def entry(at: int, what: str, count: Optional[int] = None, sent: bytes = b"") -> bytes:
+    """The line about something that happens, at so many milliseconds of this call, and the bytes behind it."""
+    return f"{at} {what}{'' if count is None else f' {count}'}\n".encode() + sent
+
+
+@dataclass(frozen=True)
+class Stood:
+    """How the board stands: a word; for how many milliseconds, if that is known; the squares that differ, and a hint."""
+
+    kind: str
+    lasted: Optional[int] = None
+    squares: Tuple[str, ...] = ()
+    hint: str = ""
+
+
+@dataclass
+class Answer:
+    """What an entry is answered."""
+
+    kept: bytes = b""  # the capture gets these
+    report: List[str] = field(default_factory=list)  # its new lines
+    handling: str = ""  # what is done with what the board has sent; empty: that isn't said of a capture of the calls before
+    other: str = ""  # the serial number of another board
+    number: str = ""  # that of the game's board, if it is said
+    asked: bytes = b""  # the board is sent this
+    is_full: bool = False  # whether the capture had no room
+    stood: Optional[Stood] = None  # if that is news
+    due: Optional[int] = None  # wake in so many milliseconds; None: never
+
+
+class Answers:
+    """Cuts what a recorder writes into its answers. The first lines of its report, so many, are known and left out."""
+
+    def __init__(self, known: int = 0) -> None:
+        self._known = known
+        self._come = b""  # what isn't read yet
+        self._answer = Answer()
+
+    def take(self, part: bytes) -> List[Answer]:
+        """The answers that end in what has come now."""
+        come, at, found = self._come + part, 0, []
+        if self._known and not NO_HISTORY.search(come):
+            found, at = self._skip(come)
+        while (end := come.find(b"\n", at)) >= 0:
+            behind = end + 1
+            if come.startswith(KEPT_LINE, at):
+                behind += int(come[at + len(KEPT_LINE) : end])
+                if behind > len(come):
+                    break
+                self._answer.kept = come[end + 1 : behind]
+            elif self._ends(come[at:end].decode("latin-1")):
+                found.append(self._answer)
+                self._answer = Answer()
+            at = behind
+        self._come = come[at:]
+        return found
+
+    def _skip(self, come: bytes) -> Tuple[List[Answer], int]:
+        """Passes over the answers to a capture, if all of it is known: a report may be long. Returns them, and the place behind
+        them."""
+        at = come.rfind(b"\n") + 1
+        ended = come.count(HISTORY_ENDS, 0, at)
+        count = come.count(b"\n") - ended
+        if count > self._known:
+            return [], 0
+        self._known -= count
+        return [Answer() for _ in range(ended)], at
+
+    def _ends(self, line: str) -> bool:
+        """Takes a line. Returns whether the answer ends with it."""
+        answer, first = self._answer, line[:1]
+        if first.isdigit():
+            if self._known:
+                self._known -= 1
+            else:
+                answer.report.append(line)
+            return False
+        word, *rest = line.split(" ")
+        if word in (KEEP, HOLD, OTHER):
+            answer.handling, answer.other = word, "".join(rest)
+        elif word == "done" and rest:
+            answer.due = _span(rest[0])
+            return True
+        elif word == "ask" and rest:
+            answer.asked = rest[0].encode()
+        elif word == "state" and len(rest) >= 2:
+            hint = rest.pop() if rest[-1] in HINTS else ""
+            answer.stood = Stood(rest[0], _span(rest[1]), tuple(rest[2:]), hint)
+        elif word == NUMBER and rest:
+            answer.number = rest[0]
+        elif word == "full":
+            answer.is_full = True
+        else:
+            raise NoAnswer(line)
+        return False
+
+
+def _span(word: str) -> Optional[int]:
+    """Milliseconds; None for a dash."""
+    return None if word == "-" else int(word)
