@@ -1,5 +1,5 @@
 -- What is said of what an event shows.
-use Rattle.std.proofs.Common.{◌≡◌, ◌<◌, ◌^◌, ℕ, Bool, true, false, List, ◌∷◌, length, reverse, slice_set, Option, Some, None, is_some, refl, sym, ap, subst, ◌∙◌, arith}
+use Rattle.std.proofs.Common.{◌≡◌, ◌<◌, ◌^◌, ℕ, Bool, true, false, List, ◌∷◌, reverse, slice_set, Option, Some, None, is_some, refl, sym, ap, subst, ◌∙◌, arith}
 use Rattle.std.specs.Int.{bit_at}
 use Rattle.std.proofs.lemmas.Nat.Bits.{bit_at-zero}
 use Rattle.std.proofs.lemmas.Option.{same_Some}
@@ -7,19 +7,16 @@ use Rattle.chess_rules.specs.Picture.{picture}
 use Rattle.dgt_frame.specs.declared.events.Event.{Event}
 use Rattle.settle_core.specs.Entries.{last_picture}
 use Rattle.settle_core.specs.Masks.{IsDiff}
-use Rattle.board_captures.proofs.ReadLemmas.{is_last, is_none, last_shown, same_shown, some_shown}
-use Rattle.board_events.specs.declared.view.Change.{Change}
-use Rattle.board_events.specs.declared.view.Change.TheVariants.{Nothing, Square, Picture}
-use Rattle.board_events.specs.Entries.{is_entry}
+use Rattle.board_captures.proofs.ReadLemmas.{is_last, same_shown, some_shown}
+use Rattle.board_events.specs.declared.view.Change.TheVariants.{Square, Picture}
 use Rattle.board_events.specs.History.{picture_of}
 use Rattle.board_events.specs.Pictures.{ChangesPictures, IsLast, pictures}
 use Rattle.board_events.specs.Session.{entries_in}
 use Rattle.board_events.specs.Settings.{Setting}
 use Rattle.board_events.specs.View.{Views}
-use Rattle.board_events.proofs.ViewLemmas.{adds_changed}
-use Rattle.recovery.proofs.KeepLemmas.{another_here, entry_here, repeats_here}
+use Rattle.recovery.proofs.KeepLemmas.{another_here, entry_here}
 use Rattle.board_game.specs.declared.pictures.Pictures.{Pictures}
-use Rattle.board_game.specs.declared.pictures.Shown.TheVariants.{Again, Another}
+use Rattle.board_game.specs.declared.pictures.Shown.TheVariants.{Another}
 use Rattle.board_game.specs.Hearing.{Changes, IsMask}
 use Rattle.board_game.specs.Inside.Shown.{HasSeen, IsShown}
 

@@ -1,5 +1,5 @@
 -- What is told of an event by itself.
-use Rattle.std.proofs.Common.{◌≡◌, ◌++◌, ℕ, List, [], ◌∷◌, Option, refl, sym, ap, ◌∙◌, append_assoc}
+use Rattle.std.proofs.Common.{◌≡◌, ◌++◌, ℕ, List, ◌∷◌, Option, refl, sym, ap, ◌∙◌, append_assoc}
 use Rattle.dgt_frame.specs.Streams.{Timed}
 use Rattle.board_events.specs.Settings.{Setting}
 use Rattle.board_listing.specs.GivenGame.{GameLine, text_of}

@@ -102,19 +102,19 @@ past_within events later =
     ∙ ap (λ (es : List Timed). map (λ (t : Timed). t.event) es) (reverse-reverse later))
 
 -- all bytes of it
-pub within_end : (game : Game) (setting : Setting) (recovers : Bool) (past : List Came) (before text : List ℕ) (time rest : ℕ) (bytes lines lines' : List ℕ)
-    → IsWithin game.decoder game.following setting recovers past before text time bytes lines lines'
+pub within_end : (game : Game) (setting : Setting) (recovers : Bool) (past : List Came) (before text : List ℕ) (time rest : ℕ) (bytes lines lines' lines'' : List ℕ)
+    → lines'' ≡ lines' → IsWithin game.decoder game.following setting recovers past before text time bytes lines lines'
     → ((all : List ℕ) (events : List Timed) → Decoded game.decoder all events → Shows all events rest)
     → game.count ≡ length (bytes_of past) + length bytes → length (bytes_of past) + length bytes ≤ limit
-    → (more : List ℕ) × (lines' ≡ lines ++ more) × StandsFor game setting recovers (Bytes time bytes ∷ past) (before ++ more)
-within_end game setting recovers past before text time rest bytes lines lines' w shows count fits =
+    → (more : List ℕ) × (lines'' ≡ lines ++ more) × StandsFor game setting recovers (Bytes time bytes ∷ past) (before ++ more)
+within_end game setting recovers past before text time rest bytes lines lines' lines'' appended w shows count fits =
     let all = bytes_of past ++ bytes in
     let events = w.events ++ reverse w.later in
     let long = length-append (bytes_of past) bytes in
     let shown = shows all events w.decoded in
     let F : List Event → List ℕ → Type 0 = λ raw t. HasFollowed game.following setting recovers raw w.items t in (
       w.more,
-      w.lines_are,
+      appended ∙ w.lines_are,
       record {
         events = events;
         items = w.items;

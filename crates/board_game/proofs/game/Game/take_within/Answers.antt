@@ -83,6 +83,6 @@ returns c = λ setting recovers past text s.
     let w = c.events.invariant.fed setting recovers past text s in
     let rest = within_rest old new c.events.self.following setting recovers past text w.0 c.args.at (take at bytes) more c.args.lines.now.items (c.events.lines.items ++ c.events.self.gathered.items) takes w.1 in
     let W : List ℕ → Type 0 = λ bs. IsWithin new c.events.self.following setting recovers past text w.0 c.args.at bs c.args.lines.now.items (c.events.lines.items ++ c.events.self.gathered.items) in
-    let whole = within_end _ setting recovers past text w.0 c.args.at _ bytes c.args.lines.now.items (c.events.lines.items ++ c.events.self.gathered.items) (subst W (take-append-drop at bytes) rest) c.pending.ensures
-    (omega (arith, s.counted, c.events.invariant.count)) (omega (arith, s.counted, c.requires.room)) in
-    (whole.0, c.in_ok-append.ensures ∙ ap (λ (t : List ℕ). c.events.lines.items ++ t) c.as_slice.ensures.value ∙ whole.1, whole.2)
+    within_end _ setting recovers past text w.0 c.args.at _ bytes c.args.lines.now.items (c.events.lines.items ++ c.events.self.gathered.items) c.append.new.out.items
+    (c.in_ok-append.ensures ∙ ap (λ (t : List ℕ). c.events.lines.items ++ t) c.as_slice.ensures.value) (subst W (take-append-drop at bytes) rest) c.pending.ensures
+    (omega (arith, s.counted, c.events.invariant.count)) (omega (arith, s.counted, c.requires.room))

@@ -1,12 +1,8 @@
-use Rattle.std.proofs.Common.{◌≡◌, ◌∷◌, ◌<◌, ◌^◌, ℕ, Bool, true, List, length, refl, sym, subst, ap, ◌∙◌, rules}
+use Rattle.std.proofs.Common.{◌∷◌, refl, sym, subst, ◌∙◌, rules}
 use Prim.{search}
 use Rattle.settle_core.specs.Masks.{IsDiff}
-use Rattle.board_events.specs.declared.view.Change.{Change}
-use Rattle.board_events.specs.declared.view.Change.TheVariants.{Nothing, Square, Picture}
-use Rattle.board_events.specs.Pictures.{ChangesPictures, pictures}
 use Rattle.board_captures.proofs.ReadLemmas.{is_last}
 use Rattle.recovery.proofs.KeepLemmas.{repeats_here}
-use Rattle.board_game.specs.Hearing.{Changes}
 use Rattle.board_game.proofs.SeeLemmas.{again_seen, another_seen, another_shown, another_there, changes_from, changes_since, no_difference, one_changed}
 use Rattle.board_game.proofs.pictures.Pictures.see.Goals as goal
 

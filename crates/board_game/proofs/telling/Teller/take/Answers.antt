@@ -1,4 +1,4 @@
-use Rattle.std.proofs.Common.{◌++◌, ℕ, List, ap, ◌∙◌}
+use Rattle.std.proofs.Common.{◌++◌}
 use Rattle.dgt_frame.specs.Streams.{Timed}
 use Rattle.board_game.specs.History.{events_of}
 use Rattle.board_game.proofs.TakeLemmas.{told_event}
