@@ -1,6 +1,7 @@
 //! The machine: it takes what happens on a board's line, and says when to ask the board, and what.
 ghost use Rattle.std.specs.Prelude.{◌≡◌, ◌<◌, ◌≤◌, ◌∷◌, [], ℕ, List, IfSome};
 ghost use Rattle.board_asking.specs.declared.line.Event.{Event as EventOf};
+ghost use Rattle.board_asking.specs.declared.line.Happening.TheVariants.{Updates};
 ghost use Rattle.board_asking.specs.Pace.{AsksAlike, asks};
 ghost use Rattle.board_asking.specs.Silence.{is_silent};
 ghost use Rattle.board_asking.specs.Whose.{HandledAlike, handling_at, own_number, shown_number};
@@ -42,6 +43,14 @@ impl Asking {
         self.starting.take(event);
         self.silence.take(event);
         self.whose.take(event);
+    }
+
+    /// Takes an update, which most of what happens is.
+    pub fn take_update(&mut self, at: u64)
+        ensures { let event : EventOf = record { at = at; what = Updates } in (past : List EventOf) → StandsFor self.old past → StandsFor self.new (event ∷ past) }
+    {
+        self.pace.take_update(at);
+        self.starting.take_update();
     }
 
     /// What the next request is.

@@ -2,6 +2,7 @@
 ghost use Rattle.std.specs.Prelude.{◌≡◌, ◌<◌, ◌^◌, ◌∷◌, [], ℕ, List, IfSome, if◌then◌else◌};
 ghost use Rattle.board_asking.specs.Lasting.{IsBefore};
 ghost use Rattle.board_asking.specs.declared.line.Event.{Event as EventOf};
+ghost use Rattle.board_asking.specs.declared.line.Happening.TheVariants.{Updates};
 ghost use Rattle.board_asking.specs.Line.{asked_by, dumped_by, is_unanswered, open_by, unanswered_by, unfinished_by, updated_by, wanted_by};
 ghost use Rattle.board_asking.specs.Pace.{HasPace, asks, AsksAlike};
 
@@ -125,10 +126,6 @@ impl Pace {
     pub fn take(&mut self, event: Event)
         ensures { (past : List EventOf) → HasPace self.old past → HasPace self.new (event ∷ past) }
     {
-        if let Happening::Updates = event.what {
-            self.updated = Some(event.at);
-            return;
-        }
         self.dumped = dumped(
             event.what,
             event.at,
@@ -142,6 +139,13 @@ impl Pace {
         self.asked = asked(event.what, event.at, self.asked);
         self.unfinished = unfinished(event.what, event.at, self.unfinished);
         self.updated = updated(event.what, event.at, self.updated);
+    }
+
+    /// Takes an update.
+    pub fn take_update(&mut self, at: u64)
+        ensures { let event : EventOf = record { at = at; what = Updates } in (past : List EventOf) → HasPace self.old past → HasPace self.new (event ∷ past) }
+    {
+        self.updated = Some(at);
     }
 
     /// Whether a request was sent that is still to be answered.

@@ -60,9 +60,6 @@ impl Silence {
     pub fn take(&mut self, event: Event)
         ensures { (past : List EventOf) → HasSilence self.old past → HasSilence self.new (event ∷ past) }
     {
-        if let Happening::Updates = event.what {
-            return;
-        }
         self.is_silent = silent(event.what, event.at, self.lost, self.heard, self.is_silent);
         self.lost = lost(event.what, self.lost);
         self.heard = heard(event.what, event.at, self.heard);

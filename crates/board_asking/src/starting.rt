@@ -2,6 +2,7 @@
 ghost use Rattle.std.specs.Prelude.{◌≡◌, ◌∷◌, [], ℕ, List};
 ghost use Rattle.std.specs.Str.{bytes_eq};
 ghost use Rattle.board_asking.specs.declared.line.Event.{Event as EventOf};
+ghost use Rattle.board_asking.specs.declared.line.Happening.TheVariants.{Updates};
 ghost use Rattle.board_asking.specs.Starting.{HasStarting, differs, is_start, last_dump_by, start_by, updates_by};
 
 use crate::line::{Event, Happening};
@@ -76,13 +77,16 @@ impl Starting {
     pub fn take(&mut self, event: Event)
         ensures { (past : List EventOf) → HasStarting self.old past → HasStarting self.new (event ∷ past) }
     {
-        if let Happening::Updates = event.what {
-            self.has_updated = true;
-            return;
-        }
         self.is_start = starts(event.what, &self.dump, self.has_updated, self.is_start);
         self.has_updated = updates(event.what, self.has_updated);
         self.dump = last_dump(event.what, self.dump);
+    }
+
+    /// Takes an update.
+    pub fn take_update(&mut self)
+        ensures { (event : EventOf) (past : List EventOf) → event.what ≡ Updates → HasStarting self.old past → HasStarting self.new (event ∷ past) }
+    {
+        self.has_updated = true;
     }
 
     /// Whether the board may have forgotten that updates are wanted, or was never asked for them.

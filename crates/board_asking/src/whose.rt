@@ -154,9 +154,6 @@ impl Whose {
     pub fn take(&mut self, event: Event)
         ensures { (past : List EventOf) → HasWhose self.old past → HasWhose self.new (event ∷ past) }
     {
-        if let Happening::Updates = event.what {
-            return;
-        }
         self.left = left(event.what, &self.own, self.left);
         self.dumps = dumps(event.what, self.awaited, self.dumps);
         self.awaited = awaited(event.what, event.at, self.awaited);

@@ -73,6 +73,10 @@ fn tell(at: u64, event: &Event, last: [u8; 5], bytes: &[u8], asking: &mut Asking
     ensures { (before : List ℕ) (past : List ToldOf) → last ≡ last_five before → StandsFor asking.old past
         → StandsFor asking.new (with_happening at (told_of event.now (before ++ bytes.now)) past) }
 {
+    if let Event::Message(Message::Update { .. }) = event {
+        asking.take_update(at);
+        return;
+    }
     if let Some(what) = told_of(event, last, bytes) {
         asking.take(Told { at, what });
     }
