@@ -1,12 +1,12 @@
 #!/usr/bin/env python3
-"""What a line that loses updates costs, by simulation: whole games in a hundred, with live/device/asking.py and at a fault alone.
+"""What a line that loses updates costs, by simulation: whole games in a hundred, by the rules of asking and at a fault alone.
 
 A simulated board sends 960 bytes a second. One update in ten is cut off, or lost whole; a clock runs, or none is there; the
 other side lifts a piece so many seconds after a move stands. Each figure is of so many games of 40 plies at random. A game is
 whole where `record` of what came gives the moves that were played.
 
 A second table is of boards that answer 0.3 to 1.8 s late, with what they showed when they were asked, while updates go on;
-and of plies that begin 1.2, 2 and 3 s after one another. There the board is asked each second, or in quiet, as asking.py does.
+and of plies that begin 1.2, 2 and 3 s after one another. There the board is asked each second, or in quiet, as the rules say.
 
 asking.py [--games N] [--seed N]
 """
@@ -23,8 +23,8 @@ from typing import Callable, Dict, List, Protocol, Tuple, Union
 
 from hands import INITIAL, Change, Hands, Way, hand, moves_of, program, random_game, updates
 
-from live.device.asking import QUIET, Asking  # noqa: E402  (hands has put its folder on the path)
-from live.device.protocol import DUMP_REQUEST, START_REQUEST, FrameKind, Frames  # noqa: E402
+from attending.asking_rules import DUMP_REQUEST, QUIET, START_REQUEST, Asking  # noqa: E402  (hands has put its folder on the path)
+from live.device.protocol import FrameKind, Frames  # noqa: E402
 from recovering.frames import dump  # noqa: E402
 
 RATE = 960  # bytes a second

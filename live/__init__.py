@@ -1,13 +1,13 @@
 """The live recorder: the code of `dgt_live` and `dgt_round`. A byte's way from a board to `round.pgn`:
 
-`device/serial_line.py` reads it. `device/asking.py` cuts it into frames and says when to ask the board, and
-`device/connection.py` asks. `board/cable.py` passes it on to `board/recorder.py`, which passes it to `board/recording.py`. That
-appends it to the capture (`game/files.py`) before anything else is done. `game/attending.py` tells it to `dgt_replay live`, and
-`game/report.py` reads the lines of its report. `game/course.py` keeps the course of the game, `board/standing.py` shows
+`device/serial_line.py` reads it, and `device/connection.py` passes it on to `board/cable.py`, that to `board/recorder.py`, and that to
+`board/recording.py`. `game/attending.py` tells it to `dgt_replay live`, and `game/attended.py` reads the answer. What is kept goes into
+the capture (`game/files.py`) before anything else is done. What the board is asked goes back through `board/cable.py`.
+`game/report.py` reads the lines of the report. `game/course.py` keeps the course of the game, `board/standing.py` shows
 the board's state, and `game/making_pgn.py` makes NAME.pgn anew. `board/board.py` guards all of that. `round/published.py`
 writes `round.pgn`.
 
-`device/`: a board's line; when the board is asked; a board that is unplugged and comes back.
+`device/`: a board's line; a board that is unplugged and comes back.
 `game/`: a game: its files, its options, the calls of the proved program, what an arbiter adds or takes off, where it ended.
 `board/`: one board and its games, whatever goes wrong there; its state.
 `round/`: the table of a round, its boards with their rows, `round.pgn`.

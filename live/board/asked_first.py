@@ -4,26 +4,33 @@ from __future__ import annotations
 
 from typing import Callable, List, Optional, Tuple
 
-from live.device.asking import Came
 from live.device.connection import Connection, Hears
+from live.game.attended import NUMBER, Answer
+from live.game.attending import OF_THE_LINE, Attending, Told
 from live.game.files import MEMORY
+from live.game.program import Program
+from live.game.times import HEARD
 from live.guard import Guard
 
 Event = Callable[[Hears], None]
 
 
 class AskedFirst:
-    """The connection to a board, and what has come of it, up to a limit of bytes: the oldest go first."""
+    """The connection to a board, and what has come of it, up to a limit of bytes: the oldest go first. When it is asked, a child says
+    that knows nothing of its game."""
 
-    def __init__(self, guard: Guard, device: str, number: str) -> None:
+    def __init__(self, guard: Guard, program: Program, device: str, number: str) -> None:
+        self._guard = guard
         self._events: List[Tuple[int, Event]] = []
+        self._attending = Attending(guard, program, (), None, self)
         self.connection = Connection(guard, device, self)
         if number:
-            self.connection.has_number()
+            self._attending.tell(NUMBER, number.encode("ascii"))
         self.connection.begin()
 
     def pass_on(self, hears: Hears) -> None:
         """From now on this one hears it, first what has come so far."""
+        self._attending.close()
         self.connection.tell(hears)
         for _, event in self._events:
             event(hears)
@@ -35,17 +42,18 @@ class AskedFirst:
             oldest = next(at for at, (size, _) in enumerate(self._events) if size)
             kept -= self._events.pop(oldest)[0]
 
-    def came(self, sent: bytes, ended: Came) -> None:
-        """The board has sent this, and that ended in it."""
-        self._keep(lambda hears: hears.came(sent, ended), len(sent))
+    # What the line does.
+
+    def came(self, sent: bytes) -> None:
+        """The board has sent this."""
+        self._keep(lambda hears: hears.came(sent), len(sent))
+        self._attending.tell(HEARD, sent)
 
     def happened(self, what: str, count: Optional[int] = None) -> None:
         """What happens on the line."""
         self._keep(lambda hears: hears.happened(what, count))
-
-    def asked_whose(self) -> None:
-        """The board is asked for its number."""
-        self._keep(lambda hears: hears.asked_whose())
+        if what in OF_THE_LINE:
+            self._attending.tell(what)
 
     def plugged(self) -> None:
         """The line is open."""
@@ -55,10 +63,19 @@ class AskedFirst:
         """The line has gone away, or wasn't there."""
         self._keep(lambda hears: hears.unplugged())
 
-    def silence(self, silent: bool) -> None:
-        """The board sends no dumps, or sends them again."""
-        self._keep(lambda hears: hears.silence(silent))
-
     def busy(self) -> None:
         """Another process has the line."""
         self._keep(lambda hears: hears.busy())
+
+    # What its child says.
+
+    def answered(self, told: Told, answer: Answer) -> None:
+        """The board is asked when the child says so."""
+        if answer.asked:
+            self.connection.ask(answer.asked)
+
+    def says(self, text: str) -> None:
+        """The child is started again."""
+
+    def broken(self, what: str) -> None:
+        """The child ends again and again: the board is asked once its game is open."""

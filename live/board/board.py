@@ -11,7 +11,6 @@ from typing import Callable, List, Optional, Protocol, Tuple
 
 from live.beside import Worker
 from live.board.asked_first import AskedFirst
-from live.board.cable import Heard
 from live.board.plan import Plan
 from live.board.recorder import Recorder
 from live.board.state import State
@@ -134,7 +133,7 @@ class Board:
         asked: List[AskedFirst] = []
 
         def held() -> None:
-            asked.append(AskedFirst(guard, wanted.plan.device, wanted.plan.serial or self._number))
+            asked.append(AskedFirst(guard, self._program, wanted.plan.device, wanted.plan.serial or self._number))
 
         def opened(found: Opened) -> None:
             close = guard.opened(found.game.capture.close)
@@ -253,17 +252,17 @@ class Board:
         board = self._hears.owner(number)
         return Owner(board.called, bool(board.plies)) if board else None
 
-    def lends(self, number: str, heard: Heard) -> bool:
+    def lends(self, number: str, sent: bytes) -> bool:
         """The board with this number is on this board's cable, and has sent this. Returns whether its own game takes it."""
         board = self._hears.owner(number)
-        return board is not None and board.takes(heard)
+        return board is not None and board.takes(sent)
 
-    def takes(self, heard: Heard) -> bool:
+    def takes(self, sent: bytes) -> bool:
         """Its board has sent this on another board's cable. Returns whether it is recorded. An error there is this board's."""
         if self._guard is None or self._recorder is None:
             return False
-        hears = self._recorder.heard
-        self._guard.call(lambda: hears(heard))
+        takes = self._recorder.takes
+        self._guard.call(lambda: takes(sent))
         return True
 
     def end(self, done: Callable[[], None]) -> None:
@@ -446,7 +445,7 @@ class Board:
     def state(self) -> Optional[State]:
         """The board's state; None if nothing is recorded."""
         standing = self._recorder.standing if self._recorder else None
-        return standing.board.state(self._loop.now()) if standing else None
+        return standing.state if standing else None
 
     @property
     def differing(self) -> Tuple[str, ...]:

@@ -1,22 +1,24 @@
-"""The cable of a board: messages when it is unplugged or plugged in, the board's state with it, and whose board is on it."""
+"""The cable of a board: messages when it is unplugged or plugged in, when the board is silent, and when another board is on it. The
+program decides when the board is asked and whose board it is."""
 
 from __future__ import annotations
 
-from typing import List, Optional, Protocol, Tuple
+from typing import List, Optional, Protocol
 
 from live.board.asked_first import AskedFirst
 from live.board.standing import Standing
-from live.board.whose import Whose
-from live.device.asking import Came
+from live.board.state import Kind
 from live.device.connection import Connection
+from live.device.protocol import NUMBER_SIZE, number_in
+from live.game.attended import KEEP, LENT, OTHER, Answer
+from live.game.attending import Told
 from live.game.files import MEMORY
-from live.game.times import TOOK
+from live.game.times import HEARD, OPENED, TOOK
 from live.guard import Guard
 from live.refused import ANOTHER_CALL, printable
 from live.terminal.screen import Screen
 
-
-Heard = Tuple[bytes, Came]  # what a board has sent, and what ended in it
+NO_BOARD = (Kind.WAITS, Kind.UNPLUGGED)  # states that don't say whether the board answers
 
 
 class HearsCable(Protocol):
@@ -26,7 +28,7 @@ class HearsCable(Protocol):
     def standing(self) -> Optional[Standing]:
         """The board's state."""
 
-    def heard(self, heard: Heard) -> None:
+    def heard(self, sent: bytes) -> None:
         """The board has sent this."""
 
     def happened(self, what: str, count: Optional[int] = None) -> None:
@@ -44,7 +46,7 @@ class HearsCable(Protocol):
     def missing(self) -> None:
         """The game's board, whose number is known, isn't on the cable any more."""
 
-    def lends(self, number: str, heard: Heard) -> bool:
+    def lends(self, number: str, sent: bytes) -> bool:
         """The board with this number has sent this. Returns whether another game takes it."""
 
     def gone(self, message: str, was_there: bool) -> None:
@@ -59,14 +61,15 @@ class Cable:
                  asked: Optional[AskedFirst] = None) -> None:  # fmt: skip
         self._guard, self._screen, self._device, self._once, self._hears = guard, screen, device, once, hears
         self._unplugged = self._silent = self._was_plugged = False
-        self._whose = Whose(number)
-        self._other = ""  # the number of the other board that was last reported, while it is on the cable
-        self._unsure: List[Heard] = []  # what came since the board was asked for its number
-        self._foreign: List[Heard] = []  # what another board has sent and no game has taken
+        self._unplugged_at = 0.0
+        self.number = number  # of the game's board; empty if unknown
+        self.other = ""  # the number of the board on the cable, if it is another board
+        self._told_other = ""  # that of the one that was last reported, while it is on the cable
+        self._last = b""  # bytes in which a number may begin
+        self._unsure: List[bytes] = []  # what came while it isn't known whose it is
+        self._foreign: List[bytes] = []  # what another board has sent and no game has taken
         self._asked = asked  # before its game was open
         self._connection = asked.connection if asked else Connection(guard, device, self)
-        if number:
-            self._connection.has_number()
 
     @property
     def name(self) -> str:
@@ -74,20 +77,9 @@ class Cable:
         return self._connection.cable
 
     @property
-    def number(self) -> str:
-        """The serial number of the game's board, empty if unknown."""
-        return self._whose.own
-
-    @property
-    def other(self) -> str:
-        """The serial number of the board on the cable, if it is another board."""
-        return self._whose.shown if self._whose.is_other else ""
-
-    @property
     def lacks(self) -> str:
         """The serial number of the game's board, if that isn't on this cable; else empty."""
-        own = self._whose.own
-        return own if own and (self._unplugged or self._whose.is_other) else ""
+        return self.number if self._unplugged or self.other else ""
 
     @property
     def holds(self) -> str:
@@ -96,7 +88,7 @@ class Cable:
 
     def move_to(self, device: str) -> None:
         """The game's board is on this device."""
-        self._screen.say(f"the board with serial number {self._whose.own} is on {device}, and is recorded there")
+        self._screen.say(f"the board with serial number {self.number} is on {device}, and is recorded there")
         self._device = device
         self._connection.move_to(device)
 
@@ -107,10 +99,6 @@ class Cable:
         else:
             self._connection.begin()
 
-    def added(self, put: bytes) -> None:
-        """Bytes were added by hand and may have cut a frame, so the board is asked for a dump."""
-        self._connection.added(put)
-
     def last_words(self) -> None:
         """Takes what has come so far, and closes the line."""
         self._connection.last_words()
@@ -118,9 +106,9 @@ class Cable:
     def tell(self, standing: Standing) -> None:
         """Reports the line's state to a new listener."""
         if self._unplugged:
-            standing.unplugged()
+            standing.unplugged(self._unplugged_at, self._connection.is_server)
         if self._silent:
-            standing.silence(True)
+            standing.was_away = True
 
     # What the line does.
 
@@ -128,68 +116,81 @@ class Cable:
         """This happens on the line."""
         self._hears.happened(what, count)
 
-    def asked_whose(self) -> None:
-        """The board is asked for its number: another board may be on the line."""
-        self._whose.asked(self._guard.now())
+    def came(self, sent: bytes) -> None:
+        """The board has sent this."""
+        self._hears.heard(sent)
 
-    def came(self, sent: bytes, ended: Came) -> None:
-        """The board has sent this, and that ended in it."""
-        if ended.dumped:
-            self._whose.dumped()
-        if ended.serial:
-            self._told(ended.serial)
-        is_unsure = self._whose.is_unsure(self._guard.now())
-        if not (is_unsure or self._unsure or self._whose.is_other):
-            self._hears.heard((sent, ended))
-            return
-        keep(self._unsure, (sent, ended))
-        if not is_unsure:
-            heard, self._unsure = self._unsure, []
-            self._pass_on(heard)
+    # What the program answers.
 
-    def _told(self, number: str) -> None:
-        """The board has given its number."""
-        self._whose.told(number)
-        if not self._whose.own:
-            self._is_own(number)
-        elif self.other != self._other:
-            before, self._other = self._other, self.other
+    def answered(self, told: Told, answer: Answer) -> None:
+        """Sends the board what is asked for, and does with what it has sent what the program says."""
+        if answer.asked and told.is_sent:
+            self._connection.ask(answer.asked)
+        number = ""
+        if told.what == OPENED:
+            self._last = b""
+            self._unsure.clear()
+        elif told.what == HEARD:
+            text = self._last + told.sent
+            number, self._last = number_in(text), text[1 - NUMBER_SIZE :]
+            if answer.handling != KEEP:
+                keep(self._unsure, told.sent)
+        if not self.number and (answer.number or number):
+            self._is_own(answer.number or number)
+        if answer.handling == OTHER and answer.other != self.number:  # else it was taken meanwhile
+            self._has_other(answer.other)
+        elif answer.handling == KEEP:
+            self._has_own(number)
+        if answer.stood:
+            self._stands(Kind.of(answer.stood.kind))
+
+    def _has_other(self, number: str) -> None:
+        """The board with this number is on the cable."""
+        self.other = number
+        if number != self._told_other:
+            self._told_other = number
             self._foreign.clear()
-            if self._other:
-                self._hears.another(self._other)
-                self._hears.missing()
-            else:
-                self._hears.back(before)
+            self._hears.another(number)
+            self._hears.missing()
+        for sent in self._unsure:
+            keep(self._foreign, sent)
+        self._unsure.clear()
+        count = len(self._foreign)
+        while self._foreign and self._hears.lends(number, self._foreign[0]):
+            self._foreign.pop(0)
+        if count and not self._foreign:
+            self._hears.happened(LENT)
+
+    def _has_own(self, number: str) -> None:
+        """The game's board is on the cable, as far as is known. It may have given its number just now."""
+        self.other = ""
+        self._unsure.clear()
+        if self._told_other and number == self.number:
+            before, self._told_other = self._told_other, ""
+            self._foreign.clear()
+            self._hears.back(before)
 
     def _is_own(self, number: str) -> None:
         """From now on the board with this number is the game's."""
-        self._whose.own = number
-        self._connection.has_number()
+        self.number = number
         self._hears.numbered(number)
-
-    def _pass_on(self, heard: List[Heard]) -> None:
-        """Gives it to the game of this board. What no game takes is kept back."""
-        if not self._whose.is_other:
-            for one in heard:
-                self._hears.heard(one)
-            return
-        for one in heard:
-            keep(self._foreign, one)
-        while self._foreign and self._hears.lends(self._whose.shown, self._foreign[0]):
-            self._foreign.pop(0)
 
     def take(self) -> None:
         """From now on the board on the cable is the game's, with all that it has sent."""
-        if self._whose.is_other:
+        if self.other:
+            self._is_own(self.other)
+            self.other = self._told_other = ""
+            self._foreign.clear()
             self._hears.happened(TOOK)
-            self._is_own(self._whose.shown)
-            self._other = ""
-            heard, self._foreign = self._foreign, []
-            self._pass_on(heard)
+
+    def _stands(self, kind: Kind) -> None:
+        """The board stands so: it is silent, or answers, or nothing is known of that."""
+        is_silent = kind is Kind.SILENT
+        if is_silent != self._silent and kind not in NO_BOARD:
+            self.silence(is_silent)
 
     def plugged(self) -> None:
         """The line is open."""
-        self._whose.connected(self._guard.now())
         if self._unplugged:
             self._screen.say(f"{self.name} is there")
         elif self.name != self._device:
@@ -200,13 +201,13 @@ class Cable:
 
     def unplugged(self) -> None:
         """The line has gone away, or wasn't there."""
-        self._unplugged, self._silent = True, False
+        self._unplugged, self._silent, self._unplugged_at = True, False, self._guard.now()
         self._unsure.clear()
         if not self._once and self._hears.standing:  # a game that is over ends without it
             self._screen.say(self._gone())
         if self._hears.standing:
-            self._hears.standing.unplugged()
-        if self._whose.own:
+            self._hears.standing.unplugged(self._unplugged_at, self._connection.is_server)
+        if self.number:
             self._hears.missing()
         if self._once:
             self._hears.gone(self._gone_for_good(), self._was_plugged)
@@ -235,6 +236,7 @@ class Cable:
     def silence(self, silent: bool) -> None:
         """The board sends no dumps, or sends them again."""
         self._silent = silent
+        self._connection.silence(silent)
         if silent:
             self._screen.say(
                 f"no board answers on {self.name}; it is asked again and again. Look at the cable,",
@@ -250,9 +252,9 @@ class Cable:
         self._hears.gone(f"{self._device} {ANOTHER_CALL}", False)
 
 
-def keep(kept: List[Heard], heard: Heard) -> None:
+def keep(kept: List[bytes], sent: bytes) -> None:
     """Keeps this, and drops the oldest bytes beyond the limit."""
-    kept.append(heard)
-    size = sum(len(sent) for sent, _ in kept)
+    kept.append(sent)
+    size = sum(map(len, kept))
     while size > MEMORY:
-        size -= len(kept.pop(0)[0])
+        size -= len(kept.pop(0))

@@ -13,11 +13,13 @@ import os
 from typing import Callable, Optional, Protocol, TypeVar, Union
 
 from live.beside import Worker
+from live.board.attended_game import PATIENCE
 from live.board.game_over import Listening
 from live.board.plan import HearsRecorder, Plan
 from live.board.recording import Recording
 from live.board.setting_up import SettingUp
 from live.board.state import mend_of
+from live.game.attending import Attending
 from live.game.course import Course
 from live.game.files import Paths, open_regular, part_of
 from live.game.game import Game
@@ -63,9 +65,6 @@ class Games(Protocol):
 
     def restored(self) -> None:
         """The capture is another file now."""
-
-    def asks(self, put: bytes) -> None:
-        """These bytes are in the capture now, and may have cut a frame: the board is asked for a dump."""
 
     def record_anew(self, opened: Opened) -> None:
         """The game is recorded, from its new capture. Nothing of it is reported again."""
@@ -114,14 +113,36 @@ class Obeying:
         game = self.games.game
         for tries in range(TRIES + 1):
             if tries == TRIES:
-                self.games.hold()
+                yield from self.held(done)
             recording, path, size = self.recorded(done), game.paths.capture, game.capture.size
             answer = yield from self.beside(functools.partial(_asked_of, asks, path, size))
             if self.recorded(done) is not recording:
                 raise Refused(JUST_ENDED)
-            if game.capture.size == size:
+            if game.capture.size == size and recording.attending.is_settled:
                 break
         return answer
+
+    def held(self, done: str) -> Steps[None]:
+        """From now on what the board sends is held. Waits until the program has answered all that it was told before."""
+        self.games.hold()
+        now = self.games.now
+        if now:
+            attending = now.attending
+            yield lambda resume: self._once_settled(attending, resume)
+            if not attending.is_settled:
+                raise Refused(f"nothing can be {done} just now. Type it again")
+
+    def _once_settled(self, attending: Attending, resume: Resume) -> None:
+        """Resumes then, or after a while."""
+        waits = [resume]
+
+        def ends() -> None:
+            if waits:
+                timer.cancel()
+                waits.pop()(lambda: None)
+
+        timer = self.guard.after(PATIENCE, ends)
+        attending.then(ends)
 
     def on_the_disk(self) -> Steps[None]:
         """Waits until the capture is on the disk. If the disk has a fault, its text says so."""
@@ -134,7 +155,9 @@ class Obeying:
         games, now = self.games, self.games.now
         if not isinstance(now, (Listening, SettingUp)) or games.begins_anew or games.game.capture.waits:
             raise Refused(f"nothing can be {done} just now. Type it again")
-        games.hold()
+        yield from self.held(done)
+        if games.now is not now:
+            raise Refused(f"nothing can be {done} just now. Type it again")
         now.pause()
         try:
             changed = yield from self.beside(change)

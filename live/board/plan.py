@@ -6,7 +6,6 @@ import os
 from dataclasses import dataclass
 from typing import Callable, Optional, Protocol
 
-from live.board.cable import Heard
 from live.board.recording import Rules
 from live.board.whose import Owner
 from live.game.files import Paths
@@ -70,5 +69,5 @@ class HearsRecorder(Protocol):
     def owner(self, number: str) -> Optional[Owner]:
         """The other game that is recorded from the board with this serial number."""
 
-    def lends(self, number: str, heard: Heard) -> bool:
+    def lends(self, number: str, sent: bytes) -> bool:
         """That board has sent this. Returns whether its own game takes it."""

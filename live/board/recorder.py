@@ -5,18 +5,22 @@ from __future__ import annotations
 import contextlib
 import importlib
 import os
-from typing import TYPE_CHECKING, List, Optional, Type, Union
+from typing import TYPE_CHECKING, Optional, Type, Union
 
 from live.beside import Worker
 from live.board.asked_first import AskedFirst
-from live.board.cable import Cable, Heard, keep
+from live.board.attended_game import AttendedGame
+from live.board.cable import Cable
 from live.board.disk import unwritten_of
 from live.board.lingering import Lingering
+from live.board.on_the_way import LENDS, OnTheWay
 from live.board.plan import HearsRecorder, Plan, numbered
 from live.board.recording import Reason, Recording
 from live.board.standing import Standing
 from live.board.whose import another, back, may_take
 from live.game.alarms import acknowledge, keep_looks, kept_looks
+from live.game.attended import Answer
+from live.game.attending import Told
 from live.game.control import Control
 from live.game.files import Paths, text_of
 from live.game.game import Game, end_mark, forget_question, mark_end, mebibytes
@@ -26,7 +30,8 @@ from live.game.looks import Look, Looks
 from live.game.making_pgn import Made
 from live.game.opening import Opened
 from live.game.reading import nothing_old
-from live.game.reply import Answer
+from live.game.reply import Answer as Reply
+from live.game.times import HEARD
 from live.guard import Guard
 from live.loop import Callback
 from live.refused import DONE, FAILED, Broken, Refused
@@ -53,7 +58,7 @@ class Recorder:
         self._reason: Optional[Reason] = None  # why the game is over
         self._ending = self._closing = False
         self.begins_anew = False  # whether the start begins this game, and not the next one
-        self._held: Optional[List[Heard]] = None  # what the board has sent, if it is held
+        self._on_the_way = OnTheWay(self)
         self._ends_later = False  # whether to end once nothing is held any more
         self._closes: Optional[Resume] = None  # a typed line that waits until its game is closed
         self._waits_to_end = Lingering(guard, plan.rules.linger, self.end)
@@ -128,9 +133,9 @@ class Recorder:
         self.now.finish(self._game_closed)
 
     def _game_closed(self, unwritten: str) -> None:
-        assert isinstance(self.now, Recording)
-        end = self.now.end
-        if self._reason:
+        assert self.now
+        end = self.now.end if isinstance(self.now, Recording) else None
+        if self._reason and isinstance(self.now, Recording):
             name, series = self.game.paths.name, self._plan.rules.series
             how = f". Type its result, as {self._screen.result_of(name, series)}" if self._reason is Reason.SET_UP else ""
             self._screen.say(f"{name} is over: {self._reason.value}{how}")
@@ -154,7 +159,7 @@ class Recorder:
         """The game is over: moves that are still made are reported."""
         from live.board.game_over import Listening
 
-        self.now = Listening(self._guard, self._screen, self.game, self.course, self)
+        self._look_at(Listening(self._guard, self._screen, self.game, self.course, self))
         self.linger()
 
     def watch_on(self) -> None:
@@ -268,6 +273,11 @@ class Recorder:
     # What others read.
 
     @property
+    def attended(self) -> Optional[AttendedGame]:
+        """What the program attends now, if anything."""
+        return self.now
+
+    @property
     def cable(self) -> str:
         """The name under which its device is opened again."""
         return self._cable.name
@@ -303,29 +313,38 @@ class Recorder:
 
     # What its cable brings.
 
-    def heard(self, heard: Heard) -> None:
-        """The board has sent this, on its own cable or on another one."""
-        if self._held is not None:
-            keep(self._held, heard)
-            return
-        sent, ended = heard
-        if self.now:
-            self.now.came(sent)
-        if ended.dumped and self.now:
-            self.now.dumped()
-        if ended.time and isinstance(self.now, Recording):
-            self.now.timed(ended.time)
+    def heard(self, sent: bytes) -> None:
+        """The board has sent this on its own cable."""
+        self._on_the_way.comes(HEARD, sent)
+
+    def takes(self, sent: bytes) -> None:
+        """The board has sent this on another game's cable."""
+        self._on_the_way.comes(LENDS, sent)
 
     def happened(self, what: str, count: Optional[int] = None) -> None:
         """This happens on its cable."""
-        self.game.times.happened(what, count)
+        self._on_the_way.comes(what, count=count)
 
-    def lends(self, number: str, heard: Heard) -> bool:
+    def left(self, sent: bytes) -> None:
+        """The board has sent this, and the program that attended it before hasn't taken it."""
+        self._on_the_way.left(sent)
+
+    def said(self, told: Told, answer: Answer) -> None:
+        """What the program says of the cable."""
+        self._cable.answered(told, answer)
+
+    def begun(self) -> None:
+        """The program attends the board anew."""
+        self._on_the_way.begun()
+
+    def lends(self, number: str, sent: bytes) -> bool:
         """The board with this number has sent this. Returns whether another game takes it."""
-        return self._hears.lends(number, heard)
+        return self._hears.lends(number, sent)
 
     def numbered(self, number: str) -> None:
         """The serial number of its board is this from now on."""
+        if self.now:
+            self.now.attending.numbered(number)
         if number == kept_serial(self.game.paths):
             return
         try:
@@ -375,15 +394,13 @@ class Recorder:
             return
         self._fail(f"{message}; what was played is in {self.game.paths.pgn}" if was_there else message)
 
-    def _look_at(self, now: Union[Recording, SettingUp]) -> None:
+    def _look_at(self, now: Union[Recording, SettingUp, Listening]) -> None:
         """From now on this takes the board's bytes and the cable's state."""
         self.now = now
-        now.standing.look(self.looks.short)
-        self._cable.tell(now.standing)
-
-    def asks(self, put: bytes) -> None:
-        """Bytes were added by hand, and the board is asked for a dump."""
-        self._cable.added(put)
+        if now.standing:
+            now.standing.look(self.looks.short)
+            self._cable.tell(now.standing)
+        self.begun()
 
     def broken(self, what: str) -> None:
         """A child process has ended again and again."""
@@ -414,16 +431,14 @@ class Recorder:
 
     def hold(self) -> None:
         """From now on what the board sends is held, until the line is answered."""
-        if self._held is None:
-            self._held = []
+        self._on_the_way.hold()
 
     def let_go(self) -> None:
         """What was held is recorded. Nothing more is held."""
-        held, self._held = self._held, None
         if self._guard.ended:
+            self._on_the_way.forget()
             return
-        for heard in held or ():
-            self.heard(heard)
+        self._on_the_way.let_go()
         if self._ends_later:
             self._ends_later = False
             self.end()
@@ -440,7 +455,7 @@ class Recorder:
         """The game has ended, and the next typed line finds it closed."""
         self._closes = resume
 
-    def acknowledge(self, before: Optional[Paths]) -> Answer:
+    def acknowledge(self, before: Optional[Paths]) -> Reply:
         """Acknowledges the alarms of this game, or of the one before it."""
         takes = before is None and self._may_take()
         if before is None and self._cable.other and not takes:
@@ -463,7 +478,7 @@ class Recorder:
         """Ends everything in order. A second call does nothing."""
         if self._ending:
             return
-        if self._held is not None:
+        if self._on_the_way.is_held:
             self._ends_later = True  # files are just being put in place
             return
         self._ending = True
@@ -471,12 +486,9 @@ class Recorder:
         self._cable.last_words()
         if self._closing:
             return  # the game is being closed, and everything after it
-        if isinstance(self.now, Recording):
+        if self.now:
             self.now.finish(self._game_closed)
         else:
-            if self.now:
-                self.now.close()
-                self.now = None
             self._all_closed(unwritten_of(self.game, Made()))
 
     def _all_closed(self, unwritten: str) -> None:

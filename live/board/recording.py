@@ -11,14 +11,14 @@ from dataclasses import dataclass
 from typing import Callable, List, Optional, Protocol, Sequence
 
 from live.beside import Worker
+from live.board.attended_game import PATIENCE, AttendedGame, HearsGame
 from live.board.disk import Disk, unwritten_of
 from live.board.lingering import Lingering
 from live.board.standing import Standing
 from live.board.state import lasting, mend_of, trouble_of
+from live.device.ended import NOTHING, Ends
 from live.game import ending
 from live.game.alarms import Alarms, acknowledged
-from live.game.attended import Answer
-from live.game.attending import Attending
 from live.game.course import Start
 from live.game.edited import told_of_edit
 from live.game.files import text_of
@@ -27,15 +27,13 @@ from live.game.game import Game, forget_question, largest, mark_end, mebibytes
 from live.game.looks import Look, Looks
 from live.game.making_pgn import Made, Maker
 from live.game.opening import Opened
-from live.game.report import Clock, Fault, Line, Move, Picture, Position, Recovered, Result, line_of
-from live.game.times import ADDED, HEARD
+from live.game.report import Clock, Differs, Event, Fault, Line, Move, Position, Recovered, Result, line_of
+from live.game.times import ADDED
 from live.guard import Guard
-from live.loop import Timer
 from live.steps import Resume, Steps
 from live.terminal.screen import Screen
 
 TICK = 1.0  # seconds between two looks at what waits
-PATIENCE = 5.0  # seconds that the last lines may take
 OF_A_BYTE = operator.attrgetter("offset")  # lines of one byte have the same
 LARGE = 48 * 1024 * 1024  # bytes of a capture, at which somebody may still look at its board
 
@@ -63,7 +61,7 @@ class Rules:
         return self.series or reason in (Reason.TYPED, Reason.SET_UP) or (self.listens and reason is Reason.RESULT)
 
 
-class HearsRecording(Protocol):
+class HearsRecording(HearsGame, Protocol):
     """What a recording reports to."""
 
     def over(self, reason: Reason) -> None:
@@ -72,12 +70,6 @@ class HearsRecording(Protocol):
     def anew(self) -> None:
         """The game begins only now: what was reported before was a set-up."""
 
-    def broken(self, what: str) -> None:
-        """A part of it fails again and again."""
-
-    def asks(self, put: bytes) -> None:
-        """This was added by hand, and the board must be asked for a dump."""
-
     def placed(self) -> None:
         """NAME.pgn was made anew."""
 
@@ -85,14 +77,15 @@ class HearsRecording(Protocol):
         """The capture was removed, and is written anew."""
 
 
-class Recording:
+class Recording(AttendedGame):
     """A game on a board, from its first byte to its text. What came before this call was reported then."""
 
     def __init__(
         self, guard: Guard, worker: Worker, screen: Screen, opened: Opened, rules: Rules, hears: HearsRecording
     ) -> None:
-        self._guard, self._screen, self._hears, self._rules = guard, screen, hears, rules
-        self.game, self.course = opened.game, opened.old.course
+        super().__init__(guard, opened.game, hears)
+        self._screen, self._hears, self._rules = screen, hears, rules
+        self.course = opened.old.course
         self._old = opened.old.size  # bytes from before this call
         self.end: Optional[int] = None  # how many bytes are the game's, if not all are
         self._typed = ""  # the result that an arbiter has typed
@@ -101,11 +94,10 @@ class Recording:
         self._is_over = self._has_ended = False  # whether it is recorded no more; and whether that is because the game has ended
         self._marks = False  # and whether NAME.end must say how many bytes are the game's
         self._done: Callable[[str], None] = lambda unwritten: None
-        self._watchdog: Optional[Timer] = None
+        self._is_heard = False  # whether what comes now counts no more
         self._lingering = Lingering(guard, rules.linger, lambda: self._end(Reason.RESULT))
-        self.standing = Standing(guard, screen, self.course.start, self.game.options.rotated)
+        self.standing: Standing = Standing(guard, screen, self.game.options.rotated)
         self.standing.was_away = bool(opened.old.lines)  # what it showed before this call is long ago
-        self._shows_itself = not opened.old.lines  # whether the board has shown its state; a new game has no older one
         self._maker = Maker(guard, worker, self.game, self)
         self._alarms = Alarms(self.game.paths, self.course)
         if self.course.board and self._old == front_of(self.game.paths, self.game.capture) != 0:  # nothing has come since then
@@ -115,6 +107,7 @@ class Recording:
         self._away = guard.away.seconds  # for how long this recorder was away by then
         self._gap = opened.old.gap  # for how long it wasn't heard before this call
         self._was_away = False  # and no dump has come since
+        self._ends, self._ended = Ends(), NOTHING  # and what has ended in what came last
         self._is_large = False  # and that was said
         self._by_hand = range(0)  # the bytes that were added last
         self.standing.board.look = self.looks.short
@@ -125,18 +118,15 @@ class Recording:
         self._tick = guard.after(TICK, self._each_second)
         if opened.old.lines:
             self._tell_old()
-        self._attending = Attending(guard, self.game, self, opened.old.lines)
+        self.attend(self.game.options.of_live(), with_times=True, known=opened.old.lines)
 
     def _tell_old(self) -> None:
-        """Shows what was played before this call, and the board's state then, until the board shows itself."""
-        self.standing.board.goes_on()
+        """Shows what was played before this call."""
         for news in self.course.news:
             self._screen.told(news.shown, True)
         self.course.news.clear()
-        if self.course.board:
-            self.standing.board.shows(self.course.board)
         for event in self.course.standing():
-            self.standing.board.told(self._guard.now(), event)
+            self._stands(event)
         self._hear_result(self.course.result)
         if self.course.stood_again and self._rules.series:
             self._guard.after(0, functools.partial(self._is_at_start, self.course.stood_again))
@@ -144,13 +134,15 @@ class Recording:
 
     # What the board sends.
 
-    def came(self, sent: bytes) -> None:
-        """The board has sent this."""
-        now, unheard = self._guard.now(), self._guard.away.seconds - self._away
+    def _keep(self, at: float, sent: bytes) -> None:
+        unheard = self._guard.away.seconds - self._away
         if self.standing.was_away or unheard:
-            self._comes_back(max(now - self._heard_at, unheard) + self._gap, unheard)
-        self._heard_at, self._gap, self._came_at = now, 0.0, self.game.capture.size
-        self._append(sent, now)
+            self._comes_back(max(at - self._heard_at, unheard) + self._gap, unheard)
+        self._heard_at, self._gap, came_at = at, 0.0, self.game.capture.size
+        super()._keep(at, sent)
+        self._ended = self._ends.take(sent)
+        if self._ended.time:
+            self._alarms.time(at, self._ended.time, came_at)
 
     def _comes_back(self, silence: float, unheard: float) -> None:
         """The board is heard again after such a silence. Nobody listened for the last part of it."""
@@ -160,12 +152,7 @@ class Recording:
         self._alarms.away(silence, self._gap > 0)
         self._was_away, self.standing.was_away = True, False
 
-    def timed(self, data: bytes) -> None:
-        """The last bytes end a time message. These are its seven bytes."""
-        self._alarms.time(self._guard.now(), data, self._came_at)
-
-    def _append(self, sent: bytes, now: float, what: str = HEARD) -> None:
-        """Appends what the board has sent or somebody has added."""
+    def _write(self, sent: bytes) -> int:
         kept, capture = self._disk.append(sent), self.game.capture
         if capture.size >= LARGE and not self._is_large:
             self._is_large = True
@@ -174,28 +161,16 @@ class Recording:
                 f"{capture.path} has 48 MiB, and none may have more than {most}: does a piece stand badly, and its square chatter?",
                 f"At {most} MiB the recording ends; the game can go on under another name, with --fen",
             )
-        self._attending.feed()
-        if kept:
-            self.game.times.happened(what, kept)  # while the program reads
         if capture.size >= LARGE and capture.at_limit:
             self._end(Reason.LIMIT)
+        return kept
 
-    def dumped(self) -> None:
-        """What came ends a whole dump: the board has shown itself."""
-        if not self._shows_itself:
-            self._shows_itself = True
-            self._attending.then(self._has_shown_itself)
-        if self._was_away:
+    def _is_through(self) -> None:
+        """The first dump after the board was away shows how it stands."""
+        if self._was_away and self._ended.dumped and not self._late:
             self._was_away = False
-            self._attending.then(self._stands)
-
-    def _stands(self) -> None:
-        """The first dump after the board was away is reported."""
-        self._tell_look(self._alarms.stands(self._guard.now()))
-
-    def _has_shown_itself(self) -> None:
-        self.standing.board.shows_itself()
-        self.standing.show()
+            self._tell_look(self._alarms.stands(self._guard.now()))
+        self._ended = NOTHING
 
     def remake(self) -> None:
         """Makes the text anew, whatever is there."""
@@ -212,8 +187,7 @@ class Recording:
         if self._alarms.trouble:
             self._keep_looks()
         self.game.times.wake()
-        self._attending.feed()
-        self._attending.wake()
+        self.wake()
         self._maker.wake()
         if self._faults:
             more = len(self._faults) - 1
@@ -223,19 +197,16 @@ class Recording:
 
     # What the program reports.
 
-    def answered(self, at: float, answer: Answer) -> None:
-        """Takes the lines of its report about what came at this time. The state is shown last and once: states that lasted no time
-        would help nobody."""
-        lines = filter(None, map(line_of, answer.report))
-        news = [self._hear(at, list(of_a_byte)) for _, of_a_byte in itertools.groupby(lines, OF_A_BYTE)]
-        if any(news):
-            self.standing.show()
+    def _reports(self, at: float, texts: List[str]) -> None:
+        """Takes the lines of its report about what came at this time."""
+        if not self._is_heard:
+            for _, of_a_byte in itertools.groupby(filter(None, map(line_of, texts)), OF_A_BYTE):
+                self._hear(at, list(of_a_byte))
 
-    def _hear(self, came: float, lines: Sequence[Line]) -> bool:
-        """Takes the lines of a byte, which came then. What changes the game is printed first, since somebody waits for it. Returns whether the state
-        may have changed."""
+    def _hear(self, came: float, lines: Sequence[Line]) -> None:
+        """Takes the lines of a byte, which came then. What changes the game is printed first, since somebody waits for it."""
         if self._begins_anew:
-            return False
+            return
         is_changed = False
         if self.end is not None:  # the game is over with this many bytes
             lines = [line for line in lines if line.offset < self.end or line.is_picture]
@@ -246,17 +217,14 @@ class Recording:
         if is_changed:
             self._maker.want()
             os.sched_yield()  # whoever reads these lines need not wait for what follows
-        is_news, means = False, None
+        means = None
         for line in lines:
-            is_news = self._take(line, came) or is_news
+            self._take(line, came)
             again = self.course.stands_again
             if again and (self._rules.series or line.offset >= self._old):  # a single game that goes on hasn't ended where it seemed to
                 means = means or again
         if means:
             self._is_at_start(means)
-        if self._by_hand and self._is_put is None and any(line.offset in self._by_hand for line in lines):
-            self._put_ends(not self._is_over)
-        return is_news
 
     def _is_at_start(self, means: Start) -> None:
         """The board shows the start again, and the program has reported all about it."""
@@ -268,31 +236,31 @@ class Recording:
             self._begins_anew = True
             self._hears.anew()
 
-    def _take(self, line: Line, came: float) -> bool:
-        """Takes a line of a byte that came then. Returns whether the state may have changed."""
+    def _take(self, line: Line, came: float) -> None:
+        """Takes a line of a byte that came then."""
         offset, event = line
         is_old = offset < self._old
         if isinstance(event, Fault):
             if not is_old:
                 self._faults.append(f"{event.words} at {offset}")
-            return False
+            return
         self.course.take(line, came)
         look = None if is_old else self._alarms.take(came, line, offset in self._by_hand)
         if isinstance(event, (Position, Clock)):
-            return False
-        is_news = True
-        if isinstance(event, Picture):
-            is_news = self.standing.board.shows(event.codes)  # the next line reports what differs
-        elif not isinstance(event, Recovered):
-            if not is_old:
-                self.standing.board.shows_itself()
-            self.standing.board.told(came, event)
-            if isinstance(event, Result):
-                self._hear_result(event.outcome)
+            return
+        self._stands(event)
+        if isinstance(event, Result):
+            self._hear_result(event.outcome)
         self.course.news.clear()
         if look:
             self._tell_look(look)
-        return is_news
+
+    def _stands(self, event: Event) -> None:
+        """What the report says of the board's squares, and of its result, is read with its state."""
+        if isinstance(event, Differs):
+            self.standing.board.differs = event.squares
+        elif isinstance(event, Result):
+            self.standing.board.result = event.outcome
 
     def _tell_look(self, look: Optional[Look]) -> None:
         """Reports what somebody must look at, if anything."""
@@ -337,10 +305,6 @@ class Recording:
         """A child has ended, and is started again."""
         self._screen.say(text)
 
-    def broken(self, what: str) -> None:
-        """A child has ended again and again."""
-        self._hears.broken(what)
-
     # Its text.
 
     def placed(self) -> None:
@@ -378,11 +342,12 @@ class Recording:
         """These bytes are in the capture from now on, after all that the board has sent: moves, or a result, with which the game
         ends."""
         self._by_hand = range(self.game.capture.size, self.game.capture.size + len(put))
-        self._is_put = True if outcome == self.course.result else None  # then there is nothing to report
+        self._is_put = None
         if outcome:
             self._typed, self.end = outcome, self._by_hand.stop
-        self._append(put, self._guard.now(), ADDED)
-        self._hears.asks(put)
+        self._append(put, ADDED)
+        self.attending.tell(ADDED, put)
+        self.attending.then(lambda: self._put_ends(not self._is_over))
 
     def reports_put(self) -> Steps[bool]:
         """Waits until the program has reported what was added last. Returns whether the game has it: what came before it may have
@@ -445,14 +410,7 @@ class Recording:
         """Hears the last lines, makes the text a last time, and reports what can't be written, and why; nothing if all is."""
         self._is_over, self._done = True, done
         self._lingering.cancel()
-        forget_question(self.game.paths)
-        self.game.capture.write()
-        if self._marks and not self.game.capture.waits:
-            self._mark()
-        if self._has_ended and not self._marks:
-            self._note_end()
-        self._watchdog = self._guard.after(PATIENCE, self._all_is_heard)
-        self._attending.then(self._all_is_heard)
+        self.settle(self._all_is_heard)
 
     def _mark(self) -> None:
         paths = self.game.paths
@@ -466,10 +424,13 @@ class Recording:
         self.game.times.over(self.game.capture.total if self.end is None else self.end)
 
     def _all_is_heard(self) -> None:
-        if self._watchdog:
-            self._watchdog.cancel()
-            self._watchdog = None
-        self._attending.close()
+        self._is_heard = True
+        forget_question(self.game.paths)
+        self.game.capture.write()
+        if self._marks and not self.game.capture.waits:
+            self._mark()
+        if self._has_ended and not self._marks:
+            self._note_end()
         pgn, course = self.game.paths.pgn, self.course
         if course.recovered:
             pairs = "; ".join(pair.replace("recovered ", "") for pair in course.recovered)
@@ -486,8 +447,6 @@ class Recording:
         self._put_ends(False)
         self._tick.cancel()
         self._lingering.cancel()
-        if self._watchdog:
-            self._watchdog.cancel()
         self.standing.close()
-        self._attending.close()
+        super().close()
         self._maker.close()

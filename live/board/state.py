@@ -1,4 +1,5 @@
-"""The state of a board, as an arbiter reads it. It follows from the program's report, the line, the disk and the time.
+"""The state of a board, as an arbiter reads it: in words. The program says how a board stands, and since when; the recorder adds what only
+it knows.
 
 - `agrees`: the board shows the game's position. `result 1-0`: it has shown the result, wherever the pieces are put afterwards.
 - `in hand g1 f3`: a few squares differ, each for less than 10 s. `WRONG since 40 s: e2 d5`: these have differed for 10 s or more.
@@ -15,17 +16,12 @@ from __future__ import annotations
 
 import enum
 import math
-from dataclasses import dataclass, field
-from typing import Dict, Iterable, NamedTuple, Optional, Tuple
+from dataclasses import dataclass
+from typing import NamedTuple, Optional, Tuple
 
-from live.board.agreement import Agreement
-from live.device.protocol import Picture, differing
-from live.game.report import Agrees, Differs, Event, Move, Result
+from live.game.attended import Stood
 
-HAND = 10.0  # seconds that a hand may take
-MOST_IN_HAND = 6  # squares: castling changes four, and a neighbour or two may be straightened
 MOST_LISTED = 8
-ONE_MOVE = 4  # squares that a move changes, at most
 TURNED_ROUND = "is the board turned round?"
 OTHER_BOARD = "another board may be on this cable"
 DISK_FULL, NOT_WRITTEN = "DISK FULL", "NOT WRITTEN"  # the disk has no room, or a file can't be written for another reason
@@ -53,6 +49,11 @@ class Kind(enum.Enum):
     SETTING_UP = "setting up"
     SILENT = "SILENT"
     UNPLUGGED = "UNPLUGGED"
+
+    @staticmethod
+    def of(word: str) -> Kind:
+        """Of the program's word."""
+        return Kind[word.replace("-", "_")]
 
 
 ALARMS = (Kind.WRONG, Kind.NO_START, Kind.SILENT, Kind.UNPLUGGED)
@@ -121,142 +122,27 @@ def lasting(seconds: float) -> str:
 
 @dataclass
 class BoardState:
-    """Takes what happens at a board, and gives its state at any time."""
+    """What is known of a board."""
 
-    start: Optional[Picture] = None  # of the game, for the hint that a board is turned round
     turned_hint: str = TURNED_ROUND
     look: str = ""  # what somebody must look at
-    _since: float = 0.0  # when something was first seen, the board began to agree, or the first square began to differ
-    _seen: bool = False
-    _squares: Dict[str, float] = field(default_factory=dict)  # those that differ, and since when
-    _changed_at: float = 0.0
-    _setting_up: bool = False
-    _played: bool = False
-    _result: str = ""
-    _silent_since: Optional[float] = None
-    _unplugged_since: Optional[float] = None
-    _disk: str = ""
-    _picture: Optional[Picture] = None
-    _replugged: bool = False
-    _hint: str = ""
-    _goes_on: bool = False  # the game goes on, and the board has shown nothing since this call began
-    _agreement: Agreement = field(default_factory=Agreement)
+    disk: str = ""  # what keeps something from being written
+    result: str = ""  # that the board has shown
+    differs: Tuple[str, ...] = ()  # the squares of which the report said so last
+    unplugged_since: Optional[float] = None  # a serial server may be there without a board
+    _stood: Stood = Stood("WAITS")
+    _since: float = 0.0
 
-    def told(self, now: float, event: Optional[Event]) -> None:
-        """The program has reported this about a picture."""
-        if isinstance(event, Move):
-            self._played = True
-            self.differs(now, ())
-        elif isinstance(event, Result):
-            self._result = ""
-            self.differs(now, ())
-            self._result = event.outcome.replace("*", "")
-        elif isinstance(event, Agrees):
-            self.differs(now, ())
-        elif isinstance(event, Differs):
-            self.differs(now, event.squares)
+    def stands(self, now: float, stood: Stood) -> None:
+        """The program has said this."""
+        self._stood, self._since = stood, now - (stood.lasted or 0) / 1000
 
-    def differs(self, now: float, squares: Iterable[str]) -> None:
-        """The picture differs from the game's position on these squares. If there are none, it agrees."""
-        before = self._squares
-        self._squares = {square: before.get(square, now) for square in squares}
-        count = len(self._squares)
-        if count <= MOST_IN_HAND < len(before):  # what is left of a set-up
-            self._squares = dict.fromkeys(self._squares, now)
-        self._changed_at = now
-        if count:
-            self._agreement.differs(now, count)
-        else:
-            self._agreement.agrees()
-            self._setting_up, self._hint = False, ""
-        if count > MOST_IN_HAND:
-            self._setting_up = True
-        if not self._result and not (self._seen and before and self._squares):
-            self._since = now
-        self._seen = True
-
-    def shows(self, picture: Picture) -> bool:
-        """A dump has shown this picture. Returns whether the hint has changed."""
-        before = self._hint
-        if self._replugged and self._picture and len(differing(self._picture, picture)) > ONE_MOVE:
-            self._hint = OTHER_BOARD
-        elif self._hint != OTHER_BOARD:
-            turned = self.start and not self._played and turned_round(picture, self.start)
-            self._hint = self.turned_hint if turned else ""
-        self._picture, self._replugged = picture, False
-        return self._hint != before
-
-    def goes_on(self) -> None:
-        """The next reports are from before this call, until `shows_itself`."""
-        self._goes_on = True
-
-    def shows_itself(self) -> None:
-        """From now on the state is what was reported."""
-        self._goes_on = False
-
-    def unplugged(self, now: float) -> None:
-        """The line has gone away."""
-        if self._unplugged_since is None:
-            self._unplugged_since = now
-        self._silent_since = None
-
-    def plugged(self) -> None:
-        """The line is open, or open again. The next picture is compared with the last one."""
-        self._replugged, self._unplugged_since = True, None
-
-    def silent(self, now: float, silent: bool) -> None:
-        """The board is `silent`, or answers again."""
-        if not silent:
-            self._silent_since = None
-        elif self._silent_since is None:
-            self._silent_since = now
-
-    def disk(self, trouble: str) -> None:
-        """What keeps something from being written, if anything does."""
-        self._disk = trouble
-
-    def state(self, now: float) -> State:
-        """The state at this time."""
-        if self._unplugged_since is not None:
-            return State(Kind.UNPLUGGED, self._unplugged_since, disk=self._disk, look=self.look)
-        if self._silent_since is not None:
-            return State(Kind.SILENT, self._silent_since, disk=self._disk, look=self.look)
-        if self._goes_on:
-            return State(Kind.WAITS, self._since, disk=self._disk, look=self.look)
-        is_overdue = bool(self._squares) and self._agreement.is_overdue(now)
-        kind, squares = self._shown(now, is_overdue)
-        since = self._since
-        if squares:
-            since = self._agreement.since if is_overdue else min([self._squares[square] for square in squares])
-        return State(kind, since, squares, self._result, self._hint, self._disk, self.look)
-
-    def _shown(self, now: float, is_overdue: bool) -> Tuple[Kind, Tuple[str, ...]]:
-        """What the pictures say, and the squares that are shown with it. The board `is_overdue` if it has differed for too long."""
-        if not self._seen:
-            return Kind.WAITS, ()
-        if self._result:
-            return Kind.RESULT, ()
-        if not self._squares:
-            return Kind.AGREES, ()
-        moving = now < self._changed_at + HAND
-        many = len(self._squares) > MOST_IN_HAND
-        old = tuple([square for square, since in self._squares.items() if now >= since + HAND])
-        if is_overdue:
-            is_wrong = self._played or self._agreement.has_agreed
-            return (Kind.WRONG if is_wrong else Kind.NO_START), old or tuple(self._squares)
-        if self._setting_up and (moving or (many and not self._played)):
-            return Kind.SETTING_UP, ()
-        return (Kind.WRONG, old) if old else (Kind.IN_HAND, tuple(self._squares))
-
-    def due(self, now: float) -> float:
-        """When the state changes if nothing happens."""
-        if not self._squares:
-            return math.inf
-        times = [since + HAND for since in self._squares.values()] + [self._changed_at + HAND, self._agreement.due()]
-        return min([time for time in times if time > now], default=math.inf)
-
-
-def turned_round(picture: Picture, start: Picture) -> bool:
-    """Whether this is the start on a board that is turned round, except for a piece or two that are still missing."""
-    turned = len(differing(picture[::-1], start))
-    return turned <= ONE_MOVE < 16 <= len(differing(picture, start))
+    @property
+    def state(self) -> State:
+        """The state now."""
+        if self.unplugged_since is not None:
+            return State(Kind.UNPLUGGED, self.unplugged_since, disk=self.disk, look=self.look)
+        stood, kind = self._stood, Kind.of(self._stood.kind)
+        squares = self.differs if kind is Kind.IN_HAND else stood.squares
+        hint = {"": "", "TURNED-ROUND": self.turned_hint, "OTHER-BOARD": OTHER_BOARD}[stood.hint]
+        return State(kind, self._since, squares, self.result if kind is Kind.RESULT else "", hint, self.disk, self.look)

@@ -22,7 +22,6 @@ from live.refused import DONE
 from live.steps import Steps
 
 TAKEN_OFF = "taken off"
-WHOLE = 100  # bytes at the end of a new capture, in which a frame begins: what was cut is no frame any more
 
 
 def take_result_off(obeying: Obeying) -> Steps[Answer]:
@@ -82,7 +81,6 @@ def _put(obeying: Obeying, to: str) -> Steps[str]:
     games.record_anew(opened)
     done = f"{way.words}. {kept}"
     obeying.screen.say(done)
-    games.asks(way.content[-WHOLE:])
     obeying.hears.placed()
     return f"{paths.name}: {done}"
 
@@ -94,8 +92,6 @@ def _go_on(obeying: Obeying, said: str) -> Steps[None]:
     if games.now:
         games.now.close()
     yield from _begin_anew(obeying)
-    capture = games.game.capture
-    games.asks(capture.bytes(max(0, capture.size - WHOLE)))
     obeying.hears.reopened()
 
 

@@ -1,13 +1,12 @@
-"""The connection to one board: its line, which is opened again after it went away, and the requests that `asking` decides."""
+"""The connection to one board: its line, which is opened again after it went away. It sends what it is given."""
 
 from __future__ import annotations
 
 import math
 from typing import TYPE_CHECKING, Optional, Protocol
 
-from live.device.asking import Asking, Came
+from live.device.ended import Ends
 from live.device.line import Line, line_of
-from live.device.protocol import START_REQUEST
 from live.device.serial_line import BUSY_PATIENCE, Busy, SerialLine, cable_name
 from live.game.times import ANSWERED, ASKED, CALLED, GONE, OPENED
 from live.guard import Guard
@@ -25,23 +24,17 @@ FLOOD = "it sends faster than a board can"
 class Hears(Protocol):
     """Gets reports about a board."""
 
-    def came(self, sent: bytes, ended: Came) -> None:
-        """The board has sent this, and that ended in it."""
+    def came(self, sent: bytes) -> None:
+        """The board has sent this."""
 
     def happened(self, what: str, count: Optional[int] = None) -> None:
         """What happens on the line, as NAME.times has it."""
 
-    def asked_whose(self) -> None:
-        """The board is asked for its number: another may be on the line."""
-
     def plugged(self) -> None:
-        """The line is open, and the board is asked for a dump."""
+        """The line is open, and there is a board on it as far as is known."""
 
     def unplugged(self) -> None:
         """The line has gone away, or wasn't there."""
-
-    def silence(self, silent: bool) -> None:
-        """The board sends no dumps, or sends them again."""
 
     def busy(self) -> None:
         """Another process has the line."""
@@ -58,15 +51,14 @@ class Connection:
         self._guard, self._hears = guard, hears
         self._given = device
         self._line: Line = line_of(device)
-        self._asking = Asking()
         self._silent = False
         self._timer: Optional[Timer] = None
         self._calls_again: Optional[Timer] = None
         self._gone = False
         self._is_plugged = self._is_open = False
         self._trial: Optional[Trial] = None  # of a connection to a serial server
+        self._ends = Ends()  # of what it sends before a board has answered
         self._busy_since = math.inf
-        self._away = 0.0  # the seconds that the recorder was away before the board was asked last
         self._closed = False
         self.why = ""  # why a serial server isn't there
         guard.opened(lambda: self._line.close())
@@ -74,6 +66,11 @@ class Connection:
     def tell(self, hears: Hears) -> None:
         """From now on this one gets the reports."""
         self._hears = hears
+
+    @property
+    def is_server(self) -> bool:
+        """Whether it is a serial server, whose line may be open without a board."""
+        return not isinstance(self._line, SerialLine)
 
     @property
     def cable(self) -> str:
@@ -123,15 +120,13 @@ class Connection:
         now, self._is_open = self._guard.now(), True
         self._hears.happened(OPENED)
         self._guard.watch(self._line.number, self._readable)
-        self._asking.connected(now)
         if isinstance(self._line, SerialLine):
             self._plugged()
         else:
             from live.device.trial import Trial  # of serial servers alone
 
-            self._trial = Trial(now)
+            self._trial, self._ends = Trial(now), Ends()
             self._call_again_later()
-        self._ask()
 
     def _plugged(self) -> None:
         if not self._is_plugged:
@@ -144,25 +139,18 @@ class Connection:
             self._lost(self._line.why)
         elif sent and self._trial and self._trial.is_flood(now, len(sent)):
             self._lost(FLOOD)
+        elif sent and self._trial and not self._trial.has_answered:
+            self._tries(self._trial, sent)
         elif sent:
-            ended = self._asking.came(now, sent)
-            if self._trial:
-                self._tries(self._trial, sent, ended)
-            else:
-                self._hears.came(sent, ended)
-            if self._silent != self._asking.silent:
-                self._tell_silence()
-            self._ask()
+            self._hears.came(sent)
 
-    def _tries(self, trial: Trial, sent: bytes, ended: Came) -> None:
+    def _tries(self, trial: Trial, sent: bytes) -> None:
         """A serial server has sent this: perhaps a board behind it."""
-        had_answered, passed = trial.has_answered, trial.passes((sent, ended))
-        if passed and not had_answered:
+        passed = trial.passes((sent, self._ends.take(sent)))
+        if passed:
             self._hears.happened(ANSWERED)
-        if passed and not self._is_plugged:
             self._plugged()
-        for one in passed:
-            self._hears.came(*one)
+            self._hears.came(b"".join(part for part, _ in passed))
 
     def _lost(self, why: str) -> None:
         said = self._trial.said if self._trial and not self._trial.has_answered else ""
@@ -171,9 +159,11 @@ class Connection:
     def _is_gone(self, why: str = "") -> None:
         """It isn't there. That is reported once; it is tried again and again."""
         self.why = why or self._line.why
+        was_open, was_gone, self._gone = self._is_open, self._gone, True
         self._hang_up()
-        if not self._gone:
-            self._gone = True
+        if not was_gone:
+            if not was_open:
+                self._hears.happened(GONE)
             self._hears.unplugged()
         if not self._closed:
             self._timer = self._guard.after(LOOK_AGAIN if isinstance(self._line, SerialLine) else CONNECT_AGAIN, self.begin)
@@ -193,7 +183,6 @@ class Connection:
             self._line.hang_up()
         self._is_open = False
         self._hears.happened(CALLED)
-        self._asking.silent = self._silent
         self._timer = self._guard.after(CONNECT_AGAIN, self.begin)
 
     def _disconnect(self) -> None:
@@ -204,7 +193,6 @@ class Connection:
         self._timer = self._calls_again = None
         if self._line.number is not None:
             self._guard.forget(self._line.number)
-        self._asking.disconnected()
         self._trial = None
 
     def _hang_up(self) -> None:
@@ -215,49 +203,17 @@ class Connection:
             self._hears.happened(GONE)
         self._silent = self._is_plugged = False
 
-    def _ask(self) -> None:
-        """Sends the request that is due, and calls itself again when the next one is."""
-        if self._line.number is None:
-            return
-        away = self._guard.away.seconds
-        if away > self._away:  # a dump that has waited since before that isn't what the board shows now
-            self._away = away
-            self._asking.added(b"")
-        now, due = self._guard.now(), self._asking.due()
-        if now >= due:
-            request = self._asking.request(now)
+    def ask(self, request: bytes) -> None:
+        """Sends the board this, if its line is open."""
+        if self._line.number is not None:
             self._line.ask(request)
             self._hears.happened(ASKED, len(request))
-            if START_REQUEST in request and self._is_plugged:
-                self._hears.asked_whose()
-            if self._silent != self._asking.silent:
-                self._tell_silence()
-            due = self._asking.due()
-        if self._timer and (self._timer.when > due or self._timer.when <= now):
-            self._timer.cancel()
-            self._timer = None
-        if self._timer is None and due < math.inf:
-            self._timer = self._guard.at(due, self._due)
 
-    def _due(self) -> None:
-        self._timer = None
-        self._ask()
-
-    def _tell_silence(self) -> None:
-        """The board is silent, or answers again."""
-        self._silent = self._asking.silent
+    def silence(self, silent: bool) -> None:
+        """The board is silent, though it was asked, or answers again."""
+        self._silent = silent
         self._plugged()
-        self._hears.silence(self._silent)
         self._call_again_later()
-
-    def has_number(self) -> None:
-        """The board is known to have a number: it is asked for until it comes."""
-        self._asking.has_number = True
-
-    def added(self, sent: bytes) -> None:
-        """Bytes were added to the capture by hand and may have cut a frame, so the board is asked for a dump."""
-        self._asking.added(sent)
-        self._ask()
 
     def last_words(self) -> None:
         """Takes what has come, once more, and closes the line for good."""
@@ -265,5 +221,5 @@ class Connection:
         if self._line.number is not None and self._is_plugged:
             sent = self._line.read()
             if sent:
-                self._hears.came(sent, Came(serial=self._asking.came(self._guard.now(), sent).serial))
+                self._hears.came(sent)
         self._hang_up()

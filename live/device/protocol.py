@@ -1,5 +1,5 @@
-"""The board's protocol, as far as a live recorder needs it: where frames end, three requests, the dump of a picture, and the
-board's serial number.
+"""The board's protocol, as far as a live recorder needs it: where frames end, the request for a serial number, the dump of a picture,
+and the number.
 
 What the frames mean is left to the program. This module only knows whether a frame is whole, and its kind.
 """
@@ -12,9 +12,6 @@ import itertools
 import operator
 import re
 from typing import Dict, List, Optional, Tuple
-
-DUMP_REQUEST = b"B"  # 42: a board dump
-START_REQUEST = b"BK"  # 42 4B: a board dump, then field updates, and times when they change
 
 SERIAL_REQUEST = b"E"  # 45: the board's serial number
 
@@ -48,6 +45,10 @@ KINDS: Dict[int, FrameKind] = {
 
 # A whole frame of these kinds: identifier, size, and data.
 WHOLE = re.compile(rb"\x86\x00\x43[\x00-\x0F]{64}|\x8E\x00\x05[\x00-\x3F][\x00-\x0F]|\x8D\x00\x0A[\x00-\x7F]{7}")
+
+
+NUMBERED = re.compile(rb"\x91\x00\x08([\x21-\x7E]{5})")
+NUMBER_SIZE = HEADER + SERIAL_LENGTH  # bytes of a message with a number
 
 
 class Frames:
@@ -155,6 +156,13 @@ def serial_of(frame: bytes) -> str:
     number = frame[HEADER:]
     is_one = frame[:1] == bytes((SERIAL_ID,)) and len(number) == SERIAL_LENGTH and all(0x21 <= byte <= 0x7E for byte in number)
     return number.decode("ascii") if is_one else ""
+
+
+def number_in(sent: bytes) -> str:
+    """The last serial number that these bytes give; empty if there is none. Only a frame's first byte has its top bit set, so it is
+    found wherever it stands."""
+    found: List[bytes] = NUMBERED.findall(sent)
+    return found[-1].decode("ascii") if found else ""
 
 
 def differing(one: Picture, other: Picture) -> List[str]:

@@ -9,14 +9,14 @@ from __future__ import annotations
 from dataclasses import dataclass, field
 from typing import List, Tuple
 
-from live.device.asking import Came
+from live.device.ended import Ended
 
 RATE = 1920  # bytes a second: twice what a board's line carries
 AT_ONCE = 65536  # bytes that may come together after the network has held them up
 KEPT = 4096  # bytes that wait for the first dump; the oldest go first
 LONGEST_SHOWN = 60  # characters of what a server says
 
-Heard = Tuple[bytes, Came]  # what was sent, and what ended in it
+Heard = Tuple[bytes, Ended]  # what was sent, and what ended in it
 
 
 @dataclass

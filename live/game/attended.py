@@ -59,7 +59,8 @@ class Answers:
 
     def take(self, part: bytes) -> List[Answer]:
         """The answers that end in what has come now."""
-        come, at, found = self._come + part, 0, []
+        come, at = self._come + part, 0
+        found: List[Answer] = []
         if self._known and not NO_HISTORY.search(come):
             found, at = self._skip(come)
         while (end := come.find(b"\n", at)) >= 0:

@@ -3,110 +3,106 @@
 from __future__ import annotations
 
 import collections
+import math
 import os
-from dataclasses import dataclass, field
-from typing import Deque, List, Protocol, Tuple, Union
+from dataclasses import dataclass, field, replace
+from typing import Deque, List, Optional, Protocol, Tuple, Union
 
 from live.game import times
-from live.game.attended import CAPTURE, Answer, Answers, entry
-from live.game.game import Game
-from live.game.program import CHUNK, HearsChild, Reader, Task
+from live.game.attended import CAPTURE, HOLD, KEEP, KEPT, NUMBER, WAKE, Answer, Answers, entry
+from live.game.files import Capture
+from live.game.program import CHUNK, Child, HearsChild, Program
+from live.game.timed import Times
 from live.guard import Guard
-from live.loop import Callback
+from live.loop import Callback, Loop, Timer
 
-PIECE = 64 * 1024  # bytes of a capture that are told at once: the report of a piece is in memory as a whole
+PIECE = 64 * 1024  # bytes of a capture that are told at once: the report of a piece is in the program's memory as a whole
+MOST_WITH_TIMES = 4 * 1024 * 1024  # bytes of a capture that is told with its times, and so as a whole
+OF_THE_LINE = (times.OPENED, times.ANSWERED, times.GONE, times.CALLED)
+
+
+@dataclass
+class Told:
+    """Something that was told: when, by the loop; what, and the bytes with it; and what is called once it is answered."""
+
+    at: float
+    what: str
+    sent: bytes = b""
+    is_sent: bool = True  # whether the board is sent what is asked for then
+    thens: List[Callback] = field(default_factory=list)
 
 
 class HearsAnswers(HearsChild, Protocol):
     """Gets what the program answers."""
 
-    def answered(self, at: float, answer: Answer) -> None:
-        """What happened at this time of the loop is answered."""
+    def answered(self, told: Told, answer: Answer) -> None:
+        """This is answered."""
 
 
-@dataclass
-class Told:
-    """Something that was told, when, and what is called once it is answered."""
+@dataclass(frozen=True)
+class Past:
+    """What is kept of a game: its capture from an offset on, and its times, if they are told."""
 
-    at: float
-    thens: List[Callback] = field(default_factory=list)
+    capture: Capture
+    start: int = 0
+    times: Optional[Times] = None
 
 
 Part = Union[bytes, Tuple[int, int]]  # to be told: bytes, or those of the capture from one offset to another
 
 
-class Attending(Reader):
-    """Attends a game from its first byte. The first `known` lines of its report were reported before.
+class Attending(Child):
+    """Attends a board. The first `known` lines of the report are known.
 
-    If the child ends too soon, another one is told all that is kept."""
+    If the child ends too soon, another one is told all that is kept, how the line is, and what wasn't answered."""
 
-    def __init__(self, guard: Guard, game: Game, hears: HearsAnswers, known: int) -> None:
-        self._capture, self._answered = game.capture, hears.answered
+    def __init__(
+        self, guard: Guard, program: Program, words: Tuple[str, ...], past: Optional[Past], hears: HearsAnswers, known: int = 0
+    ) -> None:
+        super().__init__(guard, program, ("live", *words), hears)
+        self._past, self._hears = past, hears
         self._reported = known  # lines
-        self._told: Deque[Told] = collections.deque()  # and isn't answered yet
-        self._out: Deque[Part] = collections.deque()  # isn't written to the child yet
-        self._size = 0  # bytes of the capture that were told
-        super().__init__(guard, Task(game.program, ("live", *game.options.of_live()), game.capture), hears)
+        self._answers = Answers()
+        self._told: Deque[Told] = collections.deque()  # and isn't answered
+        self._out: Deque[Part] = collections.deque()  # isn't written to the child
+        self._held: List[bytes] = []  # answered, and neither kept nor known to be another board's
+        self.keeps = False  # whether what the board sends is kept, as far as is known
+        self._line: Tuple[str, ...] = ()  # what was told of the line
+        self._number = ""  # of the game's board, if it was told
+        self._began = 0  # when its call began, by its clock
+        self._slept = -math.inf  # the seconds by which that is ahead of the loop's, which stands still while the computer sleeps
+        self._away = guard.away.seconds
+        self._due: Optional[Timer] = None
+        self._is_paused = self._is_due = False
+        self.start()
 
-    def _begins_anew(self) -> None:
-        thens = [then for told in self._told for then in told.thens]
-        self._told.clear()
-        self._out.clear()
-        self._answers = Answers(self._reported)
-        self._size = size = self._capture.size
-        for at in range(0, size, PIECE):
-            until = min(at + PIECE, size)
-            self._tell(entry(0, CAPTURE, until - at))
-            self._out.append((at, until))
-        self._tell(entry(0, times.BEGIN, size))
-        self._told[-1].thens += thens
+    # What it is told.
 
-    def _tell(self, text: bytes) -> None:
-        self._told.append(Told(self._guard.now()))
-        self._out.append(text)
+    def tell(self, what: str, sent: bytes = b"", count: Optional[int] = None, is_sent: bool = True) -> None:
+        """This happens now."""
+        if self._guard.away.seconds > self._away:
+            before, self._away = self._away, self._guard.away.seconds
+            self._tell(Told(self._guard.now(), times.STOPPED), int((self._away - before) * 1000))
+        if what in OF_THE_LINE:
+            self._line = times.line_after(self._line, what)
+        elif what == NUMBER:
+            self.numbered(sent.decode("ascii"))
+        self._tell(Told(self._guard.now(), what, sent, is_sent), count)
+        self._feed()
 
-    def feed(self) -> None:
-        """Tells what the capture has more, and writes what the child takes."""
-        while self._size < self._capture.size:
-            part = self._capture.read(self._size, min(PIECE, self._capture.size - self._size))
-            if not part:
-                break
-            self._size += len(part)
-            self._tell(entry(0, times.ADDED, len(part), part))
-        if self._input is None or self._blocked:
-            return
-        try:
-            while self._out:
-                self._write(self._input, self._out[0])
-        except BlockingIOError:
-            self._blocked = True
-            self._guard.watch(self._input, None, self._writable)
-        except OSError:
-            pass  # it has ended, as its output shows
+    def numbered(self, number: str) -> None:
+        """The game's board has this number, which the program knows."""
+        self._number = number
 
-    def _write(self, number: int, part: Part) -> None:
-        """Writes as much of this as the child takes."""
-        if isinstance(part, bytes):
-            left: Part = part[os.write(number, part) :]
-            is_left = bool(left)
-        else:
-            at, until = part
-            at += os.write(number, self._capture.read(at, min(CHUNK, until - at)))
-            left, is_left = (at, until), at < until
-        if is_left:
-            self._out[0] = left
-        else:
-            self._out.popleft()
+    def _tell(self, told: Told, count: Optional[int] = None) -> None:
+        self._told.append(told)
+        self._out.append(entry(self._milliseconds() - self._began, told.what, len(told.sent) if told.sent else count, told.sent))
 
-    def _takes(self, part: bytes) -> None:
-        for answer in self._answers.take(part):
-            if self._child is None:
-                return  # it was closed meanwhile
-            told = self._told.popleft()
-            self._reported += len(answer.report)
-            self._answered(told.at, answer)
-            for then in told.thens:
-                then()
+    def _milliseconds(self) -> int:
+        """The time by a clock that counts on while the computer sleeps, and otherwise goes as the loop's."""
+        now = self._guard.now()
+        self._slept = max(self._slept, Loop.counting() - now)
+        return int((now + self._slept) * 1000)
 
     def then(self, done: Callback) -> None:
         """Calls this when all that was told so far is answered."""
@@ -114,3 +110,149 @@ class Attending(Reader):
             self._told[-1].thens.append(done)
         else:
             done()
+
+    @property
+    def is_settled(self) -> bool:
+        """Whether all that was told is answered."""
+        return not self._told
+
+    def pause(self) -> None:
+        """The time isn't told, so that all that was told gets answered."""
+        self._is_paused = True
+
+    def go_on(self) -> None:
+        """The time is told again."""
+        self._is_paused = False
+        if self._is_due:
+            self._wakes()
+
+    def take(self) -> bytes:
+        """Ends it. Returns what the board has sent and was neither kept nor known to be another board's."""
+        self.close()
+        thens, left = self._thens(), self._undecided()
+        self._told.clear()
+        self._held.clear()
+        for then in thens:
+            then()
+        return left
+
+    def _undecided(self) -> bytes:
+        return b"".join([*self._held, *(told.sent for told in self._told if told.what == times.HEARD)])
+
+    def _thens(self) -> List[Callback]:
+        return [then for told in self._told for then in told.thens]
+
+    def starts_later(self, by: int) -> None:
+        """So many bytes were added to the capture, before those that are told."""
+        if self._past:
+            self._past = replace(self._past, start=self._past.start + by)
+
+    # How it begins.
+
+    def _begins_anew(self) -> None:
+        thens, left = self._thens(), self._undecided()
+        self._told.clear()
+        self._out.clear()
+        self._held.clear()
+        self._answers = Answers(self._reported)
+        self._began = self._milliseconds()
+        self._tell_past()
+        if self._number:
+            self._tell(Told(self._guard.now(), NUMBER, self._number.encode()))
+        for what in self._line:
+            self._tell(Told(self._guard.now(), what))
+        if left:
+            self._tell(Told(self._guard.now(), times.HEARD, left))
+        self._told[-1].thens += thens
+
+    def _tell_past(self) -> None:
+        """What is kept, and that a call begins."""
+        past, now = self._past, self._guard.now()
+        size = 0 if past is None else past.capture.size - past.start
+        away: Optional[int] = None
+        if past and past.times:
+            away = past.times.take_away()
+            content = past.times.content() if 0 < size <= MOST_WITH_TIMES else b""
+            if content:
+                self._tell(Told(now, KEPT, content))
+        if past:
+            piece = size if self._told else PIECE
+            for at in range(past.start, past.capture.size, piece or PIECE):
+                until = min(at + piece, past.capture.size)
+                self._tell(Told(now, CAPTURE), until - at)
+                self._out.append((at, until))
+        self._tell(Told(now, times.BEGIN), size)
+        if past and past.capture.pending:
+            self._tell(Told(now, times.ADDED, past.capture.pending))
+        if away is not None:
+            self._tell(Told(now, times.AWAY), away)
+
+    def _writes(self, number: int) -> bool:
+        if not self._out:
+            return False
+        part = self._out[0]
+        if isinstance(part, bytes):
+            left: Part = part[os.write(number, part) :]
+            is_left = bool(left)
+        else:
+            at, until = part
+            assert self._past
+            at += os.write(number, self._past.capture.read(at, min(CHUNK, until - at)))
+            left, is_left = (at, until), at < until
+        if is_left:
+            self._out[0] = left
+        else:
+            self._out.popleft()
+        return True
+
+    # What it answers.
+
+    def _takes(self, part: bytes) -> None:
+        answers = self._answers
+        for answer in answers.take(part):
+            if self._is_closed or self._answers is not answers:
+                return  # meanwhile
+            told = self._told.popleft()
+            self._take(told, answer)
+            for then in told.thens:
+                then()
+
+    def _take(self, told: Told, answer: Answer) -> None:
+        self._reported += len(answer.report)
+        if told.what in OF_THE_LINE or answer.handling != HOLD:
+            self._held.clear()
+        if told.what == times.HEARD and answer.handling == HOLD:
+            self._held.append(told.sent)
+        self.keeps = answer.handling == KEEP
+        self._wake_at(told.at, answer.due)
+        self._hears.answered(told, answer)
+
+    def unreported(self, lines: int) -> None:
+        """So many lines of the report weren't used, since their bytes aren't in the capture."""
+        self._reported -= lines
+
+    # The time.
+
+    def _wake_at(self, at: float, due: Optional[int]) -> None:
+        """It wants to be woken so many milliseconds after this time; another answer says it anew."""
+        if self._due:
+            self._due.cancel()
+            self._due = None
+        self._is_due = False
+        if due is not None and not self._told:
+            self._due = self._guard.at(at + due / 1000, self._wakes)
+
+    def _wakes(self) -> None:
+        self._due = None
+        if self._is_paused:
+            self._is_due = True
+        else:
+            self._is_due = False
+            self.tell(WAKE)
+
+    def close(self) -> None:
+        """Ends it."""
+        if self._due:
+            self._due.cancel()
+            self._due = None
+        super().close()

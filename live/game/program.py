@@ -139,28 +139,6 @@ class Program:
             return subprocess.Popen([self.path, *words], executable=named, stdin=stdin, stdout=stdout, stderr=stderr, bufsize=0)
 
 
-class Source(Protocol):
-    """Bytes that grow: a capture."""
-
-    @property
-    def size(self) -> int:
-        """How many there are."""
-
-    def read(self, offset: int, count: int) -> bytes:
-        """At most this many bytes, from an offset on."""
-
-
-@dataclass(frozen=True)
-class Task:
-    """The work of a child: its words, and the source that it reads from an offset on."""
-
-    program: Program
-    words: Tuple[str, ...]
-    source: Source
-    start: int = 0
-    errors: int = subprocess.DEVNULL  # where its standard error goes
-
-
 class HearsChild(Protocol):
     """Gets reports about a child that has ended too soon."""
 
@@ -171,74 +149,65 @@ class HearsChild(Protocol):
         """It has ended again and again, and isn't started any more."""
 
 
-class Reader:
-    """A child that reads a source from an offset on.
+class Child:
+    """A child that is told lines, and answers. If it ends, another one is started: at once, and then every half second."""
 
-    It gets the bytes that are there as fast as it takes them. If it ends before its input, another one is started from the same
-    offset, and lines that were taken from the first child are taken only once.
-    """
-
-    def __init__(self, guard: Guard, task: Task, hears: HearsChild) -> None:
-        self._guard, self._task, self._hears = guard, task, hears
+    def __init__(self, guard: Guard, program: Program, words: Tuple[str, ...], hears: HearsChild) -> None:
+        self._guard, self._program, self._words, self._hears_child = guard, program, words, hears
         self._failures = 0
         self._failed_at = -FRESH
-        self._finished: Optional[Callable[[], None]] = None
-        self._timer: Optional[Timer] = None
+        self._again: Optional[Timer] = None
         self._child: Optional[subprocess.Popen[bytes]] = None
-        self._input: Optional[int] = None  # its standard input, while it may get more
+        self._is_blocked = self._is_closed = False
         self._let_go: Callable[[], None] = lambda: None
-        self._begin()
 
-    def _begin(self) -> None:
-        self._given = self._task.start
+    def start(self) -> None:
+        """Starts it, and tells it what it must know first."""
+        self._is_blocked, self._child = False, None
         self._begins_anew()
-        self._blocked = False
-        self._child = self._input = None
         try:
-            self._child = self._task.program.start(self._task.words, subprocess.PIPE, subprocess.PIPE, self._task.errors)
+            child = self._program.start(self._words, subprocess.PIPE, subprocess.PIPE, subprocess.DEVNULL)
         except OSError as error:
             self._fail(f"can't be started ({error.strerror})")
             return
-        self._let_go = self._guard.opened(functools.partial(_end, self._child))
-        assert self._child.stdin and self._child.stdout
-        self._input, output = self._child.stdin.fileno(), self._child.stdout.fileno()
-        os.set_blocking(self._input, False)
-        os.set_blocking(output, False)
-        self._guard.watch(output, self._readable)
-        self.feed()
+        self._child = child
+        self._let_go = self._guard.opened(functools.partial(_end, child))
+        assert child.stdin and child.stdout
+        os.set_blocking(child.stdin.fileno(), False)
+        os.set_blocking(child.stdout.fileno(), False)
+        self._guard.watch(child.stdout.fileno(), self._readable)
+        self._feed()
 
-    def feed(self) -> None:
-        """Call this when the source has grown."""
-        if self._input is None or self._blocked:
+    def _begins_anew(self) -> None:
+        """Another child begins."""
+
+    def _writes(self, number: int) -> bool:
+        """Writes something of what is to be told there. Returns whether there is more. Raises BlockingIOError if it must wait."""
+        raise NotImplementedError
+
+    def _takes(self, part: bytes) -> None:
+        """The child has written this."""
+
+    def _feed(self) -> None:
+        """Writes what the child takes."""
+        if self._child is None or self._is_blocked:
             return
-        source = self._task.source
+        assert self._child.stdin
+        number = self._child.stdin.fileno()
         try:
-            while self._given < source.size:
-                part = source.read(self._given, min(CHUNK, source.size - self._given))
-                if not part:
-                    break
-                self._given += os.write(self._input, part)
+            while self._writes(number):
+                pass
         except BlockingIOError:
-            self._blocked = True
-            self._guard.watch(self._input, None, self._writable)
-            return
+            self._is_blocked = True
+            self._guard.watch(number, None, self._writable)
         except OSError:
-            return  # it has ended, as its output shows
-        if self._finished:
-            self._close_input()
+            pass  # it has ended, as its output shows
 
     def _writable(self) -> None:
-        assert self._input is not None
-        self._guard.forget(self._input)
-        self._blocked = False
-        self.feed()
-
-    def _close_input(self) -> None:
         assert self._child and self._child.stdin
-        if self._input is not None:
-            self._guard.forget(self._input)
-            self._input = None
-            self._child.stdin.close()
+        self._guard.forget(self._child.stdin.fileno())
+        self._is_blocked = False
+        self._feed()
 
     def _readable(self) -> None:
         assert self._child and self._child.stdout
@@ -249,38 +218,26 @@ class Reader:
         if part:
             self._takes(part)
         else:
-            self._ended()
-
-    def _begins_anew(self) -> None:
-        """Is called before a child is started."""
-
-    def _takes(self, part: bytes) -> None:
-        """The child has written this."""
-
-    def _ended(self) -> None:
-        status = self._reap()
-        if self._finished and status == 0:
-            done, self._finished = self._finished, None
-            done()
-        else:
-            self._fail(ending_of(status))
+            self._fail(ending_of(self._reap()))
 
     def _fail(self, how: str) -> None:
-        """Tries again, at once and then every half second; gives up after repeated failures."""
+        """Tries again; gives up after repeated failures."""
         now = self._guard.now()
         self._failures = 1 if now - self._failed_at > FRESH else self._failures + 1
         self._failed_at = now
-        what = f"{self._task.words[0]} {how}"
+        what = f"{self._words[0]} {how}"
         if self._failures > FAILURES:
-            self._hears.broken(what)
+            self._hears_child.broken(what)
         else:
-            self._hears.says(f"{what}; it is started again")
-            self._timer = self._guard.after(0 if self._failures == 1 else 0.5, self._begin)
+            self._hears_child.says(f"{what}; it is started again")
+            self._again = self._guard.after(0 if self._failures == 1 else 0.5, self.start)
 
-    def finish(self, done: Callable[[], None]) -> None:
-        """Ends its input at the source's end, and calls this after all of its output was taken."""
-        self._finished = done
-        self.feed()
+    def restart(self) -> None:
+        """Another child takes its place."""
+        if self._child is not None:
+            self._child.kill()
+            self._reap()
+            self.start()
 
     def wake(self) -> None:
         """Call this now and then: a child that was stopped from outside goes on."""
@@ -289,9 +246,9 @@ class Reader:
 
     def close(self) -> None:
         """Ends it; nothing more is reported."""
-        if self._timer:
-            self._timer.cancel()
-        self._finished = None
+        self._is_closed = True
+        if self._again:
+            self._again.cancel()
         if self._child is not None:
             self._child.kill()
             self._reap()
@@ -301,42 +258,10 @@ class Reader:
         child, self._child = self._child, None
         assert child and child.stdin and child.stdout
         self._guard.forget(child.stdout.fileno())
-        if self._input is not None:
-            self._guard.forget(self._input)
-            self._input = None
+        self._guard.forget(child.stdin.fileno())
         _let_go(child)
         self._let_go()
         return child.returncode
-
-
-class Listing(Reader):
-    """A child that reports what a source shows. `heard` gets the lines that came at once. The first `skipped` lines are known
-    already."""
-
-    def __init__(
-        self, guard: Guard, task: Task, heard: Callable[[List[str]], None], hears: HearsChild, skipped: int = 0
-    ) -> None:
-        self._heard = heard
-        self._known = skipped  # lines that were reported
-        self._came = 0  # lines of this child
-        super().__init__(guard, task, hears)
-
-    @property
-    def caught_up(self) -> bool:
-        """Whether this child has reached the point of those before it."""
-        return self._came >= self._known
-
-    def _begins_anew(self) -> None:
-        self._part = ""
-        self._came = 0
-
-    def _takes(self, part: bytes) -> None:
-        *lines, self._part = (self._part + part.decode("ascii", "replace")).split("\n")
-        new = lines if self._came == self._known else lines[max(0, self._known - self._came) :]
-        self._came += len(lines)
-        self._known += len(new)
-        if new:
-            self._heard(new)
 
 
 def _end(child: subprocess.Popen[bytes]) -> None:

@@ -21,6 +21,7 @@ TRIES_AGAIN = 1.0  # seconds after a write has failed
 MOST_WAIT = 1000  # events that wait for the first bytes of a capture
 DUMP = 67  # bytes of a capture that a new file waits for
 OFTEN = (times.HEARD, times.ASKED)  # a move comes in several reads
+LATE = 20  # milliseconds from an event to its line
 NOTHING = "Nothing is to be done"
 
 
@@ -61,7 +62,8 @@ class Times:
         self._is_new = self._is_read = False  # whether no file can be the capture's; whether it is known what stands in it
         self._is_aside = False  # whether the capture is just becoming another one
         self._is_foreign = False  # whether there is a file that must be kept beside
-        self._away: Optional[int] = None  # milliseconds since it was last written, if known
+        self._away: Optional[int] = None  # milliseconds since its last line, if known
+        self._is_away_told = False  # to the program
         self._trouble = ""  # why it can't be written
         self._is_lost = False  # and that something wasn't
         self._again = -math.inf  # when it is tried again
@@ -151,6 +153,7 @@ class Times:
         with self._lock:
             self._look_once()
             away = self._away if self._began is None else 0
+            self._away, self._is_away_told = away, False
             self._begin_at(milliseconds(), self._capture.total if size is None else size, away)
 
     def _begin_at(self, now: int, size: int, away: Optional[int]) -> None:
@@ -161,6 +164,27 @@ class Times:
         self._began, self._is_aside = now, False
         self._events[:0] = [(now, what, count) for what, count in begun]
 
+    def take_away(self) -> Optional[int]:
+        """The milliseconds that nobody was there before this call, or before it went on from another capture; then none, if this is
+        asked again."""
+        is_told, self._is_away_told = self._is_away_told, True
+        return 0 if is_told else self._away
+
+    def content(self) -> bytes:
+        """What the file has; empty if that isn't known, or is just being changed."""
+        if not self._size or self._is_foreign or not self._lock.acquire(blocking=False):
+            return b""
+        try:
+            number = open_regular(self._path, os.O_RDONLY)
+            try:
+                return part_of(number, 0, self._size)
+            finally:
+                os.close(number)
+        except OSError:
+            return b""
+        finally:
+            self._lock.release()
+
     def note(self, what: str, count: Optional[int] = None) -> None:
         """This has happened."""
         if self._began is None:
@@ -170,7 +194,7 @@ class Times:
             before, self._was_away = self._was_away, self._turns.away.seconds
             self._events.append((now, times.STOPPED, int((self._was_away - before) * 1000)))
         if count is None:
-            self._line = _line_after(self._line, what)
+            self._line = times.line_after(self._line, what)
         self._events.append((now, what, count))
 
     def happened(self, what: str, count: Optional[int] = None) -> None:
@@ -247,6 +271,10 @@ class Times:
         if os.write(number, content) < len(content):
             raise OSError(errno.ENOSPC, os.strerror(errno.ENOSPC))
         self._size += len(content)
+        late = milliseconds() - events[-1][0] if events else 0
+        if late >= LATE:  # the file is as old as its last line: from there on nobody is known to have been there
+            at = time.time_ns() - late * 1_000_000
+            os.utime(number, ns=(at, at))
         del self._events[: len(events)]
         if self._is_lost:
             self._told.append(f"{self._path} is written again")
@@ -377,14 +405,6 @@ class Times:
 def times_of(capture: str) -> str:
     """The times of a capture that is kept beside a game."""
     return f"{capture[:-len('.dgt')]}.times"
-
-
-def _line_after(line: Tuple[str, ...], what: str) -> Tuple[str, ...]:
-    if what == times.OPENED:
-        return (times.OPENED,)
-    if what == times.ANSWERED:
-        return (times.OPENED, times.ANSWERED)
-    return line if what == times.TOOK else ()
 
 
 def told_of(found: times.Kept, path: str, size: int, capture: str, have: int) -> List[str]:

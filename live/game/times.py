@@ -62,6 +62,15 @@ def lines(events: Sequence[Happened], began: int = 0) -> bytes:
     return text.encode()
 
 
+def line_after(line: Tuple[str, ...], what: str) -> Tuple[str, ...]:
+    """How the line is told to whoever begins later, after this has happened."""
+    if what in (OPENED, GONE):
+        return (what,)
+    if what == ANSWERED:
+        return (OPENED, ANSWERED)
+    return () if what == CALLED else line
+
+
 @dataclass(frozen=True)
 class Kept:
     """A file with a heading: how often the game has gone back; how many bytes the heading is of, and their digest; where the

@@ -1,4 +1,4 @@
-"""What `live` says through whole evenings, beside what the modules of live/ decide of the same: when the board is asked and what, what is
+"""What `live` says through whole evenings, beside what rules in Python say of the same, which the recorders had before: when the board is asked and what, what is
 done with what it sends, and what is read of it.
 
 A call that follows another one is left out of the last: the recorders know nothing of the times before a call. The decisions in Python
@@ -9,15 +9,15 @@ import dataclasses
 from typing import List, Optional, Tuple
 
 from attending.answers import Answer, Entry
+from attending.asking_rules import START_REQUEST, Asking
 from attending.emulated_evenings import emulated_evening
 from attending.evenings import Evening, played
 from attending.happenings import evening
 from attending.reading import Read, in_order
+from attending.state_rules import BoardState
+from attending.whose_rules import Whose
 from decided.table import same
-from live.board.state import BoardState
-from live.board.whose import Whose
-from live.device.asking import Asking
-from live.device.protocol import START_REQUEST, picture_of_placement
+from live.device.protocol import picture_of_placement
 from live.game.report import event_of
 
 EVENINGS, EMULATED = 60, 8
@@ -30,7 +30,7 @@ def seconds(entry: Entry, number: int) -> float:
 
 
 class Line:
-    """What the modules decide of a line: `connection.py` and `cable.py` put them together so."""
+    """What the rules say of a line."""
 
     def __init__(self) -> None:
         self._asking, self._whose = Asking(), Whose()
@@ -82,7 +82,7 @@ def asked_otherwise(lived: Evening) -> List[str]:
 
 @dataclasses.dataclass
 class Stands:
-    """What `state.py` makes of it; whether the board is silent is what the recorder has said."""
+    """What the rules make of it; whether the board is silent is what the recorder has said."""
 
     board: BoardState
     is_silent: bool = False

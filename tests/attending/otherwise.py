@@ -1,15 +1,15 @@
-"""Where `live` says something else than the recorders in live/ and web/ do today. Each has what it says, worked by hand from the pages of
-the crates, and what the recorders say.
+"""Where `live` says something else than the rules in Python beside it, and the page in web/. Each has what it says, worked by hand from
+the pages of the crates, and what they say.
 
 - The first picture after a line was opened is the one before it, and then many squares change in one dump. It is no other board, as in
-  the table `hints`. The recorders look at pictures that are reported, and one that comes again isn't.
-- A serial server is there again, and its board hasn't answered yet. The line is open; the recorders say UNPLUGGED until the board has
-  answered, or is silent.
+  the table `hints`. The rules look at pictures that are reported, and one that comes again isn't.
+- A serial server is there again, and its board hasn't answered yet. The line is open; the rules, and the recorders, say
+  UNPLUGGED until the board has answered, or is silent: live/ shows that itself.
 - Other squares are in a hand: that is no news. A host has them from the report's `differs`.
 - A piece is off, then another one, and the first is put back. When the board has come no nearer for 15 s, the state is `WRONG` since the
-  first was off; but kind and squares are the same, and so that is no news. The recorders say since when all the same.
+  first was off; but kind and squares are the same, and so that is no news. The rules say since when all the same.
 - With the request that asks for the number it is said what is done until then; what comes behind it is held.
-- What was held comes to the game when the time for a number is over; the recorders wait for the next bytes.
+- What was held comes to the game when the time for a number is over; the rules wait for the next bytes.
 """
 
 from typing import List, Tuple
@@ -20,8 +20,8 @@ from attending.evenings import number_message, played
 from attending.host import answers
 from attending.pictures import INITIAL, differing, dump, picture, updates
 from attending.reading import Read
+from attending.state_rules import BoardState
 from decided.table import same
-from live.board.state import BoardState
 
 START = picture(INITIAL)
 FIVE_OFF = picture("rnbqkbnr/pppppppp/8/8/8/8/PPPPPPPP/5BNR")

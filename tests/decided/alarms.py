@@ -8,11 +8,11 @@ from live.game.after_the_end import AfterTheEnd
 from live.game.alarms import Alarms
 from live.game.course import Course
 from live.game.files import Paths
-from live.board.agreement import Agreement
 from live.game.stopped_clock import StoppedClock, runs
 from live.device.protocol import picture_of_placement
 from live.game.report import Event, Line, Move, event_of
 
+from attending.state_rules import Agreement
 from decided.cases import bytes_of, cases
 from decided.table import same
 

@@ -4,9 +4,9 @@ import math
 import random
 from typing import Any, Dict, List, Sequence, Tuple
 
-from live.device.asking import Asking
 from live.device.protocol import Frames, FrameKind
 
+from attending.asking_rules import Asking
 from decided.cases import bytes_of, cases
 from decided.table import same
 

@@ -391,8 +391,8 @@ TOP = pathlib.Path(__file__).resolve().parents[2]
 # The modules of live/ that each recorder of one board has from its start. What waits for a rare event isn't among them.
 AT_THE_START = {
     "": "beside descriptors guard later lock loop refused steps time_away",
-    "board": "agreement asked_first board cable disk lingering plan recorder recording single standing state typed_lines whose",
-    "device": "asking connection line network_address protocol serial_line",
+    "board": "asked_first attended_game board cable disk lingering on_the_way plan recorder recording single standing state typed_lines whose",
+    "device": "connection ended line network_address protocol serial_line",
     "doors": "calls dgt_live door",
     "game": "alarms attended attending control course doubts edited ending file_names files forfeiting front game log looks making_pgn names opening options "
     "program reading reply report stopped_clock tags timed times",

@@ -2,9 +2,10 @@
 
 from typing import List
 
-from live.device.protocol import DUMP_REQUEST, START_REQUEST, FrameKind, Frames
+from live.device.protocol import FrameKind, Frames
 from live.device.protocol import differing, picture_of_placement, serial_of
 
+from attending.asking_rules import DUMP_REQUEST, START_REQUEST
 from decided.cases import bytes_of, cases
 from decided.table import refused, same
 

@@ -1,7 +1,8 @@
 """Whose board is on a cable: what it says of itself, and whether what comes from it is the game's."""
 
-from live.board.whose import Owner, Whose, another, back, may_take
+from live.board.whose import Owner, another, back, may_take
 
+from attending.whose_rules import Whose
 from decided.cases import cases
 from decided.table import same
 

@@ -7,7 +7,7 @@ from typing import List
 
 from play_board import EMPTY, field
 from played import words
-from played.recorder import Live
+from played.recorder import Live, signal_to
 from played.stage import (
     a_board,
     begin_game,
@@ -68,6 +68,31 @@ def in_hand_and_wrong(folder: pathlib.Path) -> None:
     there = live.lines().count(words.AGREES)
     board.put("g1", 3)
     until_line(live, words.AGREES, there + 1)
+    board.play("g1f3")
+    until_game(live.name, "1. e4 e5 2. Nf3 *")
+    same(stop(live), 0)
+
+
+def wrong_over_a_restart(folder: pathlib.Path) -> None:
+    """A piece is off for ten seconds, and the recorder is started again, or its child is killed: the board is wrong at once, since
+    before."""
+    board, live = begin_game(folder)
+    lifted = time.monotonic()
+    board.lift("g1")
+    until_line(live, words.WRONG)
+    same(stop(live), 0)
+    live = Live(board.device, live.name)
+    until_line(live, words.WRONG)
+    last = live.lines().splitlines()[-1]
+    since = int(last.split(" since ")[1].split()[0])
+    same((words.IN_HAND in live.lines(), abs(since - (time.monotonic() - lifted)) < 3), (False, True))
+    for child in live.children():
+        signal_to(child)
+    until_line(live, "live was killed; it is started again")
+    until_line(live, words.WRONG, 2)
+    assert words.IN_HAND not in live.lines(), live.lines()
+    board.put("g1", 3)
+    until_line(live, words.AGREES)
     board.play("g1f3")
     until_game(live.name, "1. e4 e5 2. Nf3 *")
     same(stop(live), 0)

@@ -1,4 +1,5 @@
-"""When to ask the board for a dump and for its number: a pure function of what came and of the time, which is passed in."""
+"""When to ask the board for a dump and for its number, by rules in Python: what `live` says is compared with them. The time is passed
+in."""
 
 from __future__ import annotations
 
@@ -6,9 +7,11 @@ import math
 from dataclasses import dataclass, field
 from typing import NamedTuple
 
-from live.device.protocol import DUMP_ID, DUMP_REQUEST, HEADER, SERIAL_REQUEST, SIZES, START_REQUEST
+from live.device.protocol import DUMP_ID, HEADER, SERIAL_REQUEST, SIZES
 from live.device.protocol import FrameKind, Frames, serial_of
 
+DUMP_REQUEST = b"B"  # 42: a board dump
+START_REQUEST = b"BK"  # 42 4B: a board dump, then field updates, and times when they change
 UNFINISHED = 0.2  # seconds that a frame may stay unfinished
 POLL = 1.0  # seconds that the last complete dump may be old, counted from its request
 QUIET = 0.5  # seconds without an update before that request is made

@@ -1,0 +1,158 @@
+"""A game whose board is attended by the program: what it keeps goes into the capture first, and then its report counts."""
+
+from __future__ import annotations
+
+from typing import Callable, List, Optional, Protocol, Tuple
+
+from live.board.standing import Standing
+from live.game.attended import Answer
+from live.game.attending import Attending, Past, Told
+from live.game.game import Game
+from live.game.times import ADDED, HEARD
+from live.guard import Guard
+from live.loop import Timer
+
+PATIENCE = 5.0  # seconds that the last answers may take
+
+
+class HearsGame(Protocol):
+    """Gets what the program says of the board's cable."""
+
+    def said(self, told: Told, answer: Answer) -> None:
+        """When the board is asked, and whose board it is."""
+
+    def left(self, sent: bytes) -> None:
+        """The board has sent this, and the program hasn't taken it."""
+
+    def broken(self, what: str) -> None:
+        """A part fails again and again."""
+
+
+class AttendedGame:
+    """What a recording, a set-up and a game that is over have in common."""
+
+    standing: Optional[Standing] = None  # None if the board may stand as it likes
+
+    def __init__(self, guard: Guard, game: Game, hears: HearsGame) -> None:
+        self._guard, self.game, self._hears_game = guard, game, hears
+        self._late: List[Tuple[float, List[str]]] = []  # lines whose bytes wait to be written
+        self._has_lost = False  # bytes that can't be written any more, which the program has
+        self._patience: Optional[Timer] = None
+        self._is_closed = False
+
+    def attend(self, words: Tuple[str, ...], start: int = 0, with_times: bool = False, known: int = 0) -> None:
+        """The program reads what is kept from an offset on. The first lines of its report, so many, are known."""
+        past = Past(self.game.capture, start, self.game.times if with_times else None)
+        self.attending = Attending(self._guard, self.game.program, words, past, self, known)
+
+    # What happens.
+
+    def came(self, sent: bytes) -> None:
+        """The board has sent this."""
+        self.attending.tell(HEARD, sent)
+
+    def lent(self, sent: bytes) -> None:
+        """The game's board has sent this on another game's cable. The board on this one isn't asked because of it."""
+        self._keep(self._guard.now(), sent)
+        self.attending.tell(ADDED, sent, is_sent=False)
+
+    # What is answered.
+
+    def answered(self, told: Told, answer: Answer) -> None:
+        """The program answers what was told."""
+        if answer.kept:
+            self._keep(told.at, answer.kept)
+        self._hears_game.said(told, answer)
+        if self._is_closed:
+            return
+        if answer.report:
+            if self.game.capture.waits or self._late:
+                self._late.append((told.at, answer.report))
+            else:
+                self._reports(told.at, answer.report)
+        if self._is_closed:
+            return
+        if answer.stood and self.standing:
+            self.standing.stands(told.at, answer.stood)
+        self._is_through()
+        if self.standing and self.attending.is_settled:
+            self.standing.show()
+
+    def _keep(self, at: float, sent: bytes) -> None:
+        """The board has sent this, and it is the game's."""
+        self._append(sent, HEARD)
+
+    def _append(self, sent: bytes, what: str) -> None:
+        """The capture gets this."""
+        kept = self._write(sent)
+        if kept < len(sent) and not self.game.capture.at_limit:
+            self._has_lost = True
+        if kept:
+            self.game.times.happened(what, kept)
+
+    def _write(self, sent: bytes) -> int:
+        """Writes this into the capture. Returns how many bytes aren't dropped."""
+        raise NotImplementedError
+
+    def _reports(self, at: float, texts: List[str]) -> None:
+        """New lines of the report, of what happened at this time."""
+        raise NotImplementedError
+
+    def _is_through(self) -> None:
+        """All is said of what was told last."""
+
+    def wake(self) -> None:
+        """Call this now and then."""
+        self.attending.wake()
+        if self.game.capture.waits:
+            return
+        if self._has_lost:  # the program has bytes that the capture lacks
+            self._has_lost = False
+            self.attending.unreported(sum(len(texts) for _, texts in self._late))
+            self._late.clear()
+            self.attending.restart()
+        late, self._late = self._late, []
+        for at, texts in late:
+            if not self._is_closed:
+                self._reports(at, texts)
+        if late and self.standing:
+            self.standing.show()
+
+    def finish(self, done: Callable[[str], None]) -> None:
+        """Takes what is still to be answered, closes everything, and then reports what can't be written."""
+        raise NotImplementedError
+
+    def settle(self, done: Callable[[], None]) -> None:
+        """Calls this once all is answered, or if that takes too long: then what the board has sent counts as kept."""
+
+        def late() -> None:
+            self._patience = None
+            keeps, left = self.attending.keeps, self.attending.take()
+            if left and keeps:
+                self._append(left, HEARD)
+            done()
+
+        def ended() -> None:
+            if self._patience:
+                self._patience.cancel()
+                self._patience = None
+                done()
+
+        self._patience = self._guard.after(PATIENCE, late)
+        self.attending.then(ended)
+
+    def says(self, text: str) -> None:
+        """A child has ended, and is started again."""
+        raise NotImplementedError
+
+    def broken(self, what: str) -> None:
+        """A child has ended again and again."""
+        self._hears_game.broken(what)
+
+    def close(self) -> None:
+        """Ends everything under way. The capture stays open."""
+        self._is_closed = True
+        if self._patience:
+            self._patience.cancel()
+            self._patience = None
+        self._hears_game.left(self.attending.take())

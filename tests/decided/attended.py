@@ -1,0 +1,108 @@
+"""What the program that attends a board is told, and how its answers are read: whole, cut at each byte, and with known lines."""
+
+from typing import List
+
+from live.device.protocol import number_in
+from live.game.attended import Answer, Answers, NoAnswer, Stood, entry
+from live.game.times import ANSWERED, CALLED, GONE, OPENED, TOOK, line_after
+
+from decided.table import refused, same
+
+ENTRIES = [
+    (entry(0, "begin", 67), b"0 begin 67\n"),
+    (entry(5, "opened"), b"5 opened\n"),
+    (entry(12, "heard", 3, b"\x8e\x00\x05"), b"12 heard 3\n\x8e\x00\x05"),
+    (entry(0, "number", 5, b"01234"), b"0 number 5\n01234"),
+]
+# What is written, and the answers in it. The bytes that are kept look like lines of an answer.
+WRITTEN = [
+    (b"keep\ndone -\n", [Answer(handling="keep")]),
+    (b"hold\nask EBK\nstate WAITS -\ndone 1000\n", [Answer(handling="hold", asked=b"EBK", stood=Stood("WAITS"), due=1000)]),
+    (b"other 01235\ndone 42\n", [Answer(handling="other", other="01235", due=42)]),
+    (b"keep\nnumber 01234\ndone 9\n", [Answer(handling="keep", number="01234", due=9)]),
+    (
+        b"kept 14\nkeep\ndone 1\n\n\n151 move 1. e4\n151 agrees\nkeep\nfull\nstate AGREES 0\ndone 85\n",
+        [Answer(b"keep\ndone 1\n\n\n", ["151 move 1. e4", "151 agrees"], "keep", is_full=True, stood=Stood("AGREES", 0), due=85)],
+    ),
+    (
+        b"keep\nstate WRONG 32000 d5 e2\ndone 7\nkeep\nstate SETTING-UP 10 TURNED-ROUND\ndone -\n",
+        [
+            Answer(handling="keep", stood=Stood("WRONG", 32000, ("d5", "e2")), due=7),
+            Answer(handling="keep", stood=Stood("SETTING-UP", 10, (), "TURNED-ROUND")),
+        ],
+    ),
+    (b"74 agrees\ndone -\nkeep\ndone -\n", [Answer(report=["74 agrees"]), Answer(handling="keep")]),
+]
+HISTORY = b"0 position start\n74 picture one\n74 agrees\ndone -\n90 picture two\n90 differs e2\ndone -\n"
+LIVE = b"keep\nstate WAITS -\ndone -\nkept 5\n9 x\n9keep\ndone 3\n"
+
+
+def entries() -> None:
+    for seen, expected in ENTRIES:
+        same(f"{expected!r}", seen, expected)
+
+
+def cut(written: bytes, at: int, known: int = 0) -> List[Answer]:
+    """The answers that are read, if what is written comes in two parts."""
+    answers = Answers(known)
+    return answers.take(written[:at]) + answers.take(written[at:])
+
+
+def answers() -> None:
+    for written, expected in WRITTEN:
+        same(f"{written!r}", [found for at in range(len(written) + 1) if (found := cut(written, at)) != expected], [])
+        same("byte by byte", byte_by_byte(written), expected)
+    for line in (b"what\n", b"done\n", b"state\n", b"\n"):
+        refused(f"{line!r}", NoAnswer, Answers().take, line)
+
+
+def byte_by_byte(written: bytes) -> List[Answer]:
+    answers, found = Answers(), []
+    for at in range(len(written)):
+        found += answers.take(written[at : at + 1])
+    return found
+
+
+def known() -> None:
+    """So many lines of the report are left out, wherever what is written is cut."""
+    lines = ["0 position start", "74 picture one", "74 agrees", "90 picture two", "90 differs e2"]
+    rest = [Answer(handling="keep", stood=Stood("WAITS")), Answer(kept=b"9 x\n9", handling="keep", due=3)]
+    for count in range(len(lines) + 1):
+        first, second = lines[count:3], lines[max(count, 3) :]
+        expected = [Answer(report=first), Answer(report=second), *rest]
+        text = HISTORY + LIVE
+        same(f"{count} lines", [at for at in range(len(text) + 1) if cut(text, at, count) != expected], [])
+
+
+def of_the_line() -> None:
+    """What is told of a line to whoever begins later."""
+    for told, expected in [
+        ((), ()),
+        ((OPENED,), (OPENED,)),
+        ((OPENED, ANSWERED), (OPENED, ANSWERED)),
+        ((OPENED, ANSWERED, TOOK), (OPENED, ANSWERED)),
+        ((OPENED, GONE), (GONE,)),
+        ((GONE, OPENED), (OPENED,)),
+        ((OPENED, CALLED), ()),
+    ]:
+        line: "tuple[str, ...]" = ()
+        for what in told:
+            line = line_after(line, what)
+        same(f"{told}", line, expected)
+
+
+def numbers() -> None:
+    for sent, expected in [
+        (b"", ""),
+        (b"\x91\x00\x0801234", "01234"),
+        (b"\x8e\x00\x05\x91\x00\x0801234\x8e", "01234"),
+        (b"\x91\x00\x0801234\x91\x00\x0801235", "01235"),
+        (b"\x91\x00\x080123", ""),
+        (b"\x91\x00\x080123\x7f", ""),
+        (b"\x91\x00\x080123 ", ""),
+        (b"\x91\x00\x09012345", ""),
+    ]:
+        same(f"{sent!r}", number_in(sent), expected)
+
+
+TABLES = [entries, answers, known, of_the_line, numbers]
