@@ -1,12 +1,11 @@
 -- What is never doubted, and what holds of what isn't.
-use Rattle.std.proofs.Common.{◌≡◌, ◌<◌, ◌≤◌, ◌+◌, ◌/◌, ◌==◌, ◌&&◌, ◌||◌, ◌⊎◌, inl, inr, not, ℕ, zero, suc, Bool, true, false, List, [], ◌∷◌, ◌++◌, Option, Some, None, refl, sym, ap, ◌∙◌, arith}
-use Rattle.std.specs.Prelude.{if◌then◌else◌, is_some, nat_le, nat_lt, ⊤}
+use Rattle.std.proofs.Common.{◌≡◌, ◌==◌, ◌&&◌, ◌||◌, not, ℕ, Bool, true, false, List, [], ◌∷◌, ◌++◌, Option, Some, None, refl, sym, ap, ◌∙◌}
+use Rattle.std.specs.Prelude.{if◌then◌else◌, is_some, nat_lt}
 use Rattle.std.specs.Int.{bit_at}
 use Rattle.std.proofs.lemmas.Bool.{le-ltb, true≢false}
 use Rattle.std.proofs.lemmas.Nat.Bits.{bit_at-zero}
 use Rattle.square_runs.specs.Lasting.{carry, has_lasted}
-use Rattle.square_runs.specs.Shown.{Shown, has, has_held, shown, since_when}
-use Rattle.square_runs.specs.Squares.{some_square}
+use Rattle.square_runs.specs.Shown.{has, since_when}
 use Rattle.square_runs.proofs.Squares.{any_none}
 use Rattle.board_doubts.specs.declared.heard.Doubt.{Doubt}
 use Rattle.board_doubts.specs.declared.heard.Event.{Event}
@@ -14,7 +13,6 @@ use Rattle.board_doubts.specs.declared.heard.Heard.{Heard}
 use Rattle.board_doubts.specs.declared.heard.Heard.TheVariants.{Shows, Moves, Away, Clock}
 use Rattle.board_doubts.specs.declared.heard.Place.TheVariants.{AtLast, AfterLast}
 use Rattle.board_doubts.specs.declared.heard.Why.TheVariants.{Late, Elsewhere, BothElsewhere, AfterGap}
-use Rattle.board_doubts.specs.declared.stopped_clock.Tried.{Tried}
 use Rattle.board_doubts.specs.Clock.{ago, has_run, seen_late, stands_by, stands_since, tried, tries_by}
 use Rattle.board_doubts.specs.Doubts.{doubt_of, doubted, hides, hides_by, is_on, late, may_be_moved}
 use Rattle.board_doubts.specs.Laws.{HandsOffPasses, NoClock, NoneShows, QuickCorrectionPasses, RunningClockPasses, StaysDoubtful, doubts, says_nothing, with_doubt}
@@ -111,8 +109,6 @@ correction_passes true away stood waits heard still quick =
     ap (λ b. doubted AtLast (if b then Some AfterGap else if stood then Some Elsewhere else if waits then Some Late else None)) heard
     ∙ ap (λ b. doubted AtLast (if b then Some Elsewhere else if waits then Some Late else None)) still
     ∙ ap (λ b. doubted AtLast (if b then Some Late else None)) quick
-
-
 
 pub quick_correction_passes : QuickCorrectionPasses
 quick_correction_passes repeats now past heard still quick =

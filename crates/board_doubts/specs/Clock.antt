@@ -1,5 +1,5 @@
 -- Moves that are made while the clock is stopped. Events are listed with the latest first.
-use Rattle.std.specs.Prelude.{ℕ, ◌+◌, ◌*◌, ◌/◌, ◌%◌, min, ◌==◌, ◌&&◌, ◌||◌, not, Bool, true, false, List, [], ◌∷◌, Option, Some, None, is_some, slice_index, if◌then◌else◌}
+use Rattle.std.specs.Prelude.{ℕ, ◌+◌, ◌/◌, ◌%◌, min, ◌==◌, ◌&&◌, ◌||◌, not, Bool, true, false, List, [], ◌∷◌, Option, Some, None, is_some, slice_index, if◌then◌else◌}
 use Rattle.square_runs.specs.Lasting.{carry, has_lasted}
 use Rattle.board_doubts.specs.declared.heard.Event.{Event}
 use Rattle.board_doubts.specs.declared.heard.Heard.{Heard}

@@ -1,5 +1,5 @@
 -- How long hurried players need for a ply.
-use Rattle.std.specs.Prelude.{ℕ, ◌*◌, ◌/◌, ◌&&◌, ◌||◌, not, Bool, nat_le, List, [], ◌∷◌, count_by, length, take, if◌then◌else◌}
+use Rattle.std.specs.Prelude.{ℕ, ◌*◌, ◌&&◌, Bool, nat_le, List, [], ◌∷◌, count_by, length, take}
 use Rattle.board_doubts.specs.declared.heard.Event.{Event}
 use Rattle.board_doubts.specs.Waiting.{ply_times}
 

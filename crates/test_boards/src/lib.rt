@@ -1,9 +1,10 @@
 //! Tests of the public calls on boards and what they send. Of `watched_streams`, streams that fail; of `dgt_frame`, frames and
 //! times; of `board_captures` and `going_back`, captures that go back; of `board_asking`, what a board is sent when, and what is
 //! done with what it sends; of `board_cable`, the same with its bytes; of `board_times`, files of times; of `square_runs`, since
-//! when squares are in masks; of `board_standing`, how a board stands; of `board_doubts`, which news of a game is doubtful; of
-//! `board_game`, one game while its capture grows; of `board_live`, a board that is recorded; of `answer_lines`, the lines of an
-//! answer; of `live_lines`, what a host tells a recorder, and what it is answered.
+//! when squares are in masks; of `board_standing`, how a board stands; of `board_doubts`, which news of a game is doubtful;
+//! of `game_ends`, where a game ended; of `board_game`, one game while its capture grows; of `board_live`, a board that is
+//! recorded; of `answer_lines`, the lines of an answer; of `live_lines`, what a host tells a recorder, and what it is
+//! answered.
 //!
 //! The files `NAME_page.rt` have the examples on the crates' pages, as they stand there: `tests/pages` compares them. They are here
 //! since they load the same libraries.
@@ -55,6 +56,10 @@ mod dgt_frame_page;
 mod dgt_replay_page;
 #[cfg(test)]
 mod doubted;
+#[cfg(test)]
+mod ended;
+#[cfg(test)]
+mod game_ends_page;
 #[cfg(test)]
 mod games;
 #[cfg(test)]

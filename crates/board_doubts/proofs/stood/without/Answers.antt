@@ -1,4 +1,3 @@
-use Rattle.std.proofs.Common.{w64}
 use Rattle.board_doubts.proofs.Masks.{lacking}
 use Rattle.board_doubts.proofs.stood.without.Goals as goal
 

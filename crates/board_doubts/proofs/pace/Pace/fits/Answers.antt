@@ -1,4 +1,4 @@
-use Rattle.std.proofs.Common.{◌*◌, ◌==◌, ◌&&◌, List, ℕ, take, length, ap, ◌∙◌}
+use Rattle.std.proofs.Common.{◌*◌, ◌==◌, ◌&&◌, ℕ, take, length, ap, ◌∙◌}
 use Rattle.std.specs.Prelude.{count_by, is_some, nat_le, if◌then◌else◌}
 use Rattle.board_doubts.specs.Keeping.{is_within}
 use Rattle.board_doubts.specs.Pace.{pace_of, quickest, usual}

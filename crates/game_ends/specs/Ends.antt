@@ -1,0 +1,73 @@
+-- Where a game ended that has no result. Moves are listed in the order in which they were made.
+use Rattle.std.specs.Prelude.{◌≡◌, ◌<◌, ◌≤◌, ◌+◌, ◌-◌, ◌^◌, ℕ, ◌&&◌, ◌||◌, not, Bool, true, false, nat_le, List, length, Option, Some, None, slice_get, if◌then◌else◌}
+use Rattle.game_ends.specs.declared.made.Made.{Made}
+
+-- The last move of a game stays for this at least before somebody sets up, in milliseconds.
+abbrev pub stands : ℕ
+stands = 1000
+
+-- One that brought a piece home stays for this.
+abbrev pub home_stands : ℕ
+home_stands = 3000
+
+-- It stood so long. What the board still shows stood long enough for anything.
+abbrev pub stood_for : Option ℕ → ℕ → Bool
+stood_for None span = true
+stood_for (Some stood) span = nat_le span stood
+
+-- how long it stood
+abbrev pub time_of : Option ℕ → ℕ
+time_of None = 2 ^ 64 - 1
+time_of (Some stood) = stood
+
+-- It was the last move, or the next one corrects it.
+abbrev pub was_changed : Option Made → Bool
+was_changed None = true
+was_changed (Some next) = next.corrects
+
+-- A piece that is drawn over the board may look like a move, for a moment.
+abbrev pub is_drawn : Made → Option Made → Bool
+is_drawn made next = if stood_for made.stood stands || not made.goes_on then false else was_changed next
+
+-- It was part of a set-up, as all after it were: it brought a piece home, or a piece was drawn.
+abbrev pub sets_up : Made → Option Made → Bool
+sets_up made next = if made.is_added then false else if made.goes_home then not (stood_for made.stood home_stands) else is_drawn made next
+
+-- The moves from this one on were part of a set-up, and the one before wasn't.
+pub record SetsUpFrom (first : ℕ) (moves : List Made) : Type 0 where
+  pub within : first ≤ length moves
+  pub each : (k : ℕ) (made : Made) → first ≤ k → slice_get moves k ≡ Some made → sets_up made (slice_get moves (k + 1)) ≡ true
+  pub before : 0 < first → (made : Made) → slice_get moves (first - 1) ≡ Some made → sets_up made (slice_get moves first) ≡ false
+
+-- The last of so many moves stood longest of those from the first of a set-up on.
+abbrev pub IsLongest : ℕ → ℕ → List Made → Type 0
+IsLongest first kept moves = (k : ℕ) (one last : Made) → first ≤ k → slice_get moves k ≡ Some one → slice_get moves (kept - 1) ≡ Some last
+    → time_of one.stood ≤ time_of last.stood
+
+-- So many moves are the game's, if a set-up begins with this one: all, if nothing else was played; else those before it. But if
+-- the last of those stood for less than a second, the one of the set-up that stood longest is the last one: nobody sets up so soon.
+pub record EndsBefore (first kept : ℕ) (moves : List Made) : Type 0 where
+  pub alone : first ≡ 0 → kept ≡ length moves
+  pub none : first ≡ length moves → kept ≡ length moves
+  pub stood : 0 < first → (made : Made) → slice_get moves (first - 1) ≡ Some made → stood_for made.stood stands ≡ true → kept ≡ first
+  pub soon : 0 < first → first < length moves → (made : Made) → slice_get moves (first - 1) ≡ Some made → stood_for made.stood stands ≡ false
+      → (first < kept) × (kept ≤ length moves) × IsLongest first kept moves
+
+-- where a game ended
+abbrev pub IsEnd : ℕ → List Made → Type 0
+IsEnd kept moves = (first : ℕ) × SetsUpFrom first moves × EndsBefore first kept moves
+
+-- A move may go: nobody added it, and it stood for less than three seconds.
+abbrev pub may_go : Made → Bool
+may_go made = not made.is_added && not (stood_for made.stood home_stands)
+
+-- Only a tail goes; each move of it may go; and of a game with moves, one stays.
+pub record LosesTail (kept : ℕ) (moves : List Made) : Type 0 where
+  pub tail : kept ≤ length moves
+  pub gone : (k : ℕ) (made : Made) → kept ≤ k → slice_get moves k ≡ Some made → may_go made ≡ true
+  pub one : 0 < length moves → 0 < kept
+
+-- Nobody need look at the last moves: all stay, and the last one brought no piece home.
+pub record IsSure (kept : ℕ) (moves : List Made) : Type 0 where
+  pub all : kept ≡ length moves
+  pub last : (made : Made) → slice_get moves (kept - 1) ≡ Some made → made.goes_home ≡ false
