@@ -14,6 +14,19 @@ from paged.devtools import Json
 from played.stage import same
 
 SCRIPT = pathlib.Path(__file__).with_name("folder.js")
+# What a process is told that is begun while `slow.is` comes to it late.
+SLOW = """
+window.slow = { is: false, keys: new Set() };
+{
+  const post = Worker.prototype.postMessage;
+  Worker.prototype.postMessage = function (message) {
+    const { key, entry } = message?.name === 'tell' ? message.given : {};
+    if (slow.is && entry && String.fromCharCode(...entry.subarray(0, 8)) === '0 begin ') slow.keys.add(key);
+    if (slow.keys.has(key)) setTimeout(() => post.call(this, message), 1500);
+    else post.call(this, message);
+  };
+}
+"""
 
 
 class Chosen:
@@ -186,6 +199,28 @@ def folder_in_order(folder: pathlib.Path) -> None:
         page.value("folder.fails = ''")
         until_text(stage, chosen, name, "1. e4 e5 2. Nf3 Nc6 *")
         same(chosen.files[before][: len(longer)], longer)
+
+
+@with_chromium
+def folder_behind_the_report(folder: pathlib.Path) -> None:
+    """Plies are taken off, and the program is slow to report what is left: the text without them is in the folder all the same."""
+    with Hall(folder) as stage:
+        chosen = Chosen(stage)
+        port = stage.board()
+        page = stage.tab([chosen.script(), SLOW])
+        stage.add(page, port)
+        stage.enlarge(page, 1)
+        until_agrees(stage, page)
+        chosen.choose(stage, page)
+        play(stage, page, port, RUY[:3], RUY_SANS[:3])
+        until_text(stage, chosen, "board 1.pgn", "1. e4 e5 2. Nf3 *")
+        port.board.play("f3g1")
+        stage.until_dumped(page, port)
+        page.value("slow.is = true")
+        answered(stage, page, "back", "back to 1... e5; taken off: 2. Nf3")
+        until_text(stage, chosen, "board 1.pgn", "1. e4 e5 *")
+        play(stage, page, port, ["b1c3"], ["Nc3"])
+        until_text(stage, chosen, "board 1.pgn", "1. e4 e5 2. Nc3 *")
 
 
 @with_chromium

@@ -506,6 +506,7 @@ export class Recorder {
     try {
       while (this.wantsText && !this.guard.ended) {
         this.wantsText = false;
+        await this.attending.read(); // whether there is something to write is known by its lines
         const { epoch } = this.attending;
         const text = await this.textOf(this.game);
         if (epoch === this.attending.epoch) {

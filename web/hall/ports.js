@@ -42,6 +42,7 @@ export class Ports {
     this.hears = hears;
     this.asked = new Map(); // ports on which a board is being asked, each with what that will come to
     this.unknown = new Set(); // ports on which no awaited board was found
+    this.trouble = ''; // why a device couldn't be looked at last
     this.chosen = new WeakSet(); // ports that somebody has chosen since they were plugged in: he says what they are for
   }
 
@@ -73,7 +74,9 @@ export class Ports {
   tryOne(port) {
     this.came(port).catch((error) => {
       console.error(error);
-      this.hears.says(`a device can't be looked at: ${error.message || error}`);
+      const why = error.message || String(error);
+      if (why !== this.trouble) this.hears.says(`a device can't be looked at: ${why}`);
+      this.trouble = why;
     });
   }
 
