@@ -84,7 +84,7 @@ pub enum Place {
 }
 
 /// What somebody must look at.
-#[derive(Clone, Copy, PartialEq, Eq)]
+#[derive(Clone, Copy)]
 pub struct Doubt {
     pub place: Place,
     pub why: Why,

@@ -19,7 +19,7 @@ const SEEN_LATE: u64 = 3_000;
 const MOST: u64 = 9_999;
 
 /// Moves that were made one after the other while the clock was stopped.
-#[derive(Clone, Copy, PartialEq, Eq)]
+#[derive(Clone, Copy)]
 pub struct Tried {
     /// How many: 9,999 at most.
     pub moves: u64,
