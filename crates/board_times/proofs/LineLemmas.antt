@@ -9,6 +9,14 @@ use Rattle.board_times.specs.Lines.{BeginsNoLine, Fits, NumberFits, line_text, n
 use Rattle.board_times.proofs.TextLemmas.{body_lacks_feed, cut_once, decimal_lacks_blank, uncut, word_back, word_is, word_lacks_blank}
 use Rattle.board_times.specs.Inside.Reading.{lacks, word_read}
 
+-- the text of a word alone, and of a word with a number
+pub tail_alone : (text : List ℕ) (word : Word) → word_read text ≡ Some word → text ≡ word_text word ++ []
+tail_alone text word e = word_is text word e ∙ sym (append-nil (word_text word))
+
+pub tail_numbered : (text a b : List ℕ) (word : Word) (n : ℕ) → text ≡ a ++ 32 ∷ b → word_read a ≡ Some word → b ≡ decimal n
+    → text ≡ word_text word ++ 32 ∷ decimal n
+tail_numbered text a b word n cut e is = cut ∙ ap (λ t. t ++ 32 ∷ b) (word_is a word e) ∙ ap (λ t. word_text word ++ 32 ∷ t) is
+
 has_word : Option Word → Bool
 has_word None = false
 has_word (Some word) = true

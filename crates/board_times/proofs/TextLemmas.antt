@@ -9,7 +9,7 @@ use Rattle.std.proofs.lemmas.Bool.{and_parts, cases_eq, eq-eqb, ne_eqb}
 use Rattle.std.proofs.lemmas.Fmt.{decimal_injective, decimal_is_IsNumeral}
 use Rattle.std.proofs.lemmas.List.{append_assoc, append-nil}
 use Rattle.board_times.specs.declared.words.Word.{Word}
-use Rattle.board_times.specs.declared.words.Word.TheVariants.{Version, Digest, Begin, Away, Opened, Answered, Gone, Called, Heard, Added, Stopped, Asked, Took, Over, Wake, Lent, Number, Kept, Capture}
+use Rattle.board_times.specs.declared.words.Word.TheVariants.{Version, Digest, Begin, Away, Opened, Answered, Gone, Called, Heard, Added, Stopped, Asked, Took, Over, Wake, Lent, Number, Kept, Capture, Text}
 use Rattle.board_times.specs.declared.lines.Tail.{Tail}
 use Rattle.board_times.specs.declared.lines.Line.{Line}
 use Rattle.board_times.specs.Words.{word_text}
@@ -112,6 +112,7 @@ word_back Lent = refl
 word_back Number = refl
 word_back Kept = refl
 word_back Capture = refl
+word_back Text = refl
 
 pub word_lacks_blank : (word : Word) → lacks 32 (word_text word) ≡ true
 word_lacks_blank Version = refl
@@ -133,6 +134,7 @@ word_lacks_blank Lent = refl
 word_lacks_blank Number = refl
 word_lacks_blank Kept = refl
 word_lacks_blank Capture = refl
+word_lacks_blank Text = refl
 
 word_lacks_feed : (word : Word) → lacks 10 (word_text word) ≡ true
 word_lacks_feed Version = refl
@@ -154,6 +156,7 @@ word_lacks_feed Lent = refl
 word_lacks_feed Number = refl
 word_lacks_feed Kept = refl
 word_lacks_feed Capture = refl
+word_lacks_feed Text = refl
 
 text_or : List ℕ → Option Word → List ℕ
 text_or text None = text
@@ -187,7 +190,8 @@ word_text_read text =
     text_step text (bytes_eq text (codes "number")) Number _ (bytes_eq-Decides text (codes "number")).0 (
     text_step text (bytes_eq text (codes "kept")) Kept _ (bytes_eq-Decides text (codes "kept")).0 (
     text_step text (bytes_eq text (codes "capture")) Capture _ (bytes_eq-Decides text (codes "capture")).0 (
-    refl)))))))))))))))))))
+    text_step text (bytes_eq text (codes "text")) Text _ (bytes_eq-Decides text (codes "text")).0 (
+    refl))))))))))))))))))))
 
 pub word_is : (text : List ℕ) (word : Word) → word_read text ≡ Some word → text ≡ word_text word
 unfolding text_or

@@ -1,7 +1,7 @@
 -- The words of the file of times, and behind them those of a host alone.
 use Rattle.std.specs.Prelude.{ℕ, List, codes}
 use Rattle.board_times.specs.declared.words.Word.{Word}
-use Rattle.board_times.specs.declared.words.Word.TheVariants.{Version, Digest, Begin, Away, Opened, Answered, Gone, Called, Heard, Added, Stopped, Asked, Took, Over, Wake, Lent, Number, Kept, Capture}
+use Rattle.board_times.specs.declared.words.Word.TheVariants.{Version, Digest, Begin, Away, Opened, Answered, Gone, Called, Heard, Added, Stopped, Asked, Took, Over, Wake, Lent, Number, Kept, Capture, Text}
 
 abbrev pub word_text : Word → List ℕ
 word_text Version = codes "times"
@@ -23,3 +23,4 @@ word_text Lent = codes "lent"
 word_text Number = codes "number"
 word_text Kept = codes "kept"
 word_text Capture = codes "capture"
+word_text Text = codes "text"

@@ -27,6 +27,7 @@ pub enum Word {
     Number,
     Kept,
     Capture,
+    Text,
 }
 
 impl Word {
@@ -54,6 +55,7 @@ impl Word {
             Word::Number => b"number",
             Word::Kept => b"kept",
             Word::Capture => b"capture",
+            Word::Text => b"text",
         }
     }
 }
@@ -124,6 +126,9 @@ pub(crate) fn word_of(text: &[u8]) -> Option<Word>
     }
     if are_same(text, b"capture") {
         return Some(Word::Capture);
+    }
+    if are_same(text, b"text") {
+        return Some(Word::Text);
     }
     None
 }

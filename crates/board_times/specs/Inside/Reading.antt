@@ -3,7 +3,7 @@ use Rattle.std.specs.Prelude.{ℕ, ◌==◌, not, Bool, List, Option, Some, None
 use Rattle.std.specs.List.{list_all}
 use Rattle.std.specs.Str.{bytes_eq}
 use Rattle.board_times.specs.declared.words.Word.{Word}
-use Rattle.board_times.specs.declared.words.Word.TheVariants.{Version, Digest, Begin, Away, Opened, Answered, Gone, Called, Heard, Added, Stopped, Asked, Took, Over, Wake, Lent, Number, Kept, Capture}
+use Rattle.board_times.specs.declared.words.Word.TheVariants.{Version, Digest, Begin, Away, Opened, Answered, Gone, Called, Heard, Added, Stopped, Asked, Took, Over, Wake, Lent, Number, Kept, Capture, Text}
 use Rattle.board_times.specs.declared.lines.Line.{Line}
 use Rattle.board_times.specs.declared.events.What.{What}
 use Rattle.board_times.specs.declared.events.What.TheVariants.{Begins, IsAway, Opens, Answers, Goes, Calls, Hears, Adds, Stops, Asks, Takes, Ends}
@@ -35,7 +35,8 @@ word_read text =
     else (if bytes_eq text (codes "number") then Some Number
     else (if bytes_eq text (codes "kept") then Some Kept
     else (if bytes_eq text (codes "capture") then Some Capture
-    else None))))))))))))))))))
+    else (if bytes_eq text (codes "text") then Some Text
+    else None)))))))))))))))))))
 
 -- what happens with a word and a number, if anything does
 abbrev pub what_of : Word → Option ℕ → Option What
