@@ -53,8 +53,10 @@ class Answer:
 
     kept: bytes = b""  # the capture gets these
     report: Tuple[str, ...] = ()
+    game: bytes = b""  # its text, if it was wanted
     handling: str = ""  # none: a capture of the calls before is answered without it
     other: str = ""  # the serial number of another board
+    number: str = ""  # that of the game's board, if it is news
     asked: str = ""  # the board is sent this
     is_full: bool = False
     state: Optional[State] = None
@@ -74,12 +76,14 @@ def span_of(word: str) -> Optional[int]:
 
 
 def with_line(answer: Answer, line: str) -> Answer:
-    """The answer with one more line; neither the one with bytes behind it nor the last."""
+    """The answer with one more line; none with bytes behind it, nor the last."""
     word, *rest = line.split(" ")
     if word.isdecimal():
         return dataclasses.replace(answer, report=(*answer.report, line))
     if word in HANDLINGS:
         return dataclasses.replace(answer, handling=word, other="".join(rest))
+    if word == "number":
+        return dataclasses.replace(answer, number=rest[0])
     if word == "ask":
         return dataclasses.replace(answer, asked=rest[0])
     if word == "full":
@@ -91,15 +95,16 @@ def with_line(answer: Answer, line: str) -> Answer:
 
 def next_answer(text: bytes, at: int = 0) -> Optional[Tuple[Answer, int]]:
     """The answer that begins at a place of what has come so far, and the place behind it; None while more is to come."""
-    answer, kept = Answer(), b""
+    answer = Answer()
+    behind = {"kept": b"", "game": b""}  # the bytes behind these lines
     report: List[str] = []
     while (end := text.find(b"\n", at)) >= 0:
         line, at = text[at:end].decode("latin-1"), end + 1
         word, _, rest = line.partition(" ")
         if word == "done":
-            return dataclasses.replace(answer, kept=kept, report=tuple(report), due=span_of(rest)), at
-        if word == "kept":
-            kept, at = text[at : at + int(rest)], at + int(rest)
+            return dataclasses.replace(answer, **behind, report=tuple(report), due=span_of(rest)), at
+        if word in behind:
+            behind[word], at = text[at : at + int(rest)], at + int(rest)
             if at > len(text):
                 return None
         elif word.isdecimal():

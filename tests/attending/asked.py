@@ -2,9 +2,7 @@
 
 A host wakes its recorder when that has asked for it, and before anything that comes at that time.
 
-`frames` names bytes. The last step of `serials`, that the board has a number, can't be looked at: `live` never tells the number of the
-game's own board. That it is asked for from then on is in `numbered`. How bytes are cut, and what a frame is, are tables about bytes;
-the recorder's own frames are in tests/given/.
+`frames` names bytes. How bytes are cut, and what a frame is, are tables about bytes; the recorder's own frames are in tests/given/.
 """
 
 import random
@@ -169,6 +167,22 @@ def serials() -> None:
                     same(step["name"], (answer.handling, answer.other), ("other", last) if last else ("hold", ""))
 
 
+def own_number() -> None:
+    """The first number that has come is that of the game's board, if the host has told none: it is said once."""
+    for steps in cases("asking", "serials"):
+        with Host() as host:
+            call = begun(host)
+            said: List[str] = []
+            for step in steps:
+                if step.get("do") == "connected":
+                    call.tell(Entry(0, "opened"))
+                elif step.get("see") == "serial":
+                    said.append(call.tell(brings(milliseconds(step["at"]), "heard", bytes_of(step["bytes"], FRAMES))).number)
+                elif step.get("see") == "has number":
+                    first = next(given["is"] for given in steps if given.get("see") == "serial" and given["is"])
+                    same(step["name"], ([number for number in said if number] == [first]), step["is"])
+
+
 def flooded(name: str, comings: Iterator[Coming], until: int, most: int) -> None:
     """The requests that what comes brings, and the bound."""
     with Host() as host:
@@ -190,4 +204,4 @@ def noise() -> None:
     flooded("a dump and a fault, 100 times a second", worst, 30000, 151)
 
 
-TABLES = [rules, numbered, silent_boards, additions, serials, noise]
+TABLES = [rules, numbered, silent_boards, additions, serials, own_number, noise]

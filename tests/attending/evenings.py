@@ -108,10 +108,8 @@ class Table:
         self._times += lines
         self._capture += added(entry, answer)
         self._noted_at = entry.at if lines else self._noted_at
-        if entry.word == "took":
-            self._owned = self.number
-        elif number_message(OWN) in self._capture and not self._owned:
-            self._owned = OWN
+        if answer.number:
+            self._owned = answer.number.encode()
         self._marks.append(Mark(len(self._capture), len(self._times), self._owned, self.shown, self.call.now, self._noted_at))
 
     def begins(self, away: Optional[int] = None) -> None:

@@ -9,7 +9,6 @@ from typing import FrozenSet, List, Sequence, Tuple
 
 from decided.table import same, skip
 from failing.each import Run, runs
-from given.attended import CALL
 from given.case import Case, dump, pgn, program, updates
 from given.messages import CUT, E2_EMPTY, E4_PAWN, INITIAL, KINGS_PAWN, OTHER
 from given.recovered import BISHOP, FIRST, HIDDEN, LINE, SECOND, THIRD
@@ -64,9 +63,23 @@ def fronts(text: bytes) -> FrozenSet[Left]:
     return frozenset((text[:size], MEMORY) for size in range(len(text) + 1))
 
 
+# What a host tells, and what it is answered: the board gives its number and its pieces, and the text is wanted.
+NUMBER = b"\x91\x00\x0801234"
+TURNS = [
+    (b"0 begin 0\n", b"keep\nstate WAITS -\ndone -\n"),
+    (b"5 opened\n", b"keep\nask EBK\ndone 1000\n"),
+    (b"95 heard 8\n" + NUMBER, b"kept 8\n" + NUMBER + b"keep\nnumber 01234\ndone 910\n"),
+    (
+        b"120 heard 67\n" + INITIAL,
+        b"kept 67\n" + INITIAL + b"74 picture rnbqkbnr/pppppppp/8/8/8/8/PPPPPPPP/RNBQKBNR\n74 agrees\nkeep\nstate AGREES 0\ndone 85\n",
+    ),
+    (b"1005 text\n", b"game 99\n" + pgn(white="Anna") + b"keep\nask B\ndone 1000\n"),
+]
+
+
 def answered(count: int) -> bytes:
     """What a host reads that has told so many entries."""
-    return START + b"".join(answer for _, answer in CALL[:count])
+    return START + b"".join(answer for _, answer in TURNS[:count])
 
 
 def recording(capture: bytes, movetexts: Sequence[str], updates: int, *options: str, **tags: str) -> Failing:
@@ -125,8 +138,8 @@ CASES: List[Failing] = [
         fronts(INITIAL + HIDDEN + BISHOP + FIRST + SECOND + THIRD),
     ),
     Failing(
-        Case(["live"], b"".join(told for told, _ in CALL), out=answered(len(CALL))),
-        frozenset((answered(count), MEMORY) for count in range(len(CALL))),
+        Case(["live", "--white", "Anna"], b"".join(told for told, _ in TURNS), out=answered(len(TURNS))),
+        frozenset((answered(count), MEMORY) for count in range(len(TURNS))),
     ),
 ]
 

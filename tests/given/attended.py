@@ -4,8 +4,9 @@ player's hand for its first ten seconds."""
 from typing import Any, Iterable, Tuple
 
 from decided.table import same
-from given.case import Case, but, leave, leave_by_bytes, left_by, updates
-from given.messages import E2_EMPTY, INITIAL, TURNED, TWO_KINGS
+from given.case import Case, but, leave, leave_by_bytes, left_by, pgn, updates
+from given.messages import E2_EMPTY, E4_PAWN, INITIAL, TURNED, TWO_KINGS
+from given.recorded import LONG_NAME
 from given.recovered import BISHOP, HIDDEN
 from given.watched import START
 
@@ -45,7 +46,7 @@ LIFTED = b"79 picture rnbqkbnr/pppppppp/8/8/8/8/PPPP1PPP/RNBQKBNR\n79 differs e2
 CALL = [
     (b"0 begin 0\n", b"keep\nstate WAITS -\ndone -\n"),
     (b"5 opened\n", b"keep\nask EBK\ndone 1000\n"),
-    (b"95 heard 8\n" + NUMBER, b"kept 8\n" + NUMBER + b"keep\ndone 910\n"),
+    (b"95 heard 8\n" + NUMBER, b"kept 8\n" + NUMBER + b"keep\nnumber 01234\ndone 910\n"),
     (b"120 heard 67\n" + INITIAL, b"kept 67\n" + INITIAL + SHOWN + b"keep\nstate AGREES 0\ndone 85\n"),
     (b"1005 wake\n", b"keep\nask B\ndone 1000\n"),
     (b"1100 heard 5\n" + E2_EMPTY, b"kept 5\n" + E2_EMPTY + LIFTED + b"keep\nstate IN-HAND 0 e2\ndone 500\n"),
@@ -60,7 +61,7 @@ NEXT_CALL = [
     (b"10 opened\n", b"hold\nask EBK\nstate WAITS -\ndone 1000\n"),
     (b"60 heard 8\n" + OTHER_NUMBER, b"other 01235\ndone 950\n"),
     (b"300 lent\n", b"other 01235\ndone 710\n"),
-    (b"400 took\n", b"keep\ndone 610\n"),
+    (b"400 took\n", b"keep\nnumber 01235\ndone 610\n"),
 ]
 
 ATTENDED = [
@@ -68,9 +69,71 @@ ATTENDED = [
     turns(CALL),
     turns(CALL + NEXT_CALL),
     # a time before the last one counts as that
-    turns([*CALL[:2], (b"3 heard 8\n" + NUMBER, b"kept 8\n" + NUMBER + b"keep\ndone 1000\n")]),
+    turns([*CALL[:2], (b"3 heard 8\n" + NUMBER, b"kept 8\n" + NUMBER + b"keep\nnumber 01234\ndone 1000\n")]),
     # bytes that were added by hand are in the capture already; then a dump is wanted, 0.2 s after the last request
     turns([*CALL[:2], (b"95 added 67\n" + INITIAL, b"66 picture rnbqkbnr/pppppppp/8/8/8/8/PPPPPPPP/RNBQKBNR\n66 agrees\nkeep\nstate AGREES 0\ndone 110\n")]),
+]
+
+# ---- the number of the game's board
+
+# The host has told it before the board gives it.
+TOLD_NUMBER = [
+    (b"0 begin 0\n", b"keep\nstate WAITS -\ndone -\n"),
+    (b"0 number 5\n01234", b"keep\ndone -\n"),
+    (b"5 opened\n", b"hold\nask EBK\ndone 1000\n"),
+    (b"95 heard 8\n" + NUMBER, b"kept 8\n" + NUMBER + b"keep\ndone 910\n"),
+]
+
+NUMBERS = [
+    turns(TOLD_NUMBER),
+    # it comes again, and the arbiter takes the board that is the game's already
+    turns([*CALL[:3], (b"96 heard 8\n" + NUMBER, b"kept 8\n" + NUMBER + b"keep\ndone 909\n"), (b"97 took\n", b"keep\ndone 908\n")]),
+    # two come in one read: the first is the game's, and the last that of the board on the cable
+    turns([*CALL[:2], (b"95 heard 16\n" + NUMBER + OTHER_NUMBER, b"other 01235\nnumber 01234\ndone 910\n")]),
+    # what the host tells is no number
+    turns([*CALL[:3], (b"96 number 5\n0123 ", b"keep\ndone 909\n"), (b"97 number 4\n0123", b"keep\ndone 908\n")]),
+    # the host tells another one
+    turns([*CALL[:3], (b"96 number 5\n01235", b"other 01234\ndone 909\n"), (b"97 took\n", b"keep\nnumber 01234\ndone 908\n")]),
+]
+
+# ---- the text of the game
+
+
+def game(text: bytes) -> bytes:
+    return b"game %d\n%s" % (len(text), text)
+
+
+MOVED = (
+    b"84 picture rnbqkbnr/pppppppp/8/8/4P3/8/PPPP1PPP/RNBQKBNR\n84 move 1. e4\n"
+    b"84 position rnbqkbnr/pppppppp/8/8/4P3/8/PPPP1PPP/RNBQKBNR b KQkq e3 0 1\n"
+)
+
+# The first call but its last entry; then the pawn is set down.
+PLAYED = [
+    *CALL[:6],
+    (b"1200 text\n", game(pgn()) + b"keep\ndone 400\n"),
+    (
+        b"1300 heard 5\n" + E4_PAWN,
+        b"kept 5\n" + E4_PAWN + MOVED + b"keep\nstate AGREES 0\ndone 500\n",
+    ),
+    (b"1400 text\n", game(pgn("1. e4 *")) + b"keep\ndone 400\n"),
+]
+
+TAGS = ["--event", "Open", "--site", "Oslo", "--date", "2024.??.??", "--round", "1", "--white", 'Anna "A"', "--black", ""]
+TAGGED = pgn("1. e4 *", event="Open", site="Oslo", date="2024.??.??", round="1", white='Anna \\"A\\"', black="")
+
+# A capture of a call before, in which it was.
+BEFORE = [(b"0 capture 85\n" + CAPTURE + E4_PAWN, SHOWN + LIFTED + MOVED + b"done -\n")]
+
+TEXTS = [
+    turns(PLAYED),
+    # before anything has happened, twice
+    turns([(b"0 text\n", game(pgn()) + b"keep\ndone -\n")] * 2),
+    # otherwise it is a wake: the board is asked
+    turns([*CALL[:4], (b"1005 text\n", game(pgn()) + b"keep\nask B\ndone 1000\n"), *CALL[5:]]),
+    # of a call before
+    turns([*BEFORE, (b"0 text\n", game(pgn("1. e4 *")) + b"keep\ndone -\n")]),
+    turns([*BEFORE, (b"0 text\n", game(TAGGED) + b"keep\ndone -\n")], words=["live", *TAGS]),
 ]
 
 # ---- what was kept of the calls before
@@ -103,6 +166,8 @@ KEPT = [
     turns([(kept(b"1 times 0\n80 digest 1\n0 begin 0\n1500 gone\n"), REPORT), *BEGUN_AGAIN]),
     turns([(kept(b"2 times 0\n0 digest 1\n0 begin 0\n1500 gone\n"), REPORT), *BEGUN_AGAIN]),
     turns([(kept(b"no times\n"), REPORT), *BEGUN_AGAIN]),
+    # a file of times has no such line
+    turns([(kept(TIMES.replace(b"1100 heard", b"1100 text\n1100 heard")), REPORT), *BEGUN_AGAIN]),
     # a file that tells of more bytes than the capture has
     turns([(kept(TIMES.replace(b"120 heard 67", b"120 heard 70")), REPORT), *NEXT_CALL]),
     # the last of two files of times counts
@@ -123,6 +188,7 @@ NO_ENTRIES = [
         b"opened\n",
         b"\n",
         b"5 opened 3\n",
+        b"5 text 3\n",
         b"5 heard\n",
         b"18446744073709551616 opened\n",  # 2^64
         b"0 capture 67108865\n",  # more than a capture may have
@@ -147,6 +213,8 @@ FAILING = [
     # within an entry
     but(turns(CALL[:2]), sent=CALL[0][0] + CALL[1][0] + b"95 heard 8\n" + NUMBER[:3], fails=True, status=3, err=b"read fault\n"),
     but(LIVE, words=["live", "--fen", "x"], status=1, out=b"", err=b"fen: form\n"),
+    but(LIVE, words=["live", "--white", LONG_NAME], status=1, out=b"", err=b"tag White: long\n"),
+    but(LIVE, words=["live", "--white", LONG_NAME, "--fen", "x"], status=1, out=b"", err=b"fen: form\n"),
 ]
 
 # The text of a whole call, and the part of it that finds room.
@@ -154,6 +222,7 @@ WHOLE = turns(CALL)
 CUT_OFF = [
     but(WHOLE, room=10, status=3, out=WHOLE.out[:10], err=b"write fault\n"),
     but(WHOLE, room=len(WHOLE.out) - 1, status=3, out=WHOLE.out[:-1], err=b"write fault\n"),
+    but(TEXTS[0], room=len(TEXTS[0].out) - 40, status=3, out=TEXTS[0].out[:-40], err=b"write fault\n"),
     but(WHOLE, sent=WHOLE.sent + b"\n", status=1, error_room=3, err=b"inp"),
 ]
 
@@ -183,17 +252,20 @@ LARGEST = but(LIVE, sent=b"0 capture 67108864\n", more=67108864, out=START + b"0
 
 def live() -> None:
     """`live` whole, and where a read gives one byte."""
-    leave("live", ATTENDED, KEPT, NO_ENTRIES, BEFORE_NO_ENTRY, FAILING, CUT_OFF, OPTIONS, [UNTOLD, LARGEST])
-    leave_by_bytes("live byte by byte", ATTENDED, KEPT, NO_ENTRIES, BEFORE_NO_ENTRY)
+    leave("live", ATTENDED, NUMBERS, TEXTS, KEPT, NO_ENTRIES, BEFORE_NO_ENTRY, FAILING, CUT_OFF, OPTIONS, [UNTOLD, LARGEST])
+    leave_by_bytes("live byte by byte", ATTENDED, NUMBERS, TEXTS, KEPT, NO_ENTRIES, BEFORE_NO_ENTRY)
 
 
 def recovers() -> None:
-    """Only with `--recover` a pair that no picture showed is in the report."""
+    """Only with `--recover` a pair that no picture showed is in the report, and in the text."""
     hidden = INITIAL + HIDDEN + BISHOP
-    told = b"0 heard %d\n" % len(hidden) + hidden
-    for words, count in [(["live"], 0), (["live", "--recover"], 1)]:
+    told = b"0 heard %d\n" % len(hidden) + hidden + b"0 text\n"
+    for words, count, text in [
+        (["live"], 0, pgn("1. e4 e5 *")),
+        (["live", "--recover"], 1, pgn("1. e4 e5 2. Nf3 Nc6 3. Bb5 *")),
+    ]:
         status, out, err, _ = left_by(but(LIVE, words=words, sent=told))
-        same(f"{words}", (status, out.count(b"116 recovered 2. Nf3 2... Nc6\n"), err), (0, count, b""))
+        same(f"{words}", (status, out.count(b"116 recovered 2. Nf3 2... Nc6\n"), out.count(game(text)), err), (0, count, 1, b""))
 
 
 # After them 3... a6, 4. Ba4 and Nf6 by two hands at once, and 5. d3.

@@ -22,6 +22,14 @@ abbrev pub handling_line : Option Handling → List ℕ
 handling_line None = []
 handling_line (Some handling) = handling_words handling ++ codes "\n"
 
+-- the serial number of the game's board, if it is news
+abbrev pub number_words : List ℕ → List ℕ
+number_words number = codes "number " ++ number
+
+abbrev pub number_line : Option (List ℕ) → List ℕ
+number_line None = []
+number_line (Some number) = number_words number ++ codes "\n"
+
 -- the bytes that are sent to the board
 abbrev pub request_words : Request → List ℕ
 request_words request = codes "ask " ++ bytes_of request
@@ -84,4 +92,4 @@ done_line due = done_words due ++ codes "\n"
 
 -- an answer
 abbrev pub answer_text : Said → List ℕ
-answer_text said = handling_line said.handling ++ request_line said.request ++ room_line said.is_whole ++ state_line said.state ++ done_line said.due
+answer_text said = handling_line said.handling ++ number_line said.number ++ request_line said.request ++ room_line said.is_whole ++ state_line said.state ++ done_line said.due

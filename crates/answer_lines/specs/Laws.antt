@@ -16,6 +16,10 @@ abbrev pub HandlingFits : Option Handling → Type 0
 HandlingFits (Some (Other number)) = lacks 10 number ≡ true
 HandlingFits _ = ⊤
 
+abbrev pub NumberFits : Option (List ℕ) → Type 0
+NumberFits None = ⊤
+NumberFits (Some number) = lacks 10 number ≡ true
+
 -- Times and masks are below 2 ^ 64.
 abbrev pub TimeFits : Option ℕ → Type 0
 TimeFits None = ⊤
@@ -26,7 +30,7 @@ StateFits None = ⊤
 StateFits (Some state) = TimeFits state.since × (state.squares < 2 ^ 64)
 
 abbrev pub IsSaid : Said → Type 0
-IsSaid said = HandlingFits said.handling × StateFits said.state × TimeFits said.due
+IsSaid said = HandlingFits said.handling × NumberFits said.number × StateFits said.state × TimeFits said.due
 
 -- Answers that stand one behind the other are read in one way: where one text begins with two answers, they are the same.
 abbrev pub IsSaidInOneWay : Type 0

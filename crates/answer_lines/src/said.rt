@@ -8,6 +8,8 @@ use board_standing::State;
 pub struct Said {
     /// What is done with what the board has sent. None: nothing was heard.
     pub handling: Option<Handling>,
+    /// The serial number of the game's board, if it is news.
+    pub number: Option<[u8; 5]>,
     /// What the board is sent now.
     pub request: Option<Request>,
     /// Whether the capture had room for all bytes.

@@ -1,7 +1,7 @@
 //! The lines of an answer, as they are written.
 ghost use Rattle.std.specs.Prelude.{◌≡◌, ◌<◌, ◌+◌, ◌-◌, ◌/◌, ◌%◌, ◌==◌, ◌∷◌, ◌++◌, [], IfOk, OnErr, OnOk, codes, if◌then◌else◌};
 ghost use Rattle.std.specs.Int.{bit_at};
-ghost use Rattle.answer_lines.specs.Answers.{answer_text, done_line, handling_line, hint_text, kind_word, request_line, room_line, square_text, squares_below, state_line, state_words, time_text};
+ghost use Rattle.answer_lines.specs.Answers.{answer_text, done_line, handling_line, hint_text, kind_word, number_line, request_line, room_line, square_text, squares_below, state_line, state_words, time_text};
 
 use crate::said::Said;
 use board_asking::{Handling, Request};
@@ -18,6 +18,19 @@ fn add_handling(handling: Option<Handling>, out: &mut Vec<u8>) -> Result<(), All
         Some(Handling::Hold) => out.extend_from_slice(b"hold\n"),
         Some(Handling::Other(number)) => {
             out.extend_from_slice(b"other ")?;
+            out.extend_from_slice(&number)?;
+            out.extend_from_slice(b"\n")
+        }
+    }
+}
+
+fn add_number(number: Option<[u8; 5]>, out: &mut Vec<u8>) -> Result<(), AllocError>
+    ensures { IfOk result (λ _. out.new.items ≡ out.old.items ++ number_line number) }
+{
+    match number {
+        None => Ok(()),
+        Some(number) => {
+            out.extend_from_slice(b"number ")?;
             out.extend_from_slice(&number)?;
             out.extend_from_slice(b"\n")
         }
@@ -155,6 +168,7 @@ fn answer_text(alloc: Global, said: Said) -> Result<Vec<u8>, AllocError>
 {
     let mut text = Vec::new(alloc);
     add_handling(said.handling, &mut text)?;
+    add_number(said.number, &mut text)?;
     add_request(said.request, &mut text)?;
     add_room(said.is_whole, &mut text)?;
     add_state(said.state, &mut text)?;

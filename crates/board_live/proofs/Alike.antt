@@ -19,6 +19,7 @@ use Rattle.board_live.specs.declared.happened.What.{What}
 use Rattle.board_live.specs.declared.happened.What.TheVariants.{Cable}
 use Rattle.board_live.specs.Coming.{came, came_with, silence}
 use Rattle.board_live.specs.Laws.{AnsweredAlike, RestartsAlike, as_kept, with_number}
+use Rattle.board_live.specs.Numbers.{number_news}
 use Rattle.board_live.specs.Moments.{Moment, already, at_cable, begins, cable_moment, cabled, news_of}
 use Rattle.board_live.proofs.Fed.{is_kept}
 use Rattle.board_live.proofs.Lines.{Line, line_of, same_asked, same_begun, same_handlings, same_requests, same_tells}
@@ -40,9 +41,9 @@ same_came at news bytes kept others silence other a b k s c =
 turn_alike : (m : Moment) (past other : List Moment) (t u : Turn) (ts us : List Turn) → t.moment ≡ u.moment → line_of t.now ≡ line_of u.now
     → handling_of t ≡ handling_of u → kept (t ∷ ts) ≡ kept (u ∷ us) → side_of (t ∷ ts) ≡ side_of (u ∷ us)
     → stream (cabled (m ∷ past)) ≡ stream (cabled (m ∷ other)) → came past ts ≡ came other us
-    → ((b : Bool) → silence m.what (is_silent (told ts)) b ≡ silence m.what (is_silent (told us)) b)
+    → own_number (told ts) ≡ own_number (told us) → ((b : Bool) → silence m.what (is_silent (told ts)) b ≡ silence m.what (is_silent (told us)) b)
     → AnsweredAlike (m ∷ past) t ts (m ∷ other) u us × Same (m ∷ past) (m ∷ other) (t ∷ ts) (u ∷ us)
-turn_alike m past other t u ts us moments lines handlings keeps sides streams has silences =
+turn_alike m past other t u ts us moments lines handlings keeps sides streams has owns silences =
     let requests : request_of t ≡ request_of u = ap (λ (one : CableMoment). request_at one.at t.now) moments ∙ same_requests u.moment.at t.now u.now lines in
     let all : line_of (told (t ∷ ts)) ≡ line_of (told (u ∷ us)) =
     ap (λ (one : CableMoment). line_of (with_request one.at (request_of t) t.now)) moments
@@ -57,6 +58,8 @@ turn_alike m past other t u ts us moments lines handlings keeps sides streams ha
       record {
         request = requests;
         handling = handlings;
+        number = λ what. ap (λ own. number_news what own (own_number (told (t ∷ ts)))) owns
+            ∙ ap (λ (l : Line). number_news what (own_number (told us)) l.own) all;
         kept = keeps;
         silent = silent;
         came = comes;
@@ -82,7 +85,7 @@ step m past other t u ts us same g h =
     let lines : line_of t.now ≡ line_of u.now = same_tells (cable_moment m) (stream (cabled other)) (told ts) (told us) t.now u.now same.lines (subst T same.streams g.2) h.2 in
     let handlings : handling_of t ≡ handling_of u = ap (λ (one : CableMoment). handling_at one.at t.now) moments ∙ same_handlings u.moment.at t.now u.now lines in
     turn_alike m past other t u ts us moments lines handlings (same_kept t u ts us moments handlings (ap (λ (l : Line). l.own) lines) same.sides)
-    (same_sides t u ts us moments handlings same.sides) (stream_more m (stream (cabled past)) (stream (cabled other)) same.streams) same.has
+    (same_sides t u ts us moments handlings same.sides) (stream_more m (stream (cabled past)) (stream (cabled other)) same.streams) same.has (ap (λ (l : Line). l.own) same.lines)
     (λ b. ap (λ (l : Line). silence m.what l.silent b) same.lines)
 
 -- ---- where a call begins
@@ -127,7 +130,7 @@ begun_alike m past other t u ts us is own has g h =
     λ b. silence_begun m.what (is_silent (told ts)) (is_silent (told us)) b (ap begins is) in
     turn_alike m past other t u ts us (g.1 ∙ sym h.1) lines (keeps ∙ sym keep)
     (kept_begun m t ts is g.1 keeps ∙ sym (kept_begun m u us is h.1 keep)) (side_kept t ts keeps ∙ sym (side_kept u us keep))
-    (stream_begun m past is ∙ sym (stream_begun m other is)) has silences
+    (stream_begun m past is ∙ sym (stream_begun m other is)) has own silences
 
 none_told : (m : Moment) (call past : List Moment) → Told (cabled (call ++ m ∷ past)) [] → ⊥
 none_told m [] past h = h

@@ -9,9 +9,11 @@ use Rattle.board_cable.specs.Turns.{Told, Turn, handling_of, request_of, told}
 use Rattle.board_events.specs.Settings.{Setting}
 use Rattle.board_standing.specs.declared.heard.Heard.{Heard}
 use Rattle.board_standing.specs.declared.state.State.{State}
+use Rattle.board_live.specs.declared.happened.What.{What}
 use Rattle.board_live.specs.declared.happened.What.TheVariants.{Cable, Keeps, Tells}
 use Rattle.board_live.specs.Coming.{came, silence}
 use Rattle.board_live.specs.Moments.{Moment, already, cabled, news_of}
+use Rattle.board_live.specs.Numbers.{number_news}
 use Rattle.board_live.specs.Saying.{IsSaid}
 
 -- Whatever happens later, the turns up to now are the same: so is all that was answered, since that follows from them.
@@ -50,6 +52,8 @@ with_number at (Some number) before = record { at = at; what = Cable (Owns numbe
 pub record AnsweredAlike (past : List Moment) (turn : Turn) (turns : List Turn) (other : List Moment) (second : Turn) (others : List Turn) : Type 0 where
   pub request : request_of turn ≡ request_of second
   pub handling : handling_of turn ≡ handling_of second
+  pub number : (what : What) → number_news what (own_number (told turns)) (own_number (told (turn ∷ turns)))
+      ≡ number_news what (own_number (told others)) (own_number (told (second ∷ others)))
   pub kept : kept (turn ∷ turns) ≡ kept (second ∷ others)
   pub silent : is_silent (told (turn ∷ turns)) ≡ is_silent (told (second ∷ others))
   pub came : came past (turn ∷ turns) ≡ came other (second ∷ others)

@@ -4,4 +4,5 @@ pub mod Due
 pub mod Laws
 pub mod Live
 pub mod Moments
+pub mod Numbers
 pub mod Saying

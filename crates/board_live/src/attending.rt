@@ -7,7 +7,7 @@ ghost use Rattle.board_cable.specs.Turns.{Told, Turn};
 ghost use Rattle.board_live.specs.Attending.{Attends, Tells};
 ghost use Rattle.board_live.specs.Moments.{Moment, cabled, moment_of};
 
-use crate::happened::{Happened, cabled, sent, silence};
+use crate::happened::{Happened, cabled, number_news, sent, silence};
 use board_asking::{Handling, Request};
 use board_cable::Cable;
 use board_standing::Heard;
@@ -18,6 +18,8 @@ use std::alloc::{AllocError, Global};
 pub struct Comes {
     pub handling: Handling,
     pub request: Option<Request>,
+    /// The number of the game's board, if it is news.
+    pub number: Option<[u8; 5]>,
     /// What the board's silence tells.
     pub silence: Option<Heard>,
 }
@@ -74,15 +76,19 @@ impl Attending {
             → Told (cabled (moment_of happened bytes.now ∷ past)) (turn ∷ turns) → IfOk result (Tells happened.what turn turns) }
     {
         let before = self.cable.is_silent();
+        let own = self.cable.serial();
         let happening = cabled(happened);
         let answer = self.cable.take(happening, bytes)?;
         let from_board = sent(happened, bytes);
         keep(&mut self.kept, &self.cable, answer.handling, from_board)?;
         let after = self.cable.is_silent();
         let silence = silence(happened.what, before, after);
+        let serial = self.cable.serial();
+        let number = number_news(happened.what, &own, &serial);
         Ok(Comes {
             handling: answer.handling,
             request: answer.request,
+            number,
             silence,
         })
     }

@@ -1,8 +1,10 @@
 //! What happens at a board that is recorded.
 ghost use Rattle.std.specs.Prelude.{◌≡◌};
+ghost use Rattle.std.specs.Str.{bytes_eq};
 ghost use Rattle.board_cable.specs.Moments.{sent};
 ghost use Rattle.board_live.specs.Coming.{silence};
 ghost use Rattle.board_live.specs.Moments.{already, at_cable, begins, cable_moment, moment_of, news_of};
+ghost use Rattle.board_live.specs.Numbers.{is_number, is_told, number_news};
 ghost use Rattle.board_live.specs.Saying.{live_by};
 
 use board_cable::{Happened as Cabled, What as AtCable};
@@ -110,5 +112,43 @@ pub fn silence(what: What, before: bool, now: bool) -> Option<Heard>
         Some(Heard::Answers)
     } else {
         None
+    }
+}
+
+/// Whether the host itself tells the number of the game's board.
+fn is_told(what: What) -> bool
+    ensures { result ≡ is_told what }
+{
+    matches!(what, What::Cable(AtCable::Owns(_)))
+}
+
+fn are_same(number: &[u8], other: &[u8]) -> bool
+    ensures { result ≡ bytes_eq number.now other.now }
+{
+    *number == *other
+}
+
+/// Whether this is the number, if there is one.
+fn is_number(number: &[u8; 5], other: &Option<[u8; 5]>) -> bool
+    ensures { result ≡ is_number number.now other.now }
+{
+    match other {
+        None => false,
+        Some(other) => are_same(number, other),
+    }
+}
+
+/// The number of the game's board, by what it was before and is now, if it is news.
+pub fn number_news(what: What, before: &Option<[u8; 5]>, now: &Option<[u8; 5]>) -> Option<[u8; 5]>
+    ensures { result ≡ number_news what before.now now.now }
+{
+    let Some(number) = now else {
+        return None;
+    };
+    let is_old = is_number(number, before);
+    if is_told(what) || is_old {
+        None
+    } else {
+        Some(*number)
     }
 }

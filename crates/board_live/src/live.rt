@@ -7,7 +7,7 @@ ghost use Rattle.board_cable.specs.Keeping.{aside, kept};
 ghost use Rattle.board_cable.specs.Turns.{Told, Turn, told};
 ghost use Rattle.board_captures.specs.Reading.{setting_of};
 ghost use Rattle.board_events.specs.Settings.{Setting};
-ghost use Rattle.board_game.specs.Games.{IsStateOf};
+ghost use Rattle.board_game.specs.Games.{IsStateOf, StandsFor as GameStands};
 ghost use Rattle.board_game.specs.Report.{IsReport, first_line};
 ghost use Rattle.board_live.specs.Coming.{came};
 ghost use Rattle.square_runs.specs.Lasting.{earlier};
@@ -39,6 +39,8 @@ pub struct Live {
 pub struct Answer {
     /// What is done with what the board has sent. If it is kept, `Live::kept` has what the capture gets now.
     pub handling: Handling,
+    /// The serial number of the game's board, if it is news, and the host has not told it.
+    pub number: Option<[u8; 5]>,
     /// What the board is sent now. It counts as sent.
     pub request: Option<Request>,
     /// How the board stands, if that is to be said: first when a call begins, and then whenever it is news.
@@ -115,6 +117,7 @@ impl Live {
         let state = self.saying.say(happened.what, now);
         Ok(Answer {
             handling: comes.handling,
+            number: comes.number,
             request: comes.request,
             state,
             is_whole,
@@ -179,7 +182,9 @@ impl Live {
 
     /// The board's game.
     pub fn game(&self) -> &Game
-        ensures { result.now ≡ self.now.game }
+        ensures same { result.now ≡ self.now.game }
+        ensures stands { (setting : Setting) (recovers : Bool) (past : List Moment) (text : List ℕ) (turns : List Turn)
+            → StandsFor self.now setting recovers past text → Told (cabled past) turns → GameStands result.now setting recovers (came past turns) text }
     {
         &self.game
     }

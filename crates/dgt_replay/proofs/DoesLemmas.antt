@@ -34,7 +34,7 @@ use Rattle.text_subcommands.specs.Streams.{Streams}
 use Rattle.dgt_replay.proofs.EndLemmas.{ends_for_memory, none_read, not_both}
 use Rattle.text_subcommands.proofs.MessageLemmas.{tells_alike, tells_memory}
 use Rattle.dgt_replay.proofs.RefusalLemmas.{refuses_alike}
-use Rattle.dgt_replay.proofs.SetupLemmas.{meets_nothing, meets_board}
+use Rattle.dgt_replay.proofs.SetupLemmas.{meets, meets_nothing, meets_board}
 use Rattle.dgt_replay.proofs.SubcommandLemmas.{add_chosen, back_chosen, chooses_check, chooses_follow, chooses_pictures, chooses_record, chooses_recover, chooses_show, chooses_times, chooses_watch, follow_chosen, live_chosen, moves_chosen, positions_chosen, record_chosen, recover_chosen, watch_chosen}
 
 -- Memory ran out before anything was read, or written to the output.
@@ -94,8 +94,8 @@ recovers_memory setting status s lacks =
       read = λ e. not_both s.reader_failed e lacks.reading;
     }
 
-pub attends_memory : (setting : Setting) (recovers : Bool) (status : ℕ) (s : Streams) → LacksMemory status s → AttendsBoard setting recovers status s
-attends_memory setting recovers status s lacks =
+pub attends_memory : (setup : Setup) (recovers : Bool) (status : ℕ) (s : Streams) → LacksMemory status s → AttendsBoard setup recovers status s
+attends_memory setup recovers status s lacks =
     let four : status ≡ 4 = lacks.four in
     record {
       done = λ e. absurd (omega arith);
@@ -291,19 +291,24 @@ does_refuse_back arguments subcommand status s asked does rows asks none =
     refuses_start (given found.0.board.fen) rows status s found.2.board.fen (does_as subcommand _ status s found.1 does).1 none
 
 pub does_attend : (arguments : List Text) (subcommand : Subcommand) (status : ℕ) (s : Streams) → AsksFor arguments subcommand → Does subcommand status s
-    → (setting : Setting) (recovers : Bool) → AsksToAttend arguments setting recovers → AttendsBoard setting recovers status s
-does_attend arguments subcommand status s asked does setting recovers (rows, asks, sets, flag) =
+    → (setup : Setup) (recovers : Bool) → AsksToAttend arguments setup recovers → AttendsBoard setup recovers status s
+does_attend arguments subcommand status s asked does setup recovers (rows, asks, sets, flag) =
     let found = live_chosen arguments rows subcommand asks asked in
     let options = found.0 in
     let wants = found.2 in
-    let R : Bool → Type 0 = λ b. AttendsBoard setting b status s in
-    subst R (wants.recovers recovers flag) ((does_as subcommand _ status s found.1 does).0 setting (meets_board rows options.board setting wants.board sets))
+    let R : Bool → Type 0 = λ b. AttendsBoard setup b status s in
+    subst R (wants.recovers recovers flag) ((does_as subcommand _ status s found.1 does).0 setup (meets rows options.game setup wants.game sets))
 
 pub does_refuse_live : (arguments : List Text) (subcommand : Subcommand) (status : ℕ) (s : Streams) → AsksFor arguments subcommand → Does subcommand status s
-    → (rows : List Row) → Asks arguments (codes "live") rows → HasNoStart (first_of (codes "fen") rows) → Refuses (RefusesStart (first_of (codes "fen") rows)) status s
-does_refuse_live arguments subcommand status s asked does rows asks none =
+    → (rows : List Row) → Asks arguments (codes "live") rows → SetsUpNothing rows → Refuses (RefusesSetup (first_of (codes "fen") rows) (λ tag. first_of (option_of tag) rows)) status s
+does_refuse_live arguments subcommand status s asked does rows asks nothing =
     let found = live_chosen arguments rows subcommand asks asked in
-    refuses_start (given found.0.board.fen) rows status s found.2.board.fen (does_as subcommand _ status s found.1 does).1 none
+    let options = found.0.game in
+    let wants = found.2.game in
+    let text : Tag → Option Text = λ tag. first_of (option_of tag) rows in
+    refuses_too (RefusesSetup (given options.board.fen) (tag_text options)) (RefusesSetup (first_of (codes "fen") rows) text) status s
+    (λ message refuses. refuses_alike (given options.board.fen) (first_of (codes "fen") rows) (tag_text options) text wants.board.fen wants.tags message refuses)
+    ((does_as subcommand _ status s found.1 does).1 (meets_nothing rows options wants nothing))
 
 pub does_moves : (arguments : List Text) (subcommand : Subcommand) (status : ℕ) (s : Streams) → AsksFor arguments subcommand → Does subcommand status s
     → (rows : List Row) → Asks arguments (codes "moves") rows → Prints (first_of (codes "fen") rows) status s

@@ -64,15 +64,15 @@ pub record RecoversPairs (setting : Setting) (status : ℕ) (s : Streams) : Type
   pub read : s.reader_failed ≡ true → (status ≡ 3) × ((told : Option (List ℕ)) × RecoversRead setting s.input s.input' s.written s.written' s.said told)
 
 -- A board was attended: what a host tells of it was answered, and what ended that is said.
-pub record AttendsBoard (setting : Setting) (recovers : Bool) (status : ℕ) (s : Streams) : Type 0 where
+pub record AttendsBoard (setup : Setup) (recovers : Bool) (status : ℕ) (s : Streams) : Type 0 where
   -- all of it was answered
-  pub done : status ≡ 0 → AttendsAll setting recovers s.input s.written s.written' × Keeps s.said s.said'
+  pub done : status ≡ 0 → AttendsAll setup recovers s.input s.written s.written' × Keeps s.said s.said'
   -- what follows the entries that were answered is no entry; or there was more to read than can be counted
-  pub refused : status ≡ 1 → (AttendsFirst setting recovers s.input s.written s.written' × Says s.said s.said' s.err_failed (codes "input: no entry\n"))
-      ⊎ (AttendsSome setting recovers s.input s.input' s.written s.written' × Says s.said s.said' s.err_failed (codes "input: too long\n"))
+  pub refused : status ≡ 1 → (AttendsFirst setup recovers s.input s.written s.written' × Says s.said s.said' s.err_failed (codes "input: no entry\n"))
+      ⊎ (AttendsSome setup recovers s.input s.input' s.written s.written' × Says s.said s.said' s.err_failed (codes "input: too long\n"))
   -- the reader alone has failed, and all entries before were answered; or the output alone, and a first part of the answers stands
-  pub fault : status ≡ 3 → ((s.reader_failed ≡ true) × (s.out_failed ≡ false) × AttendsRead setting recovers s.input s.input' s.written s.written' × Says s.said s.said' s.err_failed (codes "read fault\n"))
-      ⊎ ((s.reader_failed ≡ false) × (s.out_failed ≡ true) × AttendsFront setting recovers s.input s.input' s.written s.written' × Says s.said s.said' s.err_failed (codes "write fault\n"))
+  pub fault : status ≡ 3 → ((s.reader_failed ≡ true) × (s.out_failed ≡ false) × AttendsRead setup recovers s.input s.input' s.written s.written' × Says s.said s.said' s.err_failed (codes "read fault\n"))
+      ⊎ ((s.reader_failed ≡ false) × (s.out_failed ≡ true) × AttendsFront setup recovers s.input s.input' s.written s.written' × Says s.said s.said' s.err_failed (codes "write fault\n"))
   -- memory ran out at an entry, and those before were answered; or before anything was read, or written to the output
-  pub memory : status ≡ 4 → (AttendsSome setting recovers s.input s.input' s.written s.written' ⊎ Untouched s) × Says s.said s.said' s.err_failed (codes "memory\n")
+  pub memory : status ≡ 4 → (AttendsSome setup recovers s.input s.input' s.written s.written' ⊎ Untouched s) × Says s.said s.said' s.err_failed (codes "memory\n")
   pub known : Contains (0 ∷ 1 ∷ 3 ∷ 4 ∷ []) status

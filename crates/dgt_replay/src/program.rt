@@ -289,12 +289,12 @@ pub fn run<R: Read, O: Write, E: Write>(
         → Refuses (RefusesStart (first_of (codes "fen") rows)) result
         (streams R.remaining O.contents E.contents reader.old reader.new out.old out.new err.old err.new) }
 
-    // `live` with any options: the answers to what a host tells of a board that it records, from the start that they say.
-    // Where no position has the FEN, the reason is said.
-    ensures live { (setting : Setting) (recovers : Bool) → AsksToAttend (map string_bytes arguments.now) setting recovers → AttendsBoard setting recovers result
+    // `live` with any options: the answers to what a host tells of a board that it records, from the start and with the tags
+    // that they say. Where no position has the FEN, or a tag may not have its text, the first reason is said.
+    ensures live { (setup : Setup) (recovers : Bool) → AsksToAttend (map string_bytes arguments.now) setup recovers → AttendsBoard setup recovers result
         (streams R.remaining O.contents E.contents reader.old reader.new out.old out.new err.old err.new) }
-    ensures live_refuses { (rows : List Row) → Asks (map string_bytes arguments.now) (codes "live") rows → HasNoStart (first_of (codes "fen") rows)
-        → Refuses (RefusesStart (first_of (codes "fen") rows)) result
+    ensures live_refuses { (rows : List Row) → Asks (map string_bytes arguments.now) (codes "live") rows → SetsUpNothing rows
+        → Refuses (RefusesSetup (first_of (codes "fen") rows) (λ tag. first_of (option_of tag) rows)) result
         (streams R.remaining O.contents E.contents reader.old reader.new out.old out.new err.old err.new) }
 
     // `check`: the input is the export text of a game.

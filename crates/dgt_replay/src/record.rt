@@ -24,8 +24,8 @@ use std::io::{Read, Write};
 use text_subcommands::{refused, refused_fen, refused_tag};
 use watched_streams::{GATHERED, LONGEST, Lines, Watch, add, add_number, put};
 
-/// Says why a recording can't be set up, and returns the status.
-fn refused_setup<E: Write>(err: &mut Watch<E>, refusal: Refusal) -> u8
+/// Says why a game can't be set up, and returns the status.
+pub fn refused_setup<E: Write>(err: &mut Watch<E>, refusal: Refusal) -> u8
     ensures memory { ForMemory refusal → result ≡ 4 }
     ensures refused { ¬ ForMemory refusal → result ≡ 1 }
     ensures says { Says (E.contents (inner_of err.old)) (E.contents (inner_of err.new)) (has_failed err.new) (refusal_message refusal) }

@@ -11,13 +11,13 @@ use Rattle.board_asking.specs.declared.whose.Handling.{Handling}
 use Rattle.board_asking.specs.declared.whose.Handling.TheVariants.{Keep, Hold, Other}
 use Rattle.board_standing.specs.declared.state.State.{State}
 use Rattle.answer_lines.specs.declared.said.Said.{Said}
-use Rattle.answer_lines.specs.Answers.{answer_text as said_text, handling_line, request_line, room_line, state_line}
+use Rattle.answer_lines.specs.Answers.{answer_text as said_text, handling_line, number_line, request_line, room_line, state_line}
 use Rattle.answer_lines.specs.Laws.{IsSaid, lacks}
-use Rattle.answer_lines.proofs.AnswerLemmas.{from_done, from_request, from_room, from_state, in_parts, said_once}
+use Rattle.answer_lines.proofs.AnswerLemmas.{from_done, from_number, from_request, from_room, from_state, in_parts, said_once}
 use Rattle.answer_lines.proofs.CutLemmas.{cut_once, decimal_lacks_feed, lacks_append}
 use Rattle.answer_lines.proofs.WordLemmas.{behind, first_of}
 use Rattle.watched_streams.specs.Lines.{line}
-use Rattle.live_lines.specs.Answers.{kept_text, whole_text}
+use Rattle.live_lines.specs.Answers.{game_text, kept_text, whole_text}
 use Rattle.live_lines.specs.Laws.{HasLines, IsPrinted, ReportLine, report_text}
 use Rattle.live_lines.proofs.EntryLemmas.{same_front}
 
@@ -117,6 +117,10 @@ third_of text = first_of (behind (behind text))
 abbrev Opens : List ℕ → Type 0
 Opens text = (97 ≤ first_of text) × (third_of text < 112)
 
+-- It doesn't begin as `game` does.
+abbrev Says : List ℕ → Type 0
+Says text = (first_of text < 103) ⊎ (103 < first_of text)
+
 opens_state : (state : Option State) (text : List ℕ) → Opens text → Opens (state_line state ++ text)
 opens_state None text h = h
 opens_state (Some state) text h = (omega arith, omega arith)
@@ -128,6 +132,10 @@ opens_room false text h = (omega arith, omega arith)
 opens_request : (request : Option Request) (text : List ℕ) → Opens text → Opens (request_line request ++ text)
 opens_request None text h = h
 opens_request (Some request) text h = (omega arith, omega arith)
+
+opens_number : (number : Option (List ℕ)) (text : List ℕ) → Opens text → Opens (number_line number ++ text)
+opens_number None text h = h
+opens_number (Some number) text h = (omega arith, omega arith)
 
 opens_handling : (handling : Option Handling) (text : List ℕ) → Opens text → Opens (handling_line handling ++ text)
 opens_handling None text h = h
@@ -142,9 +150,45 @@ opens : (said : Said) (more : List ℕ) → Opens (said_text said ++ more)
 opens said more =
     let O : List ℕ → Type 0 = λ t. Opens t in
     subst O (sym (in_parts said more))
-    (opens_handling said.handling (from_request said more)
+    (opens_handling said.handling (from_number said more)
+    (opens_number said.number (from_request said more)
     (opens_request said.request (from_room said more)
-    (opens_room said.is_whole (from_state said more) (opens_state said.state (from_done said more) (opens_done said more)))))
+    (opens_room said.is_whole (from_state said more) (opens_state said.state (from_done said more) (opens_done said more))))))
+
+says_state : (state : Option State) (text : List ℕ) → Says text → Says (state_line state ++ text)
+says_state None text h = h
+says_state (Some state) text h = inr (omega arith)
+
+says_room : (is_whole : Bool) (text : List ℕ) → Says text → Says (room_line is_whole ++ text)
+says_room true text h = h
+says_room false text h = inl (omega arith)
+
+says_request : (request : Option Request) (text : List ℕ) → Says text → Says (request_line request ++ text)
+says_request None text h = h
+says_request (Some request) text h = inl (omega arith)
+
+says_number : (number : Option (List ℕ)) (text : List ℕ) → Says text → Says (number_line number ++ text)
+says_number None text h = h
+says_number (Some number) text h = inr (omega arith)
+
+says_handling : (handling : Option Handling) (text : List ℕ) → Says text → Says (handling_line handling ++ text)
+says_handling None text h = h
+says_handling (Some Keep) text h = inr (omega arith)
+says_handling (Some Hold) text h = inr (omega arith)
+says_handling (Some (Other number)) text h = inr (omega arith)
+
+says : (said : Said) (more : List ℕ) → Says (said_text said ++ more)
+says said more =
+    let S : List ℕ → Type 0 = λ t. Says t in
+    subst S (sym (in_parts said more))
+    (says_handling said.handling (from_number said more)
+    (says_number said.number (from_request said more)
+    (says_request said.request (from_room said more)
+    (says_room said.is_whole (from_state said more) (says_state said.state (from_done said more) (inl (omega arith)))))))
+
+opens_game : (game text : List ℕ) → Opens text → Opens (game_text game ++ text)
+opens_game [] text h = h
+opens_game (byte ∷ game) text h = (omega arith, omega arith)
 
 -- ---- the lines of a report end where something begins with a small letter
 
@@ -164,11 +208,9 @@ report_once (l ∷ a) (m ∷ b) x y p q e =
 
 -- ---- the bytes that the capture gets
 
-abbrev kept_words : ℕ → List ℕ
-kept_words n = codes "kept " ++ decimal n
-
-kept_lacks_feed : (n : ℕ) → n < 2 ^ 64 → lacks 10 (kept_words n) ≡ true
-kept_lacks_feed n fits = lacks_append 10 (codes "kept ") (decimal n) refl (decimal_lacks_feed n fits)
+-- a word with its blank, and a number
+abbrev counted : List ℕ → ℕ → List ℕ
+counted word n = word ++ decimal n
 
 -- It doesn't begin with `kept`.
 abbrev IsOther : List ℕ → Type 0
@@ -178,15 +220,16 @@ is_kept : (text kept : List ℕ) → IsOther text → first_of kept ≡ 107 → 
 is_kept text kept (inl low) f t e = let same = ap first_of e in omega (arith, low, f, same)
 is_kept text kept (inr low) f t e = let same = ap third_of e in omega (arith, low, t, same)
 
-behind_line : (n : ℕ) (bytes rest : List ℕ) → ((kept_words n ++ 10 ∷ []) ++ bytes) ++ rest ≡ kept_words n ++ 10 ∷ (bytes ++ rest)
-behind_line n bytes rest = append_assoc (kept_words n ++ 10 ∷ []) bytes rest ∙ append_assoc (kept_words n) (10 ∷ []) (bytes ++ rest)
+behind_line : (word : List ℕ) (n : ℕ) (bytes rest : List ℕ) → ((counted word n ++ 10 ∷ []) ++ bytes) ++ rest ≡ counted word n ++ 10 ∷ (bytes ++ rest)
+behind_line word n bytes rest = append_assoc (counted word n ++ 10 ∷ []) bytes rest ∙ append_assoc (counted word n) (10 ∷ []) (bytes ++ rest)
 
-some_once : (a b x y : List ℕ) → length a < 2 ^ 64 → length b < 2 ^ 64
-    → ((kept_words (length a) ++ 10 ∷ []) ++ a) ++ x ≡ ((kept_words (length b) ++ 10 ∷ []) ++ b) ++ y → (a ≡ b) × (x ≡ y)
-some_once a b x y f g e =
-    let cut = cut_once 10 (kept_words (length a)) (a ++ x) (kept_words (length b)) (b ++ y) (kept_lacks_feed (length a) f) (kept_lacks_feed (length b) g)
-    (sym (behind_line (length a) a x) ∙ e ∙ behind_line (length b) b y) in
-    let same = decimal_injective (length a) (length b) f g (append_cancel_left (codes "kept ") (decimal (length a)) (decimal (length b)) cut.0) in
+some_once : (word a b x y : List ℕ) → lacks 10 word ≡ true → length a < 2 ^ 64 → length b < 2 ^ 64
+    → ((counted word (length a) ++ 10 ∷ []) ++ a) ++ x ≡ ((counted word (length b) ++ 10 ∷ []) ++ b) ++ y → (a ≡ b) × (x ≡ y)
+some_once word a b x y w f g e =
+    let cut = cut_once 10 (counted word (length a)) (a ++ x) (counted word (length b)) (b ++ y)
+    (lacks_append 10 word (decimal (length a)) w (decimal_lacks_feed (length a) f)) (lacks_append 10 word (decimal (length b)) w (decimal_lacks_feed (length b) g))
+    (sym (behind_line word (length a) a x) ∙ e ∙ behind_line word (length b) b y) in
+    let same = decimal_injective (length a) (length b) f g (append_cancel_left word (decimal (length a)) (decimal (length b)) cut.0) in
     same_front a x b y same cut.1
 
 kept_once : (a b x y : List ℕ) → length a < 2 ^ 64 → length b < 2 ^ 64 → IsOther x → IsOther y → kept_text a ++ x ≡ kept_text b ++ y
@@ -194,34 +237,55 @@ kept_once : (a b x y : List ℕ) → length a < 2 ^ 64 → length b < 2 ^ 64 →
 kept_once [] [] x y f g p q e = (refl, e)
 kept_once [] (c ∷ b) x y f g p q e = absurd (is_kept x (kept_text (c ∷ b) ++ y) p refl refl e)
 kept_once (c ∷ a) [] x y f g p q e = absurd (is_kept y (kept_text (c ∷ a) ++ x) q refl refl (sym e))
-kept_once (c ∷ a) (d ∷ b) x y f g p q e = some_once (c ∷ a) (d ∷ b) x y f g e
+kept_once (c ∷ a) (d ∷ b) x y f g p q e = some_once (codes "kept ") (c ∷ a) (d ∷ b) x y refl f g e
 
 other : (lines : List ReportLine) (text : List ℕ) → Opens text → IsOther (report_text lines ++ text)
 other [] text h = inr h.1
 other (told ∷ lines) text h = inl (line_low told (report_text lines) text)
 
+-- ---- the text of the game
+
+is_game : (text game : List ℕ) → Says text → first_of game ≡ 103 → text ≡ game → ⊥
+is_game text game (inl low) f e = let same = ap first_of e in omega (arith, low, f, same)
+is_game text game (inr high) f e = let same = ap first_of e in omega (arith, high, f, same)
+
+game_once : (a b x y : List ℕ) → length a < 2 ^ 64 → length b < 2 ^ 64 → Says x → Says y → game_text a ++ x ≡ game_text b ++ y
+    → (a ≡ b) × (x ≡ y)
+game_once [] [] x y f g p q e = (refl, e)
+game_once [] (c ∷ b) x y f g p q e = absurd (is_game x (game_text (c ∷ b) ++ y) p refl e)
+game_once (c ∷ a) [] x y f g p q e = absurd (is_game y (game_text (c ∷ a) ++ x) q refl (sym e))
+game_once (c ∷ a) (d ∷ b) x y f g p q e = some_once (codes "game ") (c ∷ a) (d ∷ b) x y refl f g e
+
 -- ---- all of it
 
-parts : (kept lines : List ℕ) (said : Said) (more : List ℕ) → whole_text kept lines said ++ more ≡ kept_text kept ++ (lines ++ (said_text said ++ more))
-parts kept lines said more =
-    append_assoc (kept_text kept ++ lines) (said_text said) more ∙ append_assoc (kept_text kept) lines (said_text said ++ more)
+parts : (kept lines game : List ℕ) (said : Said) (more : List ℕ) → whole_text kept lines game said ++ more
+    ≡ kept_text kept ++ (lines ++ (game_text game ++ (said_text said ++ more)))
+parts kept lines game said more =
+    append_assoc (kept_text kept ++ lines ++ game_text game) (said_text said) more
+    ∙ append_assoc (kept_text kept ++ lines) (game_text game) (said_text said ++ more)
+    ∙ append_assoc (kept_text kept) lines (game_text game ++ (said_text said ++ more))
 
-by_lines : (kept others : List ℕ) (a b : List ReportLine) (more rest : List ℕ) (one two : Said) → length kept < 2 ^ 64 → length others < 2 ^ 64
-    → IsSaid one → IsSaid two → whole_text kept (report_text a) one ++ more ≡ whole_text others (report_text b) two ++ rest
-    → (kept ≡ others) × (report_text a ≡ report_text b) × (one ≡ two) × (more ≡ rest)
-by_lines kept others a b more rest one two f g s t e =
-    let x : List ℕ = said_text one ++ more in
-    let y : List ℕ = said_text two ++ rest in
-    let first = kept_once kept others (report_text a ++ x) (report_text b ++ y) f g (other a x (opens one more)) (other b y (opens two rest))
-    (sym (parts kept (report_text a) one more) ∙ e ∙ parts others (report_text b) two rest) in
-    let second = report_once a b x y (opens one more).0 (opens two rest).0 first.1 in
-    let third = said_once one two more rest s t second.1 in
-    (first.0, second.0, third.0, third.1)
+by_lines : (kept others : List ℕ) (a b : List ReportLine) (game text more rest : List ℕ) (one two : Said) → length kept < 2 ^ 64 → length others < 2 ^ 64
+    → length game < 2 ^ 64 → length text < 2 ^ 64 → IsSaid one → IsSaid two
+    → whole_text kept (report_text a) game one ++ more ≡ whole_text others (report_text b) text two ++ rest
+    → (kept ≡ others) × (report_text a ≡ report_text b) × (game ≡ text) × (one ≡ two) × (more ≡ rest)
+by_lines kept others a b game text more rest one two f g u v s t e =
+    let x : List ℕ = game_text game ++ (said_text one ++ more) in
+    let y : List ℕ = game_text text ++ (said_text two ++ rest) in
+    let p : Opens x = opens_game game (said_text one ++ more) (opens one more) in
+    let q : Opens y = opens_game text (said_text two ++ rest) (opens two rest) in
+    let first = kept_once kept others (report_text a ++ x) (report_text b ++ y) f g (other a x p) (other b y q)
+    (sym (parts kept (report_text a) game one more) ∙ e ∙ parts others (report_text b) text two rest) in
+    let second = report_once a b x y p.0 q.0 first.1 in
+    let third = game_once game text (said_text one ++ more) (said_text two ++ rest) u v (says one more) (says two rest) second.1 in
+    let last = said_once one two more rest s t third.1 in
+    (first.0, second.0, third.0, last.0, last.1)
 
-pub answered_once : (kept others lines news more rest : List ℕ) (one two : Said) → length kept < 2 ^ 64 → length others < 2 ^ 64
-    → HasLines lines → HasLines news → IsSaid one → IsSaid two → whole_text kept lines one ++ more ≡ whole_text others news two ++ rest
-    → (kept ≡ others) × (lines ≡ news) × (one ≡ two) × (more ≡ rest)
-answered_once kept others lines news more rest one two f g h k s t e =
-    let once = by_lines kept others h.0 k.0 more rest one two f g s t
-    (ap (λ l. whole_text kept l one ++ more) (sym h.1) ∙ e ∙ ap (λ l. whole_text others l two ++ rest) k.1) in
-    (once.0, h.1 ∙ once.1 ∙ sym k.1, once.2, once.3)
+pub answered_once : (kept others lines news game text more rest : List ℕ) (one two : Said) → length kept < 2 ^ 64 → length others < 2 ^ 64
+    → length game < 2 ^ 64 → length text < 2 ^ 64 → HasLines lines → HasLines news → IsSaid one → IsSaid two
+    → whole_text kept lines game one ++ more ≡ whole_text others news text two ++ rest
+    → (kept ≡ others) × (lines ≡ news) × (game ≡ text) × (one ≡ two) × (more ≡ rest)
+answered_once kept others lines news game text more rest one two f g u v h k s t e =
+    let once = by_lines kept others h.0 k.0 game text more rest one two f g u v s t
+    (ap (λ l. whole_text kept l game one ++ more) (sym h.1) ∙ e ∙ ap (λ l. whole_text others l text two ++ rest) k.1) in
+    (once.0, h.1 ∙ once.1 ∙ sym k.1, once.2, once.3, once.4)

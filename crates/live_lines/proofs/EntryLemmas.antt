@@ -3,7 +3,7 @@ use Rattle.std.proofs.Common.{◌≡◌, ℕ, Bool, true, false, List, ◌++◌,
 use Rattle.std.proofs.Math.Seq.{take-append_seam, drop-append_seam}
 use Rattle.std.proofs.lemmas.List.{append_assoc}
 use Rattle.board_times.specs.declared.words.Word.{Word}
-use Rattle.board_times.specs.declared.words.Word.TheVariants.{Version, Digest, Begin, Away, Opened, Answered, Gone, Called, Heard, Added, Stopped, Asked, Took, Over, Wake, Lent, Number, Kept, Capture}
+use Rattle.board_times.specs.declared.words.Word.TheVariants.{Version, Digest, Begin, Away, Opened, Answered, Gone, Called, Heard, Added, Stopped, Asked, Took, Over, Wake, Lent, Number, Kept, Capture, Text}
 use Rattle.board_times.specs.declared.lines.Tail.{Tail}
 use Rattle.board_times.specs.declared.lines.Line.{Line}
 use Rattle.board_times.specs.declared.events.What.{What as Happening}
@@ -15,7 +15,7 @@ use Rattle.board_times.specs.Inside.Reading.{event_of}
 use Rattle.board_times.proofs.EventLemmas.{event_back, event_is}
 use Rattle.board_times.proofs.TextLemmas.{line_once}
 use Rattle.live_lines.specs.declared.entries.What.{What}
-use Rattle.live_lines.specs.declared.entries.What.TheVariants.{Happens, Wakes, Lends, Owns, KeepsTimes, KeepsBytes}
+use Rattle.live_lines.specs.declared.entries.What.TheVariants.{Happens, Wakes, Lends, WantsText, Owns, KeepsTimes, KeepsBytes}
 use Rattle.live_lines.specs.declared.entries.Entry.{Entry}
 use Rattle.live_lines.specs.Entries.{IsWhole, entry_line, entry_text, size_of, tail_of}
 use Rattle.live_lines.specs.Inside.Reading.{entry_by, entry_of, own_what}
@@ -52,6 +52,7 @@ back_by at (Happens what) =
     ∙ ap (λ event. entry_by at None event) (event_back (event_with at what))
 back_by at Wakes = refl
 back_by at Lends = refl
+back_by at WantsText = refl
 back_by at (Owns n) = refl
 back_by at (KeepsTimes n) = refl
 back_by at (KeepsBytes n) = refl
@@ -103,6 +104,8 @@ own_tail Kept None = refl
 own_tail Kept (Some n) = refl
 own_tail Capture None = refl
 own_tail Capture (Some n) = refl
+own_tail Text None = refl
+own_tail Text (Some n) = refl
 
 own_is : (tail : Tail) (what : What) → own_what tail.word tail.number ≡ Some what → tail_of what ≡ tail
 unfolding tail_or

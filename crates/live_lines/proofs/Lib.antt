@@ -1,8 +1,10 @@
 mod AnswerLemmas
 mod ClockLemmas
 mod EntryLemmas
+mod NewsLemmas
 mod NextLemmas
 mod RecorderLemmas
 mod HistoryLemmas
 mod ReportLemmas
 mod StreamLemmas
+mod TextLemmas

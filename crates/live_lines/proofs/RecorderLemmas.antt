@@ -4,7 +4,10 @@ use Rattle.board_asking.specs.Pace.{AsksAlike}
 use Rattle.board_asking.specs.Whose.{HandledAlike}
 use Rattle.board_cable.specs.Keeping.{kept}
 use Rattle.board_cable.specs.Turns.{Told, Turn, told}
-use Rattle.board_events.specs.Settings.{Setting}
+use Rattle.board_events.specs.declared.setup.Setup.{Setup}
+use Rattle.board_events.specs.Settings.{Setting, setting_of}
+use Rattle.board_game.specs.History.{Came}
+use Rattle.chess_game.specs.Values.{TagValues}
 use Rattle.board_live.specs.declared.happened.What.{What as ToBoard}
 use Rattle.board_live.specs.declared.live.Answer.{Answer}
 use Rattle.board_live.specs.Coming.{came}
@@ -15,14 +18,15 @@ use Rattle.board_times.specs.declared.events.Event.{Event}
 use Rattle.board_times.specs.declared.reading.Found.{Found}
 use Rattle.board_times.specs.Times.{IsFound}
 use Rattle.live_lines.specs.declared.entries.What.{What}
-use Rattle.live_lines.specs.declared.entries.What.TheVariants.{Happens, Wakes, Lends, Owns, KeepsTimes, KeepsBytes}
+use Rattle.live_lines.specs.declared.entries.What.TheVariants.{Happens, Wakes, Lends, WantsText, Owns, KeepsTimes, KeepsBytes}
 use Rattle.live_lines.specs.Answers.{answer_text, capture_text}
 use Rattle.live_lines.specs.Clock.{clock_after, clock_of, clock_over, next_clock}
-use Rattle.live_lines.specs.Entries.{brings_capture}
+use Rattle.live_lines.specs.Entries.{brings_capture, wants_text}
 use Rattle.live_lines.specs.Heard.{AreEventsOf, HasEvents, Heard, IsHeard, events_for, waiting, waiting_by}
 use Rattle.live_lines.specs.History.{history_of}
 use Rattle.live_lines.specs.Meaning.{meaning_of, moment_by, moment_of, moments, moments_by, time_of}
 use Rattle.live_lines.specs.Recorder.{IsAnswered, IsAnsweredBy}
+use Rattle.live_lines.specs.Text.{GivesText}
 
 not_so : false ≡ true → ⊥
 not_so e = cc
@@ -34,31 +38,45 @@ same_moment heard at now what e f =
     ap (λ n. let m : Moment = record { at = n; what = what; bytes = heard.bytes } in m) e
     ∙ ap (λ w. let m : Moment = record { at = now; what = w; bytes = heard.bytes } in m) f
 
-pub answered : (setting : Setting) (recovers : Bool) (heard : Heard) (past : List Heard) (m : Moment) (at : ℕ) (answer : Answer) (due : Option ℕ)
-    (k ls more : List ℕ) → m ≡ moment_by (time_of heard past) heard → at ≡ time_of heard past → ls ≡ more
+-- the text of the game, if it is wanted
+pub given_text : (a b : Bool) (setting : Setting) (recovers : Bool) (t u : TagValues) (past : List Came) (x y : List ℕ) → a ≡ b → t ≡ u → y ≡ x
+    → GivesText a setting recovers t past x → GivesText b setting recovers u past y
+given_text a b setting recovers t u past x y e f h g =
+    let A : Bool → Type 0 = λ c. GivesText c setting recovers t past x in
+    let T : TagValues → Type 0 = λ v. GivesText b setting recovers v past x in
+    let X : List ℕ → Type 0 = λ z. GivesText b setting recovers u past z in
+    subst X (sym h) (subst T f (subst A e g))
+
+pub answered : (setup : Setup) (recovers : Bool) (heard : Heard) (past : List Heard) (m : Moment) (at : ℕ) (answer : Answer) (due : Option ℕ)
+    (k ls more g : List ℕ) → m ≡ moment_by (time_of heard past) heard → at ≡ time_of heard past → ls ≡ more
     → ((turns : List Turn) → Told (cabled (m ∷ moments past)) turns → k ≡ kept turns)
-    → ((turn : Turn) (turns : List Turn) → Told (cabled (m ∷ moments past)) (turn ∷ turns) → Answers setting recovers m (moments past) turn turns answer)
+    → ((turn : Turn) (turns : List Turn) → Told (cabled (m ∷ moments past)) (turn ∷ turns) → Answers (setting_of setup) recovers m (moments past) turn turns answer)
+    → ((turns : List Turn) → Told (cabled (m ∷ moments past)) turns → GivesText (wants_text heard.entry.what) (setting_of setup) recovers setup.tags (came (m ∷ moments past) turns) g)
     → ((turns : List Turn) → Told (cabled (m ∷ moments past)) turns → AsksAlike at (told turns) due)
     → ((turns : List Turn) → Told (cabled (m ∷ moments past)) turns → HandledAlike at (told turns) due)
-    → ((turns : List Turn) → Told (cabled (m ∷ moments past)) turns → StaysAlike setting recovers (came (m ∷ moments past) turns) at due)
-    → IsAnsweredBy false setting recovers heard past more (answer_text at answer k ls due)
-answered setting recovers heard past m at answer due k ls more em ea el keeps answers asks handles stays turn turns h =
+    → ((turns : List Turn) → Told (cabled (m ∷ moments past)) turns → StaysAlike (setting_of setup) recovers (came (m ∷ moments past) turns) at due)
+    → IsAnsweredBy false setup recovers heard past more (answer_text at answer k ls g due)
+answered setup recovers heard past m at answer due k ls more g em ea el keeps answers gives asks handles stays turn turns h =
     let now : ℕ = time_of heard past in
     let ps : List Moment = moments past in
     let K : Moment → Type 0 = λ x. Told (cabled (x ∷ ps)) (turn ∷ turns) → k ≡ kept (turn ∷ turns) in
-    let A : Moment → Type 0 = λ x. Told (cabled (x ∷ ps)) (turn ∷ turns) → Answers setting recovers x ps turn turns answer in
+    let A : Moment → Type 0 = λ x. Told (cabled (x ∷ ps)) (turn ∷ turns) → Answers (setting_of setup) recovers x ps turn turns answer in
+    let G : Moment → Type 0 = λ x. Told (cabled (x ∷ ps)) (turn ∷ turns)
+    → GivesText (wants_text heard.entry.what) (setting_of setup) recovers setup.tags (came (x ∷ ps) (turn ∷ turns)) g in
     let Q : Moment → Type 0 = λ x. Told (cabled (x ∷ ps)) (turn ∷ turns) → AsksAlike at (told (turn ∷ turns)) due in
     let H : Moment → Type 0 = λ x. Told (cabled (x ∷ ps)) (turn ∷ turns) → HandledAlike at (told (turn ∷ turns)) due in
-    let S : Moment → Type 0 = λ x. Told (cabled (x ∷ ps)) (turn ∷ turns) → StaysAlike setting recovers (came (x ∷ ps) (turn ∷ turns)) at due in
+    let S : Moment → Type 0 = λ x. Told (cabled (x ∷ ps)) (turn ∷ turns) → StaysAlike (setting_of setup) recovers (came (x ∷ ps) (turn ∷ turns)) at due in
     let Qn : ℕ → Type 0 = λ n. AsksAlike n (told (turn ∷ turns)) due in
     let Hn : ℕ → Type 0 = λ n. HandledAlike n (told (turn ∷ turns)) due in
-    let Sn : ℕ → Type 0 = λ n. StaysAlike setting recovers (came (moment_of heard past ∷ moments past) (turn ∷ turns)) n due in
+    let Sn : ℕ → Type 0 = λ n. StaysAlike (setting_of setup) recovers (came (moment_of heard past ∷ moments past) (turn ∷ turns)) n due in
     record {
       answer = answer;
+      game = g;
       due = due;
-      text = ap (λ n. answer_text n answer k ls due) ea ∙ ap (λ x. answer_text now answer x ls due) (subst K em (keeps (turn ∷ turns)) h)
-          ∙ ap (λ x. answer_text now answer (kept (turn ∷ turns)) x due) el;
+      text = ap (λ n. answer_text n answer k ls g due) ea ∙ ap (λ x. answer_text now answer x ls g due) (subst K em (keeps (turn ∷ turns)) h)
+          ∙ ap (λ x. answer_text now answer (kept (turn ∷ turns)) x g due) el;
       answers = subst A em (answers turn turns) h;
+      gives = subst G em (gives (turn ∷ turns)) h;
       asks = subst Qn ea (subst Q em (asks (turn ∷ turns)) h);
       handling = subst Hn ea (subst H em (handles (turn ∷ turns)) h);
       state = subst Sn ea (subst S em (stays (turn ∷ turns)) h);
@@ -71,10 +89,10 @@ is_heard heard past other none =
     let P : Bool → Type 0 = λ b. HasEvents b (waiting past) heard.bytes heard.events in
     subst P (sym other) none
 
-pub is_answered : (setting : Setting) (recovers : Bool) (heard : Heard) (past : List Heard) (more said : List ℕ) → brings_capture heard.entry.what ≡ false
-    → IsAnsweredBy false setting recovers heard past more said → IsAnswered setting recovers heard past more said
-is_answered setting recovers heard past more said other h =
-    let P : Bool → Type 0 = λ b. IsAnsweredBy b setting recovers heard past more said in
+pub is_answered : (setup : Setup) (recovers : Bool) (heard : Heard) (past : List Heard) (more said : List ℕ) → brings_capture heard.entry.what ≡ false
+    → IsAnsweredBy false setup recovers heard past more said → IsAnswered setup recovers heard past more said
+is_answered setup recovers heard past more said other h =
+    let P : Bool → Type 0 = λ b. IsAnsweredBy b setup recovers heard past more said in
     subst P (sym other) h
 
 pub clock_goes_on : (heard : Heard) (past : List Heard) → brings_capture heard.entry.what ≡ false
@@ -99,10 +117,10 @@ capture_heard heard past brings h =
     let P : Bool → Type 0 = λ b. HasEvents b (waiting past) heard.bytes heard.events in
     subst P (sym brings) h
 
-pub capture_answered : (setting : Setting) (recovers : Bool) (heard : Heard) (past : List Heard) (more said : List ℕ) → brings_capture heard.entry.what ≡ true
-    → said ≡ capture_text more → IsAnswered setting recovers heard past more said
-capture_answered setting recovers heard past more said brings h =
-    let P : Bool → Type 0 = λ b. IsAnsweredBy b setting recovers heard past more said in
+pub capture_answered : (setup : Setup) (recovers : Bool) (heard : Heard) (past : List Heard) (more said : List ℕ) → brings_capture heard.entry.what ≡ true
+    → said ≡ capture_text more → IsAnswered setup recovers heard past more said
+capture_answered setup recovers heard past more said brings h =
+    let P : Bool → Type 0 = λ b. IsAnsweredBy b setup recovers heard past more said in
     subst P (sym brings) h
 
 pub capture_clock : (heard : Heard) (past : List Heard) → brings_capture heard.entry.what ≡ true
@@ -119,6 +137,7 @@ taken_by (KeepsTimes n) bytes before e = absurd (not_so e)
 taken_by (Happens happening) bytes before e = absurd (not_so e)
 taken_by Wakes bytes before e = absurd (not_so e)
 taken_by Lends bytes before e = absurd (not_so e)
+taken_by WantsText bytes before e = absurd (not_so e)
 taken_by (Owns n) bytes before e = absurd (not_so e)
 
 pub capture_waits : (heard : Heard) (past : List Heard) → brings_capture heard.entry.what ≡ true → waiting (heard ∷ past) ≡ []

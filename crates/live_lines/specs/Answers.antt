@@ -1,4 +1,5 @@
--- What a recorder answers to an entry: the bytes that the capture gets, the new lines of the report, and then what is said.
+-- What a recorder answers to an entry: the bytes that the capture gets, the new lines of the report, the
+-- text of the game, and then what is said.
 use Rattle.std.specs.Prelude.{◌-◌, ℕ, true, List, [], ◌∷◌, ◌++◌, codes, decimal, length, Option, Some, None}
 use Rattle.answer_lines.specs.declared.said.Said.{Said}
 use Rattle.answer_lines.specs.Answers.{answer_text as said_text}
@@ -10,9 +11,14 @@ abbrev pub kept_text : List ℕ → List ℕ
 kept_text [] = []
 kept_text (byte ∷ bytes) = codes "kept " ++ decimal (length (byte ∷ bytes)) ++ codes "\n" ++ (byte ∷ bytes)
 
--- these bytes, these lines of the report, and what is said
-abbrev pub whole_text : List ℕ → List ℕ → Said → List ℕ
-whole_text kept lines said = kept_text kept ++ lines ++ said_text said
+-- the text of the game, if it is wanted, behind a line that says how many bytes it has
+abbrev pub game_text : List ℕ → List ℕ
+game_text [] = []
+game_text (byte ∷ bytes) = codes "game " ++ decimal (length (byte ∷ bytes)) ++ codes "\n" ++ (byte ∷ bytes)
+
+-- these bytes, these lines of the report, this text of the game, and what is said
+abbrev pub whole_text : List ℕ → List ℕ → List ℕ → Said → List ℕ
+whole_text kept lines game said = kept_text kept ++ lines ++ game_text game ++ said_text said
 
 -- for how long it has been so since a time, and in how long a time comes
 abbrev pub lasting : ℕ → Option ℕ → Option ℕ
@@ -31,14 +37,14 @@ state_for now (Some state) = Some (record state { since = lasting now state.sinc
 -- What is said: times are spans from now, so that a host needs no clock but its own.
 abbrev pub said_of : ℕ → Answer → Option ℕ → Said
 said_of now answer due =
-    record { handling = Some answer.handling; request = answer.request; is_whole = answer.is_whole; state = state_for now answer.state; due = wake_in now due }
+    record { handling = Some answer.handling; number = answer.number; request = answer.request; is_whole = answer.is_whole; state = state_for now answer.state; due = wake_in now due }
 
-abbrev pub answer_text : ℕ → Answer → List ℕ → List ℕ → Option ℕ → List ℕ
-answer_text now answer kept lines due = whole_text kept lines (said_of now answer due)
+abbrev pub answer_text : ℕ → Answer → List ℕ → List ℕ → List ℕ → Option ℕ → List ℕ
+answer_text now answer kept lines game due = whole_text kept lines game (said_of now answer due)
 
 -- Of a capture of the calls before only the report is said.
 abbrev pub nothing_said : Said
-nothing_said = record { handling = None; request = None; is_whole = true; state = None; due = None }
+nothing_said = record { handling = None; number = None; request = None; is_whole = true; state = None; due = None }
 
 abbrev pub capture_text : List ℕ → List ℕ
-capture_text lines = whole_text [] lines nothing_said
+capture_text lines = whole_text [] lines [] nothing_said

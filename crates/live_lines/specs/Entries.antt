@@ -1,14 +1,14 @@
 -- What a host tells a recorder: entries, one behind the other. An entry is a line, as in a file of times, and with some words so
 -- many bytes behind it. Bytes are in the order in which they stand.
 use Rattle.std.specs.Prelude.{◌≡◌, ◌≤◌, ℕ, Bool, true, false, List, ◌++◌, Some, None, length}
-use Rattle.board_times.specs.declared.words.Word.TheVariants.{Wake, Lent, Number, Kept, Capture}
+use Rattle.board_times.specs.declared.words.Word.TheVariants.{Wake, Lent, Number, Kept, Capture, Text}
 use Rattle.board_times.specs.declared.lines.Tail.{Tail}
 use Rattle.board_times.specs.declared.lines.Line.{Line}
 use Rattle.board_times.specs.declared.events.What.TheVariants.{Hears, Adds}
 use Rattle.board_times.specs.Lines.{Fits, line_text}
 use Rattle.board_times.specs.Times.{tail_of as tail_of_event}
 use Rattle.live_lines.specs.declared.entries.What.{What}
-use Rattle.live_lines.specs.declared.entries.What.TheVariants.{Happens, Wakes, Lends, Owns, KeepsTimes, KeepsBytes}
+use Rattle.live_lines.specs.declared.entries.What.TheVariants.{Happens, Wakes, Lends, WantsText, Owns, KeepsTimes, KeepsBytes}
 use Rattle.live_lines.specs.declared.entries.Entry.{Entry}
 
 -- the word and the number of what is told
@@ -16,6 +16,7 @@ abbrev pub tail_of : What → Tail
 tail_of (Happens what) = tail_of_event what
 tail_of Wakes = record { word = Wake; number = None }
 tail_of Lends = record { word = Lent; number = None }
+tail_of WantsText = record { word = Text; number = None }
 tail_of (Owns n) = record { word = Number; number = Some n }
 tail_of (KeepsTimes n) = record { word = Kept; number = Some n }
 tail_of (KeepsBytes n) = record { word = Capture; number = Some n }
@@ -41,6 +42,11 @@ brings_times _ = false
 abbrev pub brings_capture : What → Bool
 brings_capture (KeepsBytes n) = true
 brings_capture _ = false
+
+-- The text of the game is wanted.
+abbrev pub wants_text : What → Bool
+wants_text WantsText = true
+wants_text _ = false
 
 -- at most so many bytes do: a capture has no more
 abbrev pub most : ℕ

@@ -1,25 +1,36 @@
 -- What holds of each text.
-use Rattle.std.specs.Prelude.{◌≡◌, ◌<◌, ◌≤◌, ◌^◌, ℕ, Bool, List, [], ◌∷◌, ◌++◌, length}
+use Rattle.std.specs.Prelude.{◌≡◌, ◌↔◌, ◌<◌, ◌≤◌, ◌^◌, ℕ, Bool, false, List, [], ◌∷◌, ◌++◌, length}
 use Rattle.std.specs.List.{AllByRecursion}
 use Rattle.answer_lines.specs.declared.said.Said.{Said}
 use Rattle.answer_lines.specs.Laws.{IsSaid}
+use Rattle.board_events.specs.declared.setup.Setup.{Setup}
 use Rattle.board_events.specs.Settings.{Setting}
-use Rattle.board_game.specs.History.{Came}
+use Rattle.board_events.specs.Commands.{past_of}
+use Rattle.board_events.specs.Game.{IsGameOf}
+use Rattle.board_game.specs.History.{AreShown, Came, bytes_of}
 use Rattle.board_game.specs.Report.{IsReport}
 use Rattle.board_live.specs.Moments.{Moment}
 use Rattle.board_times.specs.declared.events.Event.{Event}
+use Rattle.chess_game.specs.Games.{Content}
+use Rattle.chess_game.specs.Values.{TagValues}
 use Rattle.chess_rules.specs.Valid.{Valid}
+use Rattle.dgt_frame.specs.Streams.{Timed}
+use Rattle.pgn_book.specs.Pgn.{Pgn}
 use Rattle.watched_streams.specs.Lines.{line}
 use Rattle.live_lines.specs.declared.clock.Clock.{Clock}
 use Rattle.live_lines.specs.declared.entries.Entry.{Entry}
+use Rattle.live_lines.specs.declared.entries.What.{What}
+use Rattle.live_lines.specs.declared.entries.What.TheVariants.{Wakes, WantsText}
 use Rattle.live_lines.specs.Answers.{whole_text}
 use Rattle.live_lines.specs.Clock.{clock_after}
 use Rattle.live_lines.specs.Entries.{IsWhole, entry_text}
 use Rattle.live_lines.specs.declared.next.Next.{Next}
-use Rattle.live_lines.specs.Heard.{Heard}
+use Rattle.live_lines.specs.Heard.{Heard, IsHeard}
 use Rattle.live_lines.specs.History.{bytes_in, history_of}
 use Rattle.live_lines.specs.Next.{IsNext, IsUnfinished, Tells}
+use Rattle.live_lines.specs.Recorder.{IsAnswered}
 use Rattle.live_lines.specs.Streams.{Writes}
+use Rattle.live_lines.specs.Text.{IsTextOf}
 
 -- A text begins with one entry at most.
 abbrev pub IsToldOnce : Type 0
@@ -63,12 +74,13 @@ report_text (told ∷ lines) = line told.offset told.words ++ report_text lines
 abbrev pub HasLines : List ℕ → Type 0
 HasLines text = (lines : List ReportLine) × (text ≡ report_text lines)
 
--- Answers that stand one behind the other are read in one way: which bytes the capture gets, which lines are the report's, and what
--- is said.
+-- Answers that stand one behind the other are read in one way: which bytes the capture gets, which lines are the report's, what the
+-- text of the game is, and what is said.
 abbrev pub IsAnsweredInOneWay : Type 0
-IsAnsweredInOneWay = (kept others lines news more rest : List ℕ) (one other : Said) → length kept < 2 ^ 64 → length others < 2 ^ 64
-    → HasLines lines → HasLines news → IsSaid one → IsSaid other → whole_text kept lines one ++ more ≡ whole_text others news other ++ rest
-    → (kept ≡ others) × (lines ≡ news) × (one ≡ other) × (more ≡ rest)
+IsAnsweredInOneWay = (kept others lines news game text more rest : List ℕ) (one other : Said) → length kept < 2 ^ 64 → length others < 2 ^ 64
+    → length game < 2 ^ 64 → length text < 2 ^ 64 → HasLines lines → HasLines news → IsSaid one → IsSaid other
+    → whole_text kept lines game one ++ more ≡ whole_text others news text other ++ rest
+    → (kept ≡ others) × (lines ≡ news) × (game ≡ text) × (one ≡ other) × (more ≡ rest)
 
 -- From a valid start, what a report has more after more has come has such lines.
 abbrev pub ReportsHaveLines : Type 0
@@ -77,5 +89,24 @@ ReportsHaveLines = (setting : Setting) (recovers : Bool) (past later : List Came
 
 -- Later entries change nothing that was said: what is written of more entries begins with what was written of the first ones.
 abbrev pub LaterChangesNothing : Type 0
-LaterChangesNothing = (setting : Setting) (recovers : Bool) (later past : List Heard) (report said : List ℕ) → Writes setting recovers (later ++ past) report said
-    → (before earlier more : List ℕ) × Writes setting recovers past before earlier × (said ≡ earlier ++ more)
+LaterChangesNothing = (setup : Setup) (recovers : Bool) (later past : List Heard) (report said : List ℕ) → Writes setup recovers (later ++ past) report said
+    → (before earlier more : List ℕ) × Writes setup recovers past before earlier × (said ≡ earlier ++ more)
+
+-- The same was told, but that who wanted the text has told a wake.
+abbrev pub as_wake : What → What
+as_wake WantsText = Wakes
+as_wake what = what
+
+abbrev pub with_wakes : List Heard → List Heard
+with_wakes [] = []
+with_wakes (heard ∷ past) = record heard { entry = record { at = heard.entry.at; what = as_wake heard.entry.what } } ∷ with_wakes past
+
+-- Who wants the text tells nothing but a time: all that is answered later is answered as if there had been a wake.
+abbrev pub TextsAreNoNews : Type 0
+TextsAreNoNews = (setup : Setup) (recovers : Bool) (heard : Heard) (past : List Heard) (more said : List ℕ)
+    → (IsHeard heard past ↔ IsHeard heard (with_wakes past)) × (IsAnswered setup recovers heard past more said ↔ IsAnswered setup recovers heard (with_wakes past) more said)
+
+-- Where no pairs are recovered, the text is that of the game of all bytes, with the same tags: so `record` writes it.
+abbrev pub TextsAreRecorded : Type 0
+TextsAreRecorded = (setting : Setting) (tags : TagValues) (past : List Came) (events : List Timed) (text : List ℕ) → AreShown (bytes_of past) events
+    → IsTextOf setting false tags past text → (game : Content) × IsGameOf game setting tags (past_of events) × Pgn game text

@@ -10,3 +10,4 @@ pub mod Next
 pub mod Recorder
 pub mod Status
 pub mod Streams
+pub mod Text

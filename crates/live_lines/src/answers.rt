@@ -1,6 +1,7 @@
-//! What a recorder answers: the bytes that the capture gets, the new lines of the report, and the lines of `answer_lines`.
+//! What a recorder answers: the bytes that the capture gets, the new lines of the report, the text of the
+//! game, and the lines of `answer_lines`.
 ghost use Rattle.std.specs.Prelude.{◌≡◌, ◌++◌, IfOk};
-ghost use Rattle.live_lines.specs.Answers.{answer_text, capture_text, kept_text, lasting, said_of, state_for, wake_in};
+ghost use Rattle.live_lines.specs.Answers.{answer_text, capture_text, game_text, kept_text, lasting, said_of, state_for, wake_in};
 
 use answer_lines::{Said, add_answer as add_said};
 use board_live::Answer;
@@ -20,6 +21,20 @@ fn add_kept(kept: &[u8], out: &mut Vec<u8>) -> Result<(), AllocError>
     out.extend_from_slice(buffer.format(kept.len() as u64).as_bytes())?;
     out.extend_from_slice(b"\n")?;
     out.extend_from_slice(kept)
+}
+
+/// Adds the text of the game, behind a line that says how many bytes it has, if it is wanted.
+fn add_game(game: &[u8], out: &mut Vec<u8>) -> Result<(), AllocError>
+    ensures { IfOk result (λ _. out.new.items ≡ out.old.items ++ game_text game.now) }
+{
+    if game.is_empty() {
+        return Ok(());
+    }
+    let mut buffer = Buffer::new();
+    out.extend_from_slice(b"game ")?;
+    out.extend_from_slice(buffer.format(game.len() as u64).as_bytes())?;
+    out.extend_from_slice(b"\n")?;
+    out.extend_from_slice(game)
 }
 
 /// How long it has been so since this time.
@@ -63,6 +78,7 @@ fn said_of(now: u64, answer: &Answer, due: Option<u64>) -> Said
 {
     Said {
         handling: Some(answer.handling),
+        number: answer.number,
         request: answer.request,
         is_whole: answer.is_whole,
         state: state_for(now, answer.state),
@@ -70,20 +86,23 @@ fn said_of(now: u64, answer: &Answer, due: Option<u64>) -> Said
     }
 }
 
-/// Adds what is answered at this time, with the bytes that the capture gets, the new lines of the report, and when to wake.
+/// Adds what is answered at this time, with the bytes that the capture gets, the new lines of the report, the text of the game if it is
+/// wanted, and when to wake.
 pub fn add_answer(
     alloc: Global,
     now: u64,
     answer: &Answer,
     kept: &[u8],
     lines: &[u8],
+    game: &[u8],
     due: Option<u64>,
     out: &mut Vec<u8>,
 ) -> Result<(), AllocError>
-    ensures { IfOk result (λ _. out.new.items ≡ out.old.items ++ answer_text now answer.now kept.now lines.now due) }
+    ensures { IfOk result (λ _. out.new.items ≡ out.old.items ++ answer_text now answer.now kept.now lines.now game.now due) }
 {
     add_kept(kept, out)?;
     out.extend_from_slice(lines)?;
+    add_game(game, out)?;
     add_said(alloc, said_of(now, answer, due), out)
 }
 
@@ -94,6 +113,7 @@ pub fn add_report(alloc: Global, report: &[u8], out: &mut Vec<u8>) -> Result<(),
     out.extend_from_slice(report)?;
     let said = Said {
         handling: None,
+        number: None,
         request: None,
         is_whole: true,
         state: None,

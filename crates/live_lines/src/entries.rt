@@ -1,7 +1,7 @@
 //! What a host tells: its entries and their lines.
 ghost use Rattle.std.specs.Prelude.{◌≡◌, None, Some};
 ghost use Rattle.board_times.specs.Times.{tail_of as tail_of_event};
-ghost use Rattle.live_lines.specs.Entries.{brings_capture, brings_times, entry_line, size_of, tail_of};
+ghost use Rattle.live_lines.specs.Entries.{brings_capture, brings_times, entry_line, size_of, tail_of, wants_text};
 ghost use Rattle.live_lines.specs.Inside.Reading.{entry_by, entry_of, own_what};
 
 use board_times::{Event, Line, Tail, What as Happening, Word, event_of, line_of};
@@ -15,6 +15,8 @@ pub enum What {
     Wakes,
     /// Another game has taken what was kept aside.
     Lends,
+    /// The text of the game is wanted.
+    WantsText,
     /// The serial number of the game's board, which has so many bytes, stands behind the line.
     Owns(u64),
     /// The file of times of the calls before, which has so many bytes, does.
@@ -59,6 +61,7 @@ impl What {
             What::Happens(what) => tail_of_event(what),
             What::Wakes => alone(Word::Wake),
             What::Lends => alone(Word::Lent),
+            What::WantsText => alone(Word::Text),
             What::Owns(n) => with_number(Word::Number, n),
             What::KeepsTimes(n) => with_number(Word::Kept, n),
             What::KeepsBytes(n) => with_number(Word::Capture, n),
@@ -92,6 +95,13 @@ impl What {
     {
         matches!(self, What::KeepsBytes(_))
     }
+
+    /// Whether the text of the game is wanted.
+    pub fn wants_text(self) -> bool
+        ensures { result ≡ wants_text self }
+    {
+        matches!(self, What::WantsText)
+    }
 }
 
 /// The line of an entry.
@@ -110,6 +120,7 @@ fn own_alone(word: Word) -> Option<What>
     match word {
         Word::Wake => Some(What::Wakes),
         Word::Lent => Some(What::Lends),
+        Word::Text => Some(What::WantsText),
         _ => None,
     }
 }

@@ -1,7 +1,8 @@
 //! What holds of each text.
-ghost use Rattle.live_lines.specs.Laws.{EachByteComesOnce, IsAnsweredInOneWay, IsToldOnce, LaterChangesNothing, ReportsHaveLines, TimesGoOn, WaitsForIt, WrittenIsTold};
+ghost use Rattle.live_lines.specs.Laws.{EachByteComesOnce, IsAnsweredInOneWay, IsToldOnce, LaterChangesNothing, ReportsHaveLines, TextsAreNoNews, TextsAreRecorded, TimesGoOn, WaitsForIt, WrittenIsTold};
 
 use chess_text::laws::{fens_are_plain, texts_are_plain};
+use dgt_frame::laws::shows_once;
 
 /// A text begins with one entry at most.
 pub fn is_told_once()
@@ -46,4 +47,17 @@ pub fn reports_have_lines()
     texts_are_plain();
     // For its clause: and no FEN.
     fens_are_plain();
+}
+
+/// Who wants the text of the game tells no more than who wakes the recorder.
+pub fn texts_are_no_news()
+    ensures { TextsAreNoNews }
+{}
+
+/// Where no pairs are recovered, the text is that of the game that `record` writes.
+pub fn texts_are_recorded()
+    ensures { TextsAreRecorded }
+{
+    // For its clause: bytes show one list of events.
+    shows_once();
 }

@@ -1,7 +1,7 @@
 //! A recorder that a host tells entries.
 ghost use Rattle.std.specs.Prelude.{◌≡◌, ◌∷◌, [], ◌++◌, ℕ, Bool, List, OnOk, false, true};
-ghost use Rattle.board_captures.specs.Reading.{setting_of};
-ghost use Rattle.board_events.specs.Settings.{Setting};
+ghost use Rattle.board_events.specs.declared.setup.Setup.{Setup as SetupOf};
+ghost use Rattle.board_events.specs.Settings.{setting_of};
 ghost use Rattle.board_game.specs.Report.{first_line};
 ghost use Rattle.live_lines.specs.declared.entries.Entry.{Entry as EntryOf};
 ghost use Rattle.live_lines.specs.Entries.{brings_capture};
@@ -13,9 +13,12 @@ use crate::clock::Clock;
 use crate::entries::{Entry, What};
 use crate::history::{events_for, tell_history};
 use crate::meaning::meaning_of;
+use crate::text::text_if;
 use board_captures::Method;
+use board_events::Setup;
 use board_live::{Happened, Live};
 use board_times::read_times;
+use chess_game::Tags;
 use std::alloc::{AllocError, Global};
 
 /// Takes what a host tells, and answers.
@@ -28,6 +31,8 @@ pub struct Recorder {
     lines: Vec<u8>,
     /// The file of times that waits for its capture.
     times: Vec<u8>,
+    /// The tags of the game's text.
+    tags: Tags,
 }
 
 /// Remembers a file of times, if this is one.
@@ -44,12 +49,24 @@ fn remember(times: &mut Vec<u8>, what: What, bytes: &[u8]) -> Result<(), AllocEr
 
 impl Recorder {
     /// Nothing was told. Takes no memory.
-    pub fn new(alloc: Global, method: &Method) -> Recorder
-        ensures stands { StandsFor result (setting_of method.now) method.now.recovers [] (first_line (setting_of method.now)) }
+    pub fn new(alloc: Global, setup: Setup, recovers: bool) -> Recorder
+        ensures stands { StandsFor result setup recovers [] (first_line (setting_of setup)) }
         ensures begun { HasBegun result }
     {
+        let Setup {
+            start,
+            first,
+            rotated,
+            tags,
+        } = setup;
+        let method = Method {
+            start,
+            first,
+            rotated,
+            recovers,
+        };
         let clock = Clock::new();
-        let live = Live::new(alloc, method);
+        let live = Live::new(alloc, &method);
         let lines = Vec::new(alloc);
         let times = Vec::new(alloc);
         Recorder {
@@ -58,10 +75,11 @@ impl Recorder {
             live,
             lines,
             times,
+            tags,
         }
     }
 
-    /// Takes an entry with the bytes behind it, and appends what is answered. A file of times waits for its capture, which comes
+    /// Takes an entry with the bytes behind it, and appends what is answered, with the text of the game if the entry wants it. A file of times waits for its capture, which comes
     /// behind it. Then both are told to the board: what was kept of the calls before.
     ///
     /// # Errors
@@ -69,10 +87,10 @@ impl Recorder {
     /// Where there is no memory. Then nothing more may be taken.
     pub fn take(&mut self, entry: Entry, bytes: &[u8], out: &mut Vec<u8>) -> Result<(), AllocError>
         requires begun { HasBegun self.old }
-        ensures stands { (setting : Setting) (recovers : Bool) (past : List Heard) (text : List ℕ) → StandsFor self.old setting recovers past text
+        ensures stands { (setup : SetupOf) (recovers : Bool) (past : List Heard) (text : List ℕ) → StandsFor self.old setup recovers past text
             → OnOk result ((heard : Heard) × (more said : List ℕ) × (heard.entry ≡ entry) × (heard.bytes ≡ bytes.now) × IsHeard heard past
-            × (out.new.items ≡ out.old.items ++ said) × IsAnswered setting recovers heard past more said
-            × StandsFor self.new setting recovers (heard ∷ past) (text ++ more)) }
+            × (out.new.items ≡ out.old.items ++ said) × IsAnswered setup recovers heard past more said
+            × StandsFor self.new setup recovers (heard ∷ past) (text ++ more)) }
         ensures begun { OnOk result (HasBegun self.new) }
     {
         if entry.what.brings_capture() {
@@ -85,11 +103,11 @@ impl Recorder {
     /// Takes a capture of the calls before, by the file of times that waited for it.
     fn take_capture(&mut self, capture: &[u8], out: &mut Vec<u8>) -> Result<(), AllocError>
         requires begun { HasBegun self.old }
-        ensures stands { (setting : Setting) (recovers : Bool) (entry : EntryOf) (past : List Heard) (text : List ℕ)
-            → brings_capture entry.what ≡ true → StandsFor self.old setting recovers past text
+        ensures stands { (setup : SetupOf) (recovers : Bool) (entry : EntryOf) (past : List Heard) (text : List ℕ)
+            → brings_capture entry.what ≡ true → StandsFor self.old setup recovers past text
             → OnOk result ((heard : Heard) × (more said : List ℕ) × (heard.entry ≡ entry) × (heard.bytes ≡ capture.now) × IsHeard heard past
-            × (out.new.items ≡ out.old.items ++ said) × IsAnswered setting recovers heard past more said
-            × StandsFor self.new setting recovers (heard ∷ past) (text ++ more)) }
+            × (out.new.items ≡ out.old.items ++ said) × IsAnswered setup recovers heard past more said
+            × StandsFor self.new setup recovers (heard ∷ past) (text ++ more)) }
         ensures begun { OnOk result (HasBegun self.new) }
     {
         let found = read_times(self.alloc, self.times.as_slice())?;
@@ -116,10 +134,10 @@ impl Recorder {
     ) -> Result<(), AllocError>
         requires begun { HasBegun self.old }
         requires brings { brings_capture entry.what ≡ false }
-        ensures stands { (setting : Setting) (recovers : Bool) (past : List Heard) (text : List ℕ) → StandsFor self.old setting recovers past text
+        ensures stands { (setup : SetupOf) (recovers : Bool) (past : List Heard) (text : List ℕ) → StandsFor self.old setup recovers past text
             → OnOk result ((heard : Heard) × (more said : List ℕ) × (heard.entry ≡ entry) × (heard.bytes ≡ bytes.now) × IsHeard heard past
-            × (out.new.items ≡ out.old.items ++ said) × IsAnswered setting recovers heard past more said
-            × StandsFor self.new setting recovers (heard ∷ past) (text ++ more)) }
+            × (out.new.items ≡ out.old.items ++ said) × IsAnswered setup recovers heard past more said
+            × StandsFor self.new setup recovers (heard ∷ past) (text ++ more)) }
         ensures begun { OnOk result (HasBegun self.new) }
     {
         remember(&mut self.times, entry.what, bytes)?;
@@ -131,12 +149,16 @@ impl Recorder {
             .take(Happened { at, what }, bytes, &mut self.lines)?;
         let due = self.live.due(at);
         let kept = self.live.kept();
+        let is_wanted = entry.what.wants_text();
+        let board = self.live.game();
+        let game = text_if(self.alloc, is_wanted, board, &self.tags)?;
         add_answer(
             self.alloc,
             at,
             &answer,
             kept,
             self.lines.as_slice(),
+            game.as_slice(),
             due,
             out,
         )?;
@@ -149,8 +171,8 @@ impl Recorder {
     ///
     /// Where there is no memory for it.
     pub fn first_line(&self, out: &mut Vec<u8>) -> Result<(), AllocError>
-        ensures { (setting : Setting) (recovers : Bool) (past : List Heard) (text : List ℕ) → StandsFor self.now setting recovers past text
-            → OnOk result (out.new.items ≡ out.old.items ++ first_line setting) }
+        ensures { (setup : SetupOf) (recovers : Bool) (past : List Heard) (text : List ℕ) → StandsFor self.now setup recovers past text
+            → OnOk result (out.new.items ≡ out.old.items ++ first_line (setting_of setup)) }
     {
         let game = self.live.game();
         game.first_line(out)
@@ -165,8 +187,8 @@ impl Recorder {
 
     /// For its clause: what was appended so far is the report of what came to the game, behind its first line.
     pub fn conclude(&self)
-        ensures { (setting : Setting) (recovers : Bool) (past : List Heard) (text : List ℕ) → StandsFor self.now setting recovers past text
-            → Reports setting recovers past text }
+        ensures { (setup : SetupOf) (recovers : Bool) (past : List Heard) (text : List ℕ) → StandsFor self.now setup recovers past text
+            → Reports setup recovers past text }
     {
         self.live.conclude();
     }

@@ -1,8 +1,8 @@
 //! What a host tells on a stream, and what is answered on another: the subcommand `live`.
 ghost use Rattle.std.specs.Prelude.{◌≡◌, ◌≢◌, ◌-◌, [], ℕ, Bool, List, IfErr, IfOk, MatchResult, OnErr, OnOk, Option, drop, length, false, true};
 ghost use Rattle.std.specs.Io.KnownBytes.{Appends};
-ghost use Rattle.board_captures.specs.Reading.{setting_of};
-ghost use Rattle.board_events.specs.Settings.{Setting};
+ghost use Rattle.board_events.specs.declared.setup.Setup.{Setup as SetupOf};
+ghost use Rattle.board_events.specs.Settings.{setting_of};
 ghost use Rattle.board_game.specs.Report.{first_line};
 ghost use Rattle.watched_streams.specs.Output.{AppendsPart};
 ghost use Rattle.watched_streams.specs.Watch.{IsFlushed, inner_of, has_failed};
@@ -16,7 +16,7 @@ ghost use Rattle.live_lines.specs.Streams.{AttendsAll, EndsBy};
 use crate::entries::Entry;
 use crate::next::{Next, next_entry};
 use crate::recorder::Recorder;
-use board_captures::Method;
+use board_events::Setup;
 use board_listing::{Listing, add_first};
 use std::alloc::{AllocError, Global};
 use std::io::{Read, Write};
@@ -80,20 +80,20 @@ fn send<O: Write>(out: &mut Watch<O>, bytes: &[u8]) -> Result<(), AttendError>
 }
 
 /// Writes the first line of the report.
-fn begin<O: Write>(method: &Method, out: &mut Watch<O>) -> Result<(), AttendError>
+fn begin<O: Write>(setup: &Setup, out: &mut Watch<O>) -> Result<(), AttendError>
     requires { has_failed out.old ≡ false }
-    ensures ok { OnOk result (Appends (O.contents (inner_of out.old)) (O.contents (inner_of out.new)) (first_line (setting_of method.now))) }
+    ensures ok { OnOk result (Appends (O.contents (inner_of out.old)) (O.contents (inner_of out.new)) (first_line (setting_of setup.now))) }
     ensures working { OnOk result (has_failed out.new ≡ false) }
-    ensures part { OnErr result (AppendsPart (O.contents (inner_of out.old)) (O.contents (inner_of out.new)) (first_line (setting_of method.now))) }
+    ensures part { OnErr result (AppendsPart (O.contents (inner_of out.old)) (O.contents (inner_of out.new)) (first_line (setting_of setup.now))) }
     ensures failed { OnErr result (has_failed out.new ≡ true) }
     ensures cause { IfErr result (λ error. error ≡ AttendError.Write) }
     ensures flushed { IsFlushed out.new }
 {
     let mut lines = Lines::new();
     let listing = Listing::Watched {
-        start: method.start,
-        first: method.first,
-        rotated: method.rotated,
+        start: setup.start,
+        first: setup.first,
+        rotated: setup.rotated,
     };
     add_first(&mut lines, &listing);
     send(out, lines.as_slice())
@@ -110,13 +110,13 @@ fn answer<O: Write>(
     requires working { has_failed out.old ≡ false }
     requires begun { HasBegun recorder.old }
     requires whole { IsWhole entry bytes.now }
-    ensures ok { (setting : Setting) (recovers : Bool) (before said : List ℕ) → HasAttended recorder.old setting recovers before said
-        → OnOk result (GoesOn recorder.new setting recovers before said (entry_text entry bytes.now) []
+    ensures ok { (setup : SetupOf) (recovers : Bool) (before said : List ℕ) → HasAttended recorder.old setup recovers before said
+        → OnOk result (GoesOn recorder.new setup recovers before said (entry_text entry bytes.now) []
         (O.contents (inner_of out.old)) (O.contents (inner_of out.new))) }
     ensures working { OnOk result (has_failed out.new ≡ false) }
     ensures begun { OnOk result (HasBegun recorder.new) }
-    ensures broken { (setting : Setting) (recovers : Bool) (before said : List ℕ) → HasAttended recorder.old setting recovers before said
-        → IfErr result (λ error. BreaksOff error setting recovers before said (entry_text entry bytes.now)
+    ensures broken { (setup : SetupOf) (recovers : Bool) (before said : List ℕ) → HasAttended recorder.old setup recovers before said
+        → IfErr result (λ error. BreaksOff error setup recovers before said (entry_text entry bytes.now)
         (O.contents (inner_of out.old)) (O.contents (inner_of out.new))) }
     ensures blamed { IfErr result (λ error. (is_read error ≡ false) × (has_failed out.new ≡ is_write error)) }
     ensures flushed { IsFlushed out.old → IsFlushed out.new }
@@ -142,14 +142,14 @@ fn answer_all<'a, O: Write>(
 ) -> Result<&'a [u8], AttendError>
     requires working { has_failed out.old ≡ false }
     requires begun { HasBegun recorder.old }
-    requires attended { (setting : Setting) × (recovers : Bool) × (before : List ℕ) × (said : List ℕ) × HasAttended recorder.old setting recovers before said }
-    ensures ok { (setting : Setting) (recovers : Bool) (before said : List ℕ) → HasAttended recorder.old setting recovers before said
-        → IfOk result (λ rest. IsUnfinished rest.now × GoesOn recorder.new setting recovers before said text.now rest.now
+    requires attended { (setup : SetupOf) × (recovers : Bool) × (before : List ℕ) × (said : List ℕ) × HasAttended recorder.old setup recovers before said }
+    ensures ok { (setup : SetupOf) (recovers : Bool) (before said : List ℕ) → HasAttended recorder.old setup recovers before said
+        → IfOk result (λ rest. IsUnfinished rest.now × GoesOn recorder.new setup recovers before said text.now rest.now
         (O.contents (inner_of out.old)) (O.contents (inner_of out.new))) }
     ensures working { OnOk result (has_failed out.new ≡ false) }
     ensures begun { OnOk result (HasBegun recorder.new) }
-    ensures broken { (setting : Setting) (recovers : Bool) (before said : List ℕ) → HasAttended recorder.old setting recovers before said
-        → IfErr result (λ error. BreaksOff error setting recovers before said text.now
+    ensures broken { (setup : SetupOf) (recovers : Bool) (before said : List ℕ) → HasAttended recorder.old setup recovers before said
+        → IfErr result (λ error. BreaksOff error setup recovers before said text.now
         (O.contents (inner_of out.old)) (O.contents (inner_of out.new))) }
     ensures blamed { IfErr result (λ error. (is_read error ≡ false) × (has_failed out.new ≡ is_write error)) }
     ensures flushed { IsFlushed out.old → IsFlushed out.new }
@@ -224,12 +224,12 @@ fn attend_more<R: Read, O: Write>(
     requires reading { has_failed reader.old ≡ false }
     requires working { has_failed out.old ≡ false }
     requires begun { HasBegun recorder.old }
-    requires come { (setting : Setting) × (recovers : Bool) × (input : Option (List ℕ)) × (written : Option (List ℕ))
-        × HasCome recorder.old setting recovers text.old.items input (R.remaining (inner_of reader.old)) written (O.contents (inner_of out.old)) }
-    ensures comes { (setting : Setting) (recovers : Bool) (input written : Option (List ℕ))
-        → HasCome recorder.old setting recovers text.old.items input (R.remaining (inner_of reader.old)) written (O.contents (inner_of out.old))
-        → MatchResult result (λ more. ComesOn more recorder.new setting recovers text.new.items input (R.remaining (inner_of reader.new)) written (O.contents (inner_of out.new)))
-        (λ error. EndsBy error setting recovers input (R.remaining (inner_of reader.new)) written (O.contents (inner_of out.new))) }
+    requires come { (setup : SetupOf) × (recovers : Bool) × (input : Option (List ℕ)) × (written : Option (List ℕ))
+        × HasCome recorder.old setup recovers text.old.items input (R.remaining (inner_of reader.old)) written (O.contents (inner_of out.old)) }
+    ensures comes { (setup : SetupOf) (recovers : Bool) (input written : Option (List ℕ))
+        → HasCome recorder.old setup recovers text.old.items input (R.remaining (inner_of reader.old)) written (O.contents (inner_of out.old))
+        → MatchResult result (λ more. ComesOn more recorder.new setup recovers text.new.items input (R.remaining (inner_of reader.new)) written (O.contents (inner_of out.new)))
+        (λ error. EndsBy error setup recovers input (R.remaining (inner_of reader.new)) written (O.contents (inner_of out.new))) }
     ensures whole { OnOk result ((has_failed reader.new ≡ false) × (has_failed out.new ≡ false)) }
     ensures begun { OnOk result (HasBegun recorder.new) }
     ensures blamed { IfErr result (λ error. (has_failed reader.new ≡ is_read error) × (has_failed out.new ≡ is_write error)) }
@@ -268,18 +268,19 @@ fn attend_more<R: Read, O: Write>(
 /// - `Memory`: there was none for an entry. Those before it were answered.
 pub fn attend<R: Read, O: Write>(
     alloc: Global,
-    method: &Method,
+    setup: Setup,
+    recovers: bool,
     reader: &mut Watch<R>,
     out: &mut Watch<O>,
 ) -> Result<(), AttendError>
     requires reading { has_failed reader.old ≡ false }
     requires working { has_failed out.old ≡ false }
-    ensures ok { OnOk result (AttendsAll (setting_of method.now) method.now.recovers (R.remaining (inner_of reader.old))
+    ensures ok { OnOk result (AttendsAll setup recovers (R.remaining (inner_of reader.old))
         (O.contents (inner_of out.old)) (O.contents (inner_of out.new))) }
 
     // Before a read nobody knows whether it will fail, and after one that failed nothing may be written. So each read begins with
     // all entries before it answered.
-    ensures ends { IfErr result (λ error. EndsBy error (setting_of method.now) method.now.recovers (R.remaining (inner_of reader.old))
+    ensures ends { IfErr result (λ error. EndsBy error setup recovers (R.remaining (inner_of reader.old))
         (R.remaining (inner_of reader.new)) (O.contents (inner_of out.old)) (O.contents (inner_of out.new))) }
 
     // A stream is blamed where it has failed, and only there.
@@ -287,10 +288,10 @@ pub fn attend<R: Read, O: Write>(
     ensures blamed { IfErr result (λ error. (has_failed reader.new ≡ is_read error) × (has_failed out.new ≡ is_write error)) }
     ensures flushed { IsFlushed out.new }
 {
-    let mut recorder = Recorder::new(alloc, method);
-    if let Err(error) = begin(method, out) {
+    if let Err(error) = begin(&setup, out) {
         return Err(error);
     }
+    let mut recorder = Recorder::new(alloc, setup, recovers);
     let mut text = Vec::new(alloc);
     'reads: for _ in 0..u64::MAX {
         let is_more = match attend_more(alloc, &mut recorder, &mut text, reader, out) {

@@ -415,43 +415,59 @@ turned_recovered_live : (name : Text) → Finds (name ∷ codes "live" ∷ codes
 unfolding clap_on_literals
 turned_recovered_live name = (refl, takes_by (name ∷ codes "live" ∷ codes "--rotated" ∷ codes "--recover" ∷ []) refl)
 
+no_live_tag : (rotated recovers : Bool) (tag : Tag) → first_of (option_of tag) (flag_row rotated ∷ recover_row recovers ∷ []) ≡ None
+no_live_tag rotated recovers Event = refl
+no_live_tag rotated recovers Site = refl
+no_live_tag rotated recovers Date = refl
+no_live_tag rotated recovers Round = refl
+no_live_tag rotated recovers White = refl
+no_live_tag rotated recovers Black = refl
+
+no_recovered_tag : (tag : Tag) → first_of (option_of tag) (recover_row true ∷ flag_row false ∷ []) ≡ None
+no_recovered_tag Event = refl
+no_recovered_tag Site = refl
+no_recovered_tag Date = refl
+no_recovered_tag Round = refl
+no_recovered_tag White = refl
+no_recovered_tag Black = refl
+
 live_by : (rotated recovers : Bool) (arguments : List Text) → Finds arguments (codes "live") (live_rows rotated recovers)
-    → AsksToAttend arguments (setting_of (plain_setup rotated)) recovers
+    → AsksToAttend arguments (plain_setup rotated) recovers
 live_by false false arguments finds = (
   live_rows false false,
   asks_by arguments (codes "live") (live_rows false false) finds refl,
-  sets_board_up_plainly (live_rows false false) false refl refl refl,
+  sets_up_plainly (live_rows false false) false refl refl refl (no_live_tag false false),
   refl,
 )
 live_by true false arguments finds = (
   live_rows true false,
   asks_by arguments (codes "live") (live_rows true false) finds refl,
-  sets_board_up_plainly (live_rows true false) true refl refl refl,
+  sets_up_plainly (live_rows true false) true refl refl refl (no_live_tag true false),
   refl,
 )
 live_by false true arguments finds = (
   live_rows false true,
   asks_by arguments (codes "live") (live_rows false true) finds refl,
-  sets_board_up_plainly (live_rows false true) false refl refl refl,
+  sets_up_plainly (live_rows false true) false refl refl refl no_recovered_tag,
   refl,
 )
 live_by true true arguments finds = (
   live_rows true true,
   asks_by arguments (codes "live") (live_rows true true) finds refl,
-  sets_board_up_plainly (live_rows true true) true refl refl refl,
+  sets_up_plainly (live_rows true true) true refl refl refl (no_live_tag true true),
   refl,
 )
 
-pub live_asks : (rotated recovers : Bool) (arguments : List Text) → IsLive rotated recovers arguments → AsksToAttend arguments (setting_of (plain_setup rotated)) recovers
+pub live_asks : (rotated recovers : Bool) (arguments : List Text) → IsLive rotated recovers arguments → AsksToAttend arguments (plain_setup rotated) recovers
 live_asks false false arguments (name, is) =
-    let P : List Text → Type 0 = λ w. AsksToAttend w (setting_of (plain_setup false)) false in
+    let P : List Text → Type 0 = λ w. AsksToAttend w (plain_setup false) false in
     subst P (sym is) (live_by false false (name ∷ codes "live" ∷ []) (plain_live name))
 live_asks true false arguments (name, is) =
-    let P : List Text → Type 0 = λ w. AsksToAttend w (setting_of (plain_setup true)) false in
+    let P : List Text → Type 0 = λ w. AsksToAttend w (plain_setup true) false in
     subst P (sym is) (live_by true false (name ∷ codes "live" ∷ codes "--rotated" ∷ []) (turned_live name))
 live_asks false true arguments (name, is) =
-    let P : List Text → Type 0 = λ w. AsksToAttend w (setting_of (plain_setup false)) true in
+    let P : List Text → Type 0 = λ w. AsksToAttend w (plain_setup false) true in
     subst P (sym is) (live_by false true (name ∷ codes "live" ∷ codes "--recover" ∷ []) (recovered_live name))
 live_asks true true arguments (name, is) =
-    let P : List Text → Type 0 = λ w. AsksToAttend w (setting_of (plain_setup true)) true in
+    let P : List Text → Type 0 = λ w. AsksToAttend w (plain_setup true) true in
     subst P (sym is) (live_by true true (name ∷ codes "live" ∷ codes "--rotated" ∷ codes "--recover" ∷ []) (turned_recovered_live name))

@@ -77,9 +77,9 @@ add_app = with_edit (codes "line") (new_app (codes "add"))
 abbrev pub back_app : App
 back_app = with_edit (codes "to") (new_app (codes "back"))
 
--- how a board stands, where its game starts, and whether it is recovered
+-- how a board stands, where its game starts, whether it is recovered, and the tags of its text
 abbrev pub live_app : App
-live_app = with_rule (with_board (new_app (codes "live"))) recover_rule
+live_app = with_tags (with_rule (with_board (new_app (codes "live"))) recover_rule)
 
 -- a version, and a subcommand that must be given
 abbrev pub with_version : App → App

@@ -94,7 +94,7 @@ pub record WantsEdit (name : Text) (rows : List Row) (options : EditArguments) :
 
 -- So are those of the arguments by which a board is attended.
 pub record WantsLive (rows : List Row) (options : LiveArguments) : Type 0 where
-  pub board : WantsBoard rows options.board
+  pub game : Wants rows options.game
   pub recovers : (recovers : Bool) → one_of (codes "recover") rows ≡ Some (flag_text recovers) → options.recovers ≡ recovers
 
 -- The tags have the values that are given.

@@ -118,8 +118,8 @@ AsksToGoBack arguments setting recovers to = (rows : List Row) × Asks arguments
     × (one_of (codes "recover") rows ≡ Some (flag_text recovers)) × (first_of (codes "to") rows ≡ to)
 
 -- The arguments ask that a board be attended whose game is set up so, and is recovered or not.
-abbrev pub AsksToAttend : List Text → Setting → Bool → Type 0
-AsksToAttend arguments setting recovers = (rows : List Row) × Asks arguments (codes "live") rows × SetsBoardUp rows setting
+abbrev pub AsksToAttend : List Text → Setup → Bool → Type 0
+AsksToAttend arguments setup recovers = (rows : List Row) × Asks arguments (codes "live") rows × SetsUp rows setup
     × (one_of (codes "recover") rows ≡ Some (flag_text recovers))
 
 -- The arguments ask for the moves of this position.

@@ -76,8 +76,8 @@ pub struct EditArguments<'a> {
 /// How a board that a host records is to be attended.
 #[derive(Clone, Copy)]
 pub struct LiveArguments<'a> {
-    /// How it stands, and where its game starts.
-    pub board: BoardArguments<'a>,
+    /// How its game is set up: as a recording is.
+    pub game: RecordArguments<'a>,
     /// Whether the moves that no picture showed are recovered.
     pub recovers: bool,
 }
@@ -180,11 +180,11 @@ fn live_arguments_of<'a>(matches: &ArgMatches<'a>) -> Option<LiveArguments<'a>>
     ensures wants { IfSome result (λ options. WantsLive (rows_of (found_of matches.now)) options) }
     ensures known { is_some result ≡ is_some (side_in (first_value (found_of matches.now) (codes "first"))) }
 {
-    let Some(board) = board_arguments_of(matches) else {
+    let Some(game) = record_arguments_of(matches) else {
         return None;
     };
     let recovers = matches.get_flag("recover");
-    Some(LiveArguments { board, recovers })
+    Some(LiveArguments { game, recovers })
 }
 
 fn subcommand_named<'a>(name: &str, matches: &ArgMatches<'a>) -> Option<Subcommand<'a>>

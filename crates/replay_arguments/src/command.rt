@@ -231,7 +231,8 @@ fn live<'a>(alloc: Global) -> Result<Command<'a>, AllocError>
         "live",
         "Answers what a host tells on standard input, entry by entry, of a board that it records",
     );
-    with_recover(alloc, with_board(alloc, Ok(command)))
+    let command = with_recover(alloc, with_board(alloc, Ok(command)));
+    with_tags(alloc, command)
 }
 
 fn check<'a>(alloc: Global) -> Command<'a>

@@ -7,8 +7,8 @@ ghost use Rattle.replay_arguments.specs.Subcommands.{AreMistaken, AsksForHelp, A
 
 /// `record` asks for a recording from the initial position, with White's time first and unknown tags, turned where
 /// `--rotated` is given; `follow` asks that a game be followed that is set up so, `watch` that one be watched, and
-/// `recover` that one be recovered; `live` asks that such a board be attended, and its game recovered where `--recover`
-/// is given; `moves` asks for those of the initial position, and `positions` for those of a line from it; `show`,
+/// `recover` that one be recovered; `live` asks that such a board be attended, with unknown tags, and its game recovered where
+/// `--recover` is given; `moves` asks for those of the initial position, and `positions` for those of a line from it; `show`,
 /// `pictures`, `check` and `times` ask for what they are called.
 pub fn without_options()
     ensures shows { (arguments : List (List ℕ)) → IsShow arguments → AsksToShow arguments }
@@ -17,7 +17,7 @@ pub fn without_options()
     ensures follows { (rotated : Bool) (arguments : List (List ℕ)) → IsFollow rotated arguments → AsksToFollow arguments (setting_of (plain_setup rotated)) }
     ensures watches { (rotated : Bool) (arguments : List (List ℕ)) → IsWatch rotated arguments → AsksToWatch arguments (setting_of (plain_setup rotated)) }
     ensures recovers { (rotated : Bool) (arguments : List (List ℕ)) → IsRecover rotated arguments → AsksToRecover arguments (setting_of (plain_setup rotated)) }
-    ensures attends { (rotated recovers : Bool) (arguments : List (List ℕ)) → IsLive rotated recovers arguments → AsksToAttend arguments (setting_of (plain_setup rotated)) recovers }
+    ensures attends { (rotated recovers : Bool) (arguments : List (List ℕ)) → IsLive rotated recovers arguments → AsksToAttend arguments (plain_setup rotated) recovers }
     ensures checks { (arguments : List (List ℕ)) → IsCheck arguments → AsksToCheck arguments }
     ensures times { (arguments : List (List ℕ)) → IsTimes arguments → AsksForTimes arguments }
     ensures moves { (arguments : List (List ℕ)) → IsMoves arguments → AsksForMoves arguments initial }

@@ -15,6 +15,7 @@ fn answer(alloc: Global) -> Result<Vec<u8>, AllocError> {
     };
     let said = Said {
         handling: Some(Handling::Keep),
+        number: None,
         request: Some(Request::Dump),
         is_whole: true,
         state: Some(state),

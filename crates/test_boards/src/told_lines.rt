@@ -4,7 +4,8 @@ ghost use Rattle.std.specs.Prelude.{OnOk};
 ghost use Rattle.live_lines.specs.Recorder.{HasBegun};
 
 use crate::coded_frames::expect_none;
-use board_captures::Method;
+use board_events::Setup;
+use chess_game::{Tag, Tags};
 use chess_rules::Position;
 use dgt_frame::First;
 use dgt_vectors::captures::Signal::{Dump, Raw};
@@ -24,7 +25,7 @@ type Row<'a> = (
 const NUMBER: Signal<'static> = Raw(b"\x91\x00\x0801234");
 
 /// A call, and a second one 35 s later, in which another board is on the cable until the arbiter takes it.
-static ROWS: [Row<'static>; 14] = [
+static ROWS: [Row<'static>; 15] = [
     ("0 begin 0\n", &[], "", &[], "keep\nstate WAITS -\ndone -\n"),
     ("5 opened\n", &[], "", &[], "keep\nask EBK\ndone 1000\n"),
     (
@@ -32,7 +33,7 @@ static ROWS: [Row<'static>; 14] = [
         &[NUMBER],
         "kept 8\n",
         &[NUMBER],
-        "keep\ndone 910\n",
+        "keep\nnumber 01234\ndone 910\n",
     ),
     (
         "120 heard 67\n",
@@ -81,16 +82,28 @@ static ROWS: [Row<'static>; 14] = [
         "other 01235\ndone 950\n",
     ),
     ("300 lent\n", &[], "", &[], "other 01235\ndone 710\n"),
-    ("400 took\n", &[], "", &[], "keep\ndone 610\n"),
+    ("400 took\n", &[], "", &[], "keep\nnumber 01235\ndone 610\n"),
+    (
+        "500 text\n",
+        &[],
+        "",
+        &[],
+        "game 99\n[Event \"?\"]\n[Site \"?\"]\n[Date \"????.??.??\"]\n[Round \"?\"]\n[White \"Anna\"]\n[Black \"?\"]\n[Result \"*\"]\n\n*\n\nkeep\ndone 510\n",
+    ),
 ];
 
-fn method() -> Method {
-    Method {
+/// A board whose White is Anna.
+fn setup(alloc: Global) -> Result<Setup, AllocError> {
+    let mut tags = Tags::new(alloc);
+    let Ok(()) = tags.set(Tag::White, "Anna") else {
+        return Err(AllocError);
+    };
+    Ok(Setup {
         start: Position::initial(),
         first: First::White,
         rotated: false,
-        recovers: false,
-    }
+        tags,
+    })
 }
 
 fn text_of(
@@ -134,7 +147,7 @@ fn is_answered(alloc: Global, recorder: &mut Recorder, row: &Row<'_>) -> Result<
 
 /// The number of the first row that is answered otherwise, which is 1 for the first, or 0.
 fn first_unlike(alloc: Global, rows: &[Row<'_>]) -> Result<usize, AllocError> {
-    let mut recorder = Recorder::new(alloc, &method());
+    let mut recorder = Recorder::new(alloc, setup(alloc)?, false);
     let mut first: usize = 0;
     let mut number: usize = 0;
     'each: for row in rows {

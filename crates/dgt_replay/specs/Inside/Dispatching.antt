@@ -43,8 +43,8 @@ Does (Add options) status s = ((setting : Setting) → MeetsBoard options.board 
     × (HasNoStart (given options.board.fen) → Refuses (RefusesStart (given options.board.fen)) status s)
 Does (Back options) status s = ((setting : Setting) → MeetsBoard options.board setting → TakesBack setting options.recovers (text_in (given options.text)) status s)
     × (HasNoStart (given options.board.fen) → Refuses (RefusesStart (given options.board.fen)) status s)
-Does (Live options) status s = ((setting : Setting) → MeetsBoard options.board setting → AttendsBoard setting options.recovers status s)
-    × (HasNoStart (given options.board.fen) → Refuses (RefusesStart (given options.board.fen)) status s)
+Does (Live options) status s = ((setup : Setup) → Meets options.game setup → AttendsBoard setup options.recovers status s)
+    × (MeetsNothing options.game → Refuses (RefusesSetup (given options.game.board.fen) (tag_text options.game)) status s)
 Does Check status s = Checks status s
 Does Times status s = TellsTimes status s
 Does (Moves fen) status s = Prints (given fen) status s

@@ -1,7 +1,7 @@
 -- How far a recorder has come with what it reads.
 use Rattle.std.specs.Prelude.{◌≡◌, ◌≢◌, ℕ, Bool, true, false, List, [], ◌++◌, Option}
 use Rattle.std.specs.Io.KnownBytes.{Appends, Consumes, IsAtEnd, Keeps}
-use Rattle.board_events.specs.Settings.{Setting}
+use Rattle.board_events.specs.declared.setup.Setup.{Setup}
 use Rattle.watched_streams.specs.Output.{AppendsPart}
 use Rattle.live_lines.specs.declared.recorder.Recorder.{Recorder}
 use Rattle.live_lines.specs.declared.stream.AttendError.{AttendError}
@@ -12,47 +12,47 @@ use Rattle.live_lines.specs.Recorder.{StandsFor}
 use Rattle.live_lines.specs.Streams.{AreTold, Attends, AttendsAll, Writes, told_text}
 
 -- It has taken all entries of a text, and this is written of them.
-pub record HasAttended (recorder : Recorder) (setting : Setting) (recovers : Bool) (text said : List ℕ) : Type 0 where
+pub record HasAttended (recorder : Recorder) (setup : Setup) (recovers : Bool) (text said : List ℕ) : Type 0 where
   pub past : List Heard
   pub report : List ℕ
-  pub stands : StandsFor recorder setting recovers past report
+  pub stands : StandsFor recorder setup recovers past report
   pub entries : text ≡ told_text past
   pub told : AreTold past
-  pub writes : Writes setting recovers past report said
+  pub writes : Writes setup recovers past report said
 
 -- It has taken the first entries of a text too, and what they are answered was written; this is left of it.
-abbrev pub GoesOn : Recorder → Setting → Bool → List ℕ → List ℕ → List ℕ → List ℕ → Option (List ℕ) → Option (List ℕ) → Type 0
-GoesOn recorder setting recovers before said text rest written written' = (first more : List ℕ) × (text ≡ first ++ rest)
-    × HasAttended recorder setting recovers (before ++ first) (said ++ more) × Appends written written' more
+abbrev pub GoesOn : Recorder → Setup → Bool → List ℕ → List ℕ → List ℕ → List ℕ → Option (List ℕ) → Option (List ℕ) → Type 0
+GoesOn recorder setup recovers before said text rest written written' = (first more : List ℕ) × (text ≡ first ++ rest)
+    × HasAttended recorder setup recovers (before ++ first) (said ++ more) × Appends written written' more
 
 -- The first entries of a text were answered.
-abbrev pub Answered : Setting → Bool → List ℕ → List ℕ → List ℕ → List ℕ → Option (List ℕ) → Option (List ℕ) → Type 0
-Answered setting recovers before said text rest written written' = (first more : List ℕ) × (text ≡ first ++ rest)
-    × Attends setting recovers (before ++ first) (said ++ more) × Appends written written' more
+abbrev pub Answered : Setup → Bool → List ℕ → List ℕ → List ℕ → List ℕ → Option (List ℕ) → Option (List ℕ) → Type 0
+Answered setup recovers before said text rest written written' = (first more : List ℕ) × (text ≡ first ++ rest)
+    × Attends setup recovers (before ++ first) (said ++ more) × Appends written written' more
 
 -- So it breaks off within a text.
-abbrev pub BreaksOff : AttendError → Setting → Bool → List ℕ → List ℕ → List ℕ → Option (List ℕ) → Option (List ℕ) → Type 0
-BreaksOff Memory setting recovers before said text written written' = (rest : List ℕ) × Answered setting recovers before said text rest written written'
-BreaksOff NoEntry setting recovers before said text written written' = (rest : List ℕ) × (rest ≢ []) × IsWrong rest
-    × Answered setting recovers before said text rest written written'
-BreaksOff Write setting recovers before said text written written' = (first rest more : List ℕ) × (text ≡ first ++ rest)
-    × Attends setting recovers (before ++ first) (said ++ more) × AppendsPart written written' more
-BreaksOff Read setting recovers before said text written written' = ⊥
-BreaksOff TooLong setting recovers before said text written written' = ⊥
+abbrev pub BreaksOff : AttendError → Setup → Bool → List ℕ → List ℕ → List ℕ → Option (List ℕ) → Option (List ℕ) → Type 0
+BreaksOff Memory setup recovers before said text written written' = (rest : List ℕ) × Answered setup recovers before said text rest written written'
+BreaksOff NoEntry setup recovers before said text written written' = (rest : List ℕ) × (rest ≢ []) × IsWrong rest
+    × Answered setup recovers before said text rest written written'
+BreaksOff Write setup recovers before said text written written' = (first rest more : List ℕ) × (text ≡ first ++ rest)
+    × Attends setup recovers (before ++ first) (said ++ more) × AppendsPart written written' more
+BreaksOff Read setup recovers before said text written written' = ⊥
+BreaksOff TooLong setup recovers before said text written written' = ⊥
 
 -- So far it has come with its input: these entries were answered, and this waits.
-pub record HasCome (recorder : Recorder) (setting : Setting) (recovers : Bool) (text : List ℕ) (input input' written written' : Option (List ℕ)) : Type 0 where
+pub record HasCome (recorder : Recorder) (setup : Setup) (recovers : Bool) (text : List ℕ) (input input' written written' : Option (List ℕ)) : Type 0 where
   pub first : List ℕ
   pub said : List ℕ
-  pub attended : HasAttended recorder setting recovers first said
+  pub attended : HasAttended recorder setup recovers first said
   pub waits : IsUnfinished text
   pub reads : Consumes input input' (first ++ text)
   pub writes : Appends written written' said
 
 -- There was more, or all of the input was answered.
-abbrev pub ComesOn : Bool → Recorder → Setting → Bool → List ℕ → Option (List ℕ) → Option (List ℕ) → Option (List ℕ) → Option (List ℕ) → Type 0
-ComesOn true recorder setting recovers text input input' written written' = HasCome recorder setting recovers text input input' written written'
-ComesOn false recorder setting recovers text input input' written written' = AttendsAll setting recovers input written written'
+abbrev pub ComesOn : Bool → Recorder → Setup → Bool → List ℕ → Option (List ℕ) → Option (List ℕ) → Option (List ℕ) → Option (List ℕ) → Type 0
+ComesOn true recorder setup recovers text input input' written written' = HasCome recorder setup recovers text input input' written written'
+ComesOn false recorder setup recovers text input input' written written' = AttendsAll setup recovers input written written'
 
 -- Bytes were read and stand behind a text; or there is no more.
 abbrev pub ReadsOn : Bool → List ℕ → List ℕ → Option (List ℕ) → Option (List ℕ) → Type 0

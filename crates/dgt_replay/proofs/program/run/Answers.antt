@@ -160,24 +160,24 @@ returns-in-Ok-clause-back_refuses g c rows asks none =
     does_refuse_back arguments c.in-Ok.subcommand c.dispatch.result _ c.in-Ok.ensures.chooses c.dispatch.ensures.does rows asks none
 
 pub returns-in-Err-clause-live : goal.returns-in-Err-clause-live
-returns-in-Err-clause-live g c setting recovers asks =
+returns-in-Err-clause-live g c setup recovers asks =
     let arguments = map string_bytes c.args.arguments.now in
-    attends_memory setting recovers _ _ (lacks_memory _ _ (Keeps-refl (g.R.Read.remaining (inner_of c.args.reader.now))) c.requires.reading (c.refused_arguments.ensures.memory (or_refused c.in-Err.ensures.refused (unrefused arguments (codes "live") asks.0 asks.1))))
+    attends_memory setup recovers _ _ (lacks_memory _ _ (Keeps-refl (g.R.Read.remaining (inner_of c.args.reader.now))) c.requires.reading (c.refused_arguments.ensures.memory (or_refused c.in-Err.ensures.refused (unrefused arguments (codes "live") asks.0 asks.1))))
 
 pub returns-in-Ok-clause-live : goal.returns-in-Ok-clause-live
-returns-in-Ok-clause-live g c setting recovers asks =
+returns-in-Ok-clause-live g c setup recovers asks =
     let arguments = map string_bytes c.args.arguments.now in
-    does_attend arguments c.in-Ok.subcommand c.dispatch.result _ c.in-Ok.ensures.chooses c.dispatch.ensures.does setting recovers asks
+    does_attend arguments c.in-Ok.subcommand c.dispatch.result _ c.in-Ok.ensures.chooses c.dispatch.ensures.does setup recovers asks
 
 pub returns-in-Err-clause-live_refuses : goal.returns-in-Err-clause-live_refuses
-returns-in-Err-clause-live_refuses g c rows asks none =
+returns-in-Err-clause-live_refuses g c rows asks nothing =
     let arguments = map string_bytes c.args.arguments.now in
-    refuses_memory (RefusesStart (first_of (codes "fen") rows)) _ _ (lacks_memory _ _ (Keeps-refl (g.R.Read.remaining (inner_of c.args.reader.now))) c.requires.reading (c.refused_arguments.ensures.memory (or_refused c.in-Err.ensures.refused (unrefused arguments (codes "live") rows asks))))
+    refuses_memory (RefusesSetup (first_of (codes "fen") rows) (λ tag. first_of (option_of tag) rows)) _ _ (lacks_memory _ _ (Keeps-refl (g.R.Read.remaining (inner_of c.args.reader.now))) c.requires.reading (c.refused_arguments.ensures.memory (or_refused c.in-Err.ensures.refused (unrefused arguments (codes "live") rows asks))))
 
 pub returns-in-Ok-clause-live_refuses : goal.returns-in-Ok-clause-live_refuses
-returns-in-Ok-clause-live_refuses g c rows asks none =
+returns-in-Ok-clause-live_refuses g c rows asks nothing =
     let arguments = map string_bytes c.args.arguments.now in
-    does_refuse_live arguments c.in-Ok.subcommand c.dispatch.result _ c.in-Ok.ensures.chooses c.dispatch.ensures.does rows asks none
+    does_refuse_live arguments c.in-Ok.subcommand c.dispatch.result _ c.in-Ok.ensures.chooses c.dispatch.ensures.does rows asks nothing
 
 pub returns-in-Err-clause-check : goal.returns-in-Err-clause-check
 returns-in-Err-clause-check g c is =

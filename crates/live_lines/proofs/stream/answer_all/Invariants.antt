@@ -1,5 +1,5 @@
 use Rattle.std.proofs.Common.{◌≡◌, ℕ, Bool, false, List, length}
-use Rattle.board_events.specs.Settings.{Setting}
+use Rattle.board_events.specs.declared.setup.Setup.{Setup}
 use Rattle.watched_streams.specs.Watch.{IsFlushed, inner_of, has_failed}
 use Rattle.live_lines.specs.Inside.Progress.{GoesOn, HasAttended}
 use Rattle.live_lines.specs.Recorder.{HasBegun}
@@ -10,8 +10,8 @@ invariant-entries g l = record {
   working : has_failed l.out ≡ false;
   begun : HasBegun l.recorder;
   flushed : IsFlushed l.fn.out → IsFlushed l.out;
-  attended : (setting : Setting) (recovers : Bool) (before said : List ℕ) → HasAttended l.fn.recorder setting recovers before said
-      → GoesOn l.recorder setting recovers before said l.text l.left (g.O.Write.contents (inner_of l.fn.out)) (g.O.Write.contents (inner_of l.out));
+  attended : (setup : Setup) (recovers : Bool) (before said : List ℕ) → HasAttended l.fn.recorder setup recovers before said
+      → GoesOn l.recorder setup recovers before said l.text l.left (g.O.Write.contents (inner_of l.fn.out)) (g.O.Write.contents (inner_of l.out));
 }
 
 abbrev pub decreases-entries : goal.decreases-entries

@@ -1,5 +1,4 @@
 use Rattle.std.proofs.Common.{◌≡◌, false}
-use Rattle.board_captures.specs.Reading.{setting_of}
 use Rattle.watched_streams.specs.Watch.{IsFlushed, inner_of, has_failed}
 use Rattle.live_lines.specs.Inside.Progress.{HasCome}
 use Rattle.live_lines.specs.Recorder.{HasBegun}
@@ -11,6 +10,6 @@ invariant-reads g l = record {
   working : has_failed l.out ≡ false;
   flushed : IsFlushed l.out;
   begun : HasBegun l.recorder;
-  come : HasCome l.recorder (setting_of l.method) l.method.recovers l.text.items (g.R.Read.remaining (inner_of l.fn.reader)) (g.R.Read.remaining (inner_of l.reader))
+  come : HasCome l.recorder l.fn.setup l.recovers l.text.items (g.R.Read.remaining (inner_of l.fn.reader)) (g.R.Read.remaining (inner_of l.reader))
       (g.O.Write.contents (inner_of l.fn.out)) (g.O.Write.contents (inner_of l.out));
 }

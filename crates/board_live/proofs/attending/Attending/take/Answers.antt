@@ -1,11 +1,13 @@
-use Rattle.std.proofs.Common.{◌∷◌, sym, ap, subst, ◌∙◌}
+use Rattle.std.proofs.Common.{◌∷◌, ℕ, List, Option, sym, ap, subst, ◌∙◌}
 use Rattle.board_asking.specs.Silence.{is_silent}
+use Rattle.board_asking.specs.Whose.{own_number}
 use Rattle.board_cable.specs.Cable.{StandsFor}
 use Rattle.board_cable.specs.declared.happened.Happened.{Happened}
 use Rattle.board_cable.specs.Moments.{moment_of as cable_moment_of}
 use Rattle.board_cable.specs.Turns.{Told, Turn, told}
 use Rattle.board_live.specs.Coming.{silence}
 use Rattle.board_live.specs.Moments.{Moment, cabled, moment_of}
+use Rattle.board_live.specs.Numbers.{number_news}
 use Rattle.board_live.proofs.TakeLemmas.{kept_more}
 use Rattle.board_live.proofs.attending.Attending.take.Goals as goal
 
@@ -33,6 +35,9 @@ returns-clause-tells c past turn turns attends h =
     record {
       request = answers.request;
       handling = answers.handling;
+      number = c.number_news-number.ensures
+          ∙ ap (λ (own : Option (List ℕ)). number_news c.args.happened.what own c.serial-serial.result) (c.serial-own.ensures (cabled past) turns attends.cable h.0)
+          ∙ ap (λ (own : Option (List ℕ)). number_news c.args.happened.what (own_number (told turns)) own) (c.serial-serial.ensures (cabled (m ∷ past)) (turn ∷ turns) now h);
       silence = c.silence-silence.ensures
           ∙ ap (λ b. silence c.args.happened.what b c.is_silent-after.result) (c.is_silent-before.ensures (cabled past) turns attends.cable h.0)
           ∙ ap (λ b. silence c.args.happened.what (is_silent (told turns)) b) (c.is_silent-after.ensures (cabled (m ∷ past)) (turn ∷ turns) now h);

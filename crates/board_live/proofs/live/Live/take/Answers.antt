@@ -61,6 +61,7 @@ returns-clause-answers c = λ setting recovers past text turn turns s h.
     record {
       request = tells.request;
       handling = tells.handling;
+      number = tells.number;
       last = c.say-state.new.self.last;
       said = said.1;
       whole = (λ t. subst R keeps (room.0 t), λ r. room.1 (subst R (sym keeps) r));
