@@ -36,9 +36,10 @@ class AttendedGame:
     def __init__(self, guard: Guard, game: Game, hears: HearsGame) -> None:
         self._guard, self.game, self._hears_game = guard, game, hears
         self._late: List[Tuple[float, List[str]]] = []  # lines whose bytes wait to be written
+        self._is_news = False  # whether the state may be another one than the one that is shown
         self._has_lost = False  # bytes that can't be written any more, which the program has
         self._patience: Optional[Timer] = None
-        self._is_closed = False
+        self._is_ending = self._is_closed = False
 
     def attend(self, words: Tuple[str, ...], start: int = 0, with_times: bool = False, known: int = 0) -> None:
         """The program reads what is kept from an offset on. The first lines of its report, so many, are known."""
@@ -52,9 +53,9 @@ class AttendedGame:
         self.attending.tell(HEARD, sent)
 
     def lent(self, sent: bytes) -> None:
-        """The game's board has sent this on another game's cable. The board on this one isn't asked because of it."""
+        """The game's board has sent this on another game's cable."""
         self._keep(self._guard.now(), sent)
-        self.attending.tell(ADDED, sent, is_sent=False)
+        self.attending.tell(ADDED, sent)
 
     # What is answered.
 
@@ -66,16 +67,19 @@ class AttendedGame:
         if self._is_closed:
             return
         if answer.report:
+            self._is_news = True
             if self.game.capture.waits or self._late:
                 self._late.append((told.at, answer.report))
             else:
                 self._reports(told.at, answer.report)
         if self._is_closed:
             return
-        if answer.stood and self.standing:
+        if answer.stood and self.standing and not self._is_ending:
+            self._is_news = True
             self.standing.stands(told.at, answer.stood)
         self._is_through()
-        if self.standing and self.attending.is_settled:
+        if self._is_news and self.standing and self.attending.is_settled:
+            self._is_news = False
             self.standing.show()
 
     def _keep(self, at: float, sent: bytes) -> None:
@@ -138,6 +142,7 @@ class AttendedGame:
                 self._patience = None
                 done()
 
+        self._is_ending = True  # that the line is closed now is no state of the board
         self._patience = self._guard.after(PATIENCE, late)
         self.attending.then(ended)
 

@@ -3,20 +3,24 @@ program decides when the board is asked and whose board it is."""
 
 from __future__ import annotations
 
-from typing import List, Optional, Protocol
+from typing import TYPE_CHECKING, List, Optional, Protocol
 
 from live.board.asked_first import AskedFirst
 from live.board.standing import Standing
 from live.board.state import Kind
 from live.device.connection import Connection
 from live.device.protocol import NUMBER_SIZE, number_in
-from live.game.attended import KEEP, LENT, OTHER, Answer
-from live.game.attending import Told
+from live.game.attended import KEEP, LENT, OTHER, WAKE, Answer
+from live.game.attending import OF_THE_LINE, Told
 from live.game.files import MEMORY
-from live.game.times import HEARD, OPENED, TOOK
+from live.game.program import Program
+from live.game.times import CALLED, HEARD, OPENED, TOOK
 from live.guard import Guard
 from live.refused import ANOTHER_CALL, printable
 from live.terminal.screen import Screen
+
+if TYPE_CHECKING:
+    from live.board.another_board import AnotherBoard
 
 NO_BOARD = (Kind.WAITS, Kind.UNPLUGGED)  # states that don't say whether the board answers
 
@@ -57,15 +61,17 @@ class Cable:
     """The state of a board's line. If it listens `once`, a board that goes away isn't waited for. What a board with another number
     sends is lent to the game that has this board; if there is none, it is kept back."""
 
-    def __init__(self, guard: Guard, screen: Screen, device: str, once: bool, number: str, hears: HearsCable,
+    def __init__(self, guard: Guard, program: Program, screen: Screen, device: str, once: bool, number: str, hears: HearsCable,
                  asked: Optional[AskedFirst] = None) -> None:  # fmt: skip
-        self._guard, self._screen, self._device, self._once, self._hears = guard, screen, device, once, hears
+        self._guard, self._program, self._screen, self._hears = guard, program, screen, hears
+        self._device, self._once = device, once
         self._unplugged = self._silent = self._was_plugged = False
         self._unplugged_at = 0.0
         self.number = number  # of the game's board; empty if unknown
         self.other = ""  # the number of the board on the cable, if it is another board
         self._told_other = ""  # that of the one that was last reported, while it is on the cable
         self._last = b""  # bytes in which a number may begin
+        self._another: Optional[AnotherBoard] = None  # while another board is on it
         self._unsure: List[bytes] = []  # what came while it isn't known whose it is
         self._foreign: List[bytes] = []  # what another board has sent and no game has taken
         self._asked = asked  # before its game was open
@@ -114,25 +120,32 @@ class Cable:
 
     def happened(self, what: str, count: Optional[int] = None) -> None:
         """This happens on the line."""
+        if what in OF_THE_LINE:
+            self._leave_another()
         self._hears.happened(what, count)
 
     def came(self, sent: bytes) -> None:
         """The board has sent this."""
-        self._hears.heard(sent)
+        if self._another:
+            self._another.came(sent)
+        else:
+            self._hears.heard(sent)
 
     # What the program answers.
 
     def answered(self, told: Told, answer: Answer) -> None:
         """Sends the board what is asked for, and does with what it has sent what the program says."""
-        if answer.asked and told.is_sent:
-            self._connection.ask(answer.asked)
+        if self._another:  # it was told this before
+            if told.what == HEARD:
+                self._is_foreign([told.sent])
+            return
+        self._asks(answer)
         number = ""
         if told.what == OPENED:
             self._last = b""
             self._unsure.clear()
         elif told.what == HEARD:
-            text = self._last + told.sent
-            number, self._last = number_in(text), text[1 - NUMBER_SIZE :]
+            number = self._number_in(told.sent)
             if answer.handling != KEEP:
                 keep(self._unsure, told.sent)
         if not self.number and (answer.number or number):
@@ -140,32 +153,76 @@ class Cable:
         if answer.handling == OTHER and answer.other != self.number:  # else it was taken meanwhile
             self._has_other(answer.other)
         elif answer.handling == KEEP:
-            self._has_own(number)
+            self._unsure.clear()
+            if number == self.number:
+                self._is_back()
+
+    def of_another(self, told: Told, answer: Answer) -> None:
+        """The same of what another board sends, or perhaps the game's own again."""
+        self._asks(answer)
+        if told.what == HEARD:
+            keep(self._unsure, told.sent)
+        elif told.what != WAKE:
+            return  # its line isn't open yet
+        if answer.handling == OTHER and answer.other == self.other:
+            unsure, self._unsure = self._unsure, []
+            self._is_foreign(unsure)
+        elif answer.handling in (KEEP, OTHER):
+            self._goes_on()
+
+    def _asks(self, answer: Answer) -> None:
+        if answer.asked:
+            self._connection.ask(answer.asked)
         if answer.stood:
             self._stands(Kind.of(answer.stood.kind))
 
+    def _number_in(self, sent: bytes) -> str:
+        """The serial number that has come with these bytes, if one has."""
+        text = self._last + sent
+        self._last = text[1 - NUMBER_SIZE :]
+        return number_in(text)
+
     def _has_other(self, number: str) -> None:
-        """The board with this number is on the cable."""
+        """The board with this number is on the cable. The game's own may be on another one, so another child attends this one."""
+        from live.board.another_board import AnotherBoard  # few cables need it
+
         self.other = number
+        self._hears.happened(CALLED)
+        self._hears.happened(LENT)
+        self._another = AnotherBoard(self._guard, self._program, self.number, self)
         if number != self._told_other:
             self._told_other = number
             self._foreign.clear()
             self._hears.another(number)
             self._hears.missing()
-        for sent in self._unsure:
-            keep(self._foreign, sent)
-        self._unsure.clear()
-        count = len(self._foreign)
-        while self._foreign and self._hears.lends(number, self._foreign[0]):
-            self._foreign.pop(0)
-        if count and not self._foreign:
-            self._hears.happened(LENT)
+        unsure, self._unsure = self._unsure, []
+        self._is_foreign(unsure)
 
-    def _has_own(self, number: str) -> None:
-        """The game's board is on the cable, as far as is known. It may have given its number just now."""
+    def _is_foreign(self, sent: List[bytes]) -> None:
+        """The other board has sent this. What no game takes is kept back."""
+        for one in sent:
+            keep(self._foreign, one)
+        while self._foreign and self._hears.lends(self.other, self._foreign[0]):
+            self._foreign.pop(0)
+
+    def _leave_another(self) -> None:
+        """The other board isn't attended any more."""
+        another, self._another = self._another, None
         self.other = ""
-        self._unsure.clear()
-        if self._told_other and number == self.number:
+        if another:
+            another.close()
+
+    def _goes_on(self) -> None:
+        """The program that attends the game hears the cable again: its own board is there, or a third one."""
+        self._leave_another()
+        unsure, self._unsure = self._unsure, []
+        self._hears.happened(OPENED)
+        if unsure:
+            self._hears.heard(b"".join(unsure))
+
+    def _is_back(self) -> None:
+        """The game's own board has given its number."""
+        if self._told_other:
             before, self._told_other = self._told_other, ""
             self._foreign.clear()
             self._hears.back(before)
@@ -179,9 +236,11 @@ class Cable:
         """From now on the board on the cable is the game's, with all that it has sent."""
         if self.other:
             self._is_own(self.other)
-            self.other = self._told_other = ""
-            self._foreign.clear()
+            self._told_other = ""
             self._hears.happened(TOOK)
+            self._unsure = [*self._foreign, *self._unsure]
+            self._foreign = []
+            self._goes_on()
 
     def _stands(self, kind: Kind) -> None:
         """The board stands so: it is silent, or answers, or nothing is known of that."""

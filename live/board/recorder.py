@@ -63,7 +63,7 @@ class Recorder:
         self._closes: Optional[Resume] = None  # a typed line that waits until its game is closed
         self._waits_to_end = Lingering(guard, plan.rules.linger, self.end)
         number = plan.serial or kept_serial(opened.game.paths)
-        self._cable = Cable(guard, screen, plan.device, plan.once, number, self, asked)
+        self._cable = Cable(guard, opened.game.program, screen, plan.device, plan.once, number, self, asked)
         self.now: Union[Recording, SettingUp, Listening, None] = None  # what takes the board's bytes
         self._take(opened.game, opened.close)
         if plan.serial:

@@ -11,6 +11,7 @@ KEPT, CAPTURE, NUMBER, LENT, WAKE = "kept", "capture", "number", "lent", "wake" 
 KEEP, HOLD, OTHER = "keep", "hold", "other"
 HINTS = ("TURNED-ROUND", "OTHER-BOARD")
 KEPT_LINE = b"kept "
+OFTEN = re.compile(rb"keep\n(?:ask ([A-Z]+)\n)?done ([0-9]+|-)\n")  # the end of most answers
 HISTORY_ENDS = b"done -"  # the answer to a capture
 NO_HISTORY = re.compile(rb"^[^0-9d]", re.MULTILINE)  # a line that isn't in such an answer
 
@@ -64,6 +65,13 @@ class Answers:
         if self._known and not NO_HISTORY.search(come):
             found, at = self._skip(come)
         while (end := come.find(b"\n", at)) >= 0:
+            often = OFTEN.match(come, at)
+            if often:
+                answer, self._answer = self._answer, Answer()
+                answer.handling, answer.asked, answer.due = KEEP, often.group(1) or b"", _span(often.group(2).decode())
+                found.append(answer)
+                at = often.end()
+                continue
             behind = end + 1
             if come.startswith(KEPT_LINE, at):
                 behind += int(come[at + len(KEPT_LINE) : end])

@@ -5,7 +5,7 @@ from __future__ import annotations
 import collections
 import math
 import os
-from dataclasses import dataclass, field, replace
+from dataclasses import dataclass, replace
 from typing import Deque, List, Optional, Protocol, Tuple, Union
 
 from live.game import times
@@ -18,18 +18,18 @@ from live.loop import Callback, Loop, Timer
 
 PIECE = 64 * 1024  # bytes of a capture that are told at once: the report of a piece is in the program's memory as a whole
 MOST_WITH_TIMES = 4 * 1024 * 1024  # bytes of a capture that is told with its times, and so as a whole
+LATER = 0.01  # seconds after the time that it named it is woken: two times that are close are one
 OF_THE_LINE = (times.OPENED, times.ANSWERED, times.GONE, times.CALLED)
 
 
-@dataclass
 class Told:
     """Something that was told: when, by the loop; what, and the bytes with it; and what is called once it is answered."""
 
-    at: float
-    what: str
-    sent: bytes = b""
-    is_sent: bool = True  # whether the board is sent what is asked for then
-    thens: List[Callback] = field(default_factory=list)
+    __slots__ = ("at", "what", "sent", "thens")
+
+    def __init__(self, at: float, what: str, sent: bytes = b"") -> None:
+        self.at, self.what, self.sent = at, what, sent
+        self.thens: List[Callback] = []
 
 
 class HearsAnswers(HearsChild, Protocol):
@@ -72,13 +72,14 @@ class Attending(Child):
         self._began = 0  # when its call began, by its clock
         self._slept = -math.inf  # the seconds by which that is ahead of the loop's, which stands still while the computer sleeps
         self._away = guard.away.seconds
-        self._due: Optional[Timer] = None
+        self._due = math.inf  # when it is to be woken
+        self._timer: Optional[Timer] = None  # which may come before that
         self._is_paused = self._is_due = False
         self.start()
 
     # What it is told.
 
-    def tell(self, what: str, sent: bytes = b"", count: Optional[int] = None, is_sent: bool = True) -> None:
+    def tell(self, what: str, sent: bytes = b"", count: Optional[int] = None) -> None:
         """This happens now."""
         if self._guard.away.seconds > self._away:
             before, self._away = self._away, self._guard.away.seconds
@@ -87,7 +88,7 @@ class Attending(Child):
             self._line = times.line_after(self._line, what)
         elif what == NUMBER:
             self.numbered(sent.decode("ascii"))
-        self._tell(Told(self._guard.now(), what, sent, is_sent), count)
+        self._tell(Told(self._guard.now(), what, sent), count)
         self._feed()
 
     def numbered(self, number: str) -> None:
@@ -235,24 +236,33 @@ class Attending(Child):
 
     def _wake_at(self, at: float, due: Optional[int]) -> None:
         """It wants to be woken so many milliseconds after this time; another answer says it anew."""
-        if self._due:
-            self._due.cancel()
-            self._due = None
         self._is_due = False
-        if due is not None and not self._told:
-            self._due = self._guard.at(at + due / 1000, self._wakes)
+        if due is None or self._told:
+            self._due = math.inf
+            return
+        self._due = at + due / 1000 + LATER
+        if self._timer and self._timer.when > self._due:
+            self._timer.cancel()
+            self._timer = None
+        if self._timer is None:
+            self._timer = self._guard.at(self._due, self._comes)
+
+    def _comes(self) -> None:
+        """The time has come that was named, or one before it."""
+        self._timer = None
+        if self._due <= self._guard.now():
+            self._wakes()
+        elif self._due < math.inf:
+            self._timer = self._guard.at(self._due, self._comes)
 
     def _wakes(self) -> None:
-        self._due = None
-        if self._is_paused:
-            self._is_due = True
-        else:
-            self._is_due = False
+        self._due, self._is_due = math.inf, self._is_paused
+        if not self._is_paused:
             self.tell(WAKE)
 
     def close(self) -> None:
         """Ends it."""
-        if self._due:
-            self._due.cancel()
-            self._due = None
+        if self._timer:
+            self._timer.cancel()
+            self._timer = None
         super().close()

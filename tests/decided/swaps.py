@@ -6,6 +6,7 @@ from live.board.cable import Cable
 from live.board.standing import Standing
 from live.game.attended import KEEP, OTHER, Answer
 from live.game.attending import Told
+from live.game.program import Program
 from live.game.times import HEARD
 from live.guard import Guard
 from live.loop import Loop
@@ -14,6 +15,7 @@ from live.terminal.screen import Screen
 from decided.table import same
 
 ITS_OWN, THE_OTHER = "00001", "00002"
+NO_PROGRAM = Program("/dev/null")
 
 
 class Hears:
@@ -53,26 +55,28 @@ def told_at_once() -> None:
     """With the answer that says it, and once. The number of its own board is known before."""
     guard = Guard(Loop(), lambda error: None, lambda error: None)
     hears = Hears()
-    cable = Cable(guard, Screen(None), "/dev/none", False, ITS_OWN, hears)
+    cable = Cable(guard, NO_PROGRAM, Screen(None), "/dev/none", False, ITS_OWN, hears)
     cable.plugged()
-    of_another = Answer(handling=OTHER, other=THE_OTHER)
-    for number, answer, told in (
-        (ITS_OWN, Answer(handling=KEEP), []),
-        (THE_OTHER, of_another, [f"another {THE_OTHER}", "missing"]),
-        (THE_OTHER, of_another, []),
-        (ITS_OWN, Answer(handling=KEEP), [f"back {THE_OTHER}"]),
+    own, other = (Told(0.0, HEARD, b"\x91\x00\x08" + number.encode()) for number in (ITS_OWN, THE_OTHER))
+    is_own, is_other = Answer(handling=KEEP), Answer(handling=OTHER, other=THE_OTHER)
+    for name, hears_it, message, answer, told, on_it in (
+        ("its own", cable.answered, own, is_own, [], ""),
+        ("another", cable.answered, other, is_other, [f"another {THE_OTHER}", "missing"], THE_OTHER),
+        ("the same", cable.of_another, other, is_other, [], THE_OTHER),
+        ("its own, as another child hears", cable.of_another, own, is_own, ["heard"], ""),
+        ("and as the game's hears", cable.answered, own, is_own, [f"back {THE_OTHER}"], ""),
+        ("its own still", cable.answered, own, is_own, [], ""),
     ):
         hears.told.clear()
-        cable.answered(Told(0.0, HEARD, b"\x91\x00\x08" + number.encode()), answer)
-        same(f"the number {number}", hears.told, told)
-        same("the board on it", cable.other, answer.other)
+        hears_it(message, answer)
+        same(f"{name}: told, and the board on it", (hears.told, cable.other), (told, on_it))
 
 
 def its_own_number() -> None:
     """A game whose board's number isn't known has the first one, also if it comes in parts."""
     guard = Guard(Loop(), lambda error: None, lambda error: None)
     hears = Hears()
-    cable = Cable(guard, Screen(None), "/dev/none", False, "", hears)
+    cable = Cable(guard, NO_PROGRAM, Screen(None), "/dev/none", False, "", hears)
     for part, told in ((b"\x86\x00\x91\x00\x080", []), (b"000", []), (b"1\x86", [f"numbered {ITS_OWN}"]), (b"\x91\x00\x0800002", [])):
         hears.told.clear()
         cable.answered(Told(0.0, HEARD, part), Answer(handling=KEEP))

@@ -49,11 +49,12 @@ SILENT_ADVICE = ("cable", "power", "right device", "another program")
 TIMED = re.compile(r"^(?:\d\d:\d\d:\d\d|--:--:--)  (.*)$")
 # What a terminal takes for a command and not for text.
 CONTROLS = re.compile(r"\x1b\[[0-9;?]*[A-Za-z]|\x1b[=>78]")
+LINE_BEGINS = re.compile(r"\x1b\[[0-9]+;1H")
 
 
 def plain(text: str) -> str:
     """What a terminal shows, with each text that was written over on a line of its own."""
-    return CONTROLS.sub("", text).replace("\r\n", "\n").replace("\r", "\n")
+    return CONTROLS.sub("", LINE_BEGINS.sub("\n", text)).replace("\r\n", "\n").replace("\r", "\n")
 
 
 def untimed(line: str) -> str:
