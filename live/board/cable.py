@@ -6,15 +6,16 @@ from __future__ import annotations
 from typing import TYPE_CHECKING, List, Optional, Protocol
 
 from live.board.asked_first import AskedFirst
+from live.board.on_the_way import ANOTHER
 from live.board.standing import Standing
 from live.board.state import Kind
 from live.device.connection import Connection
 from live.device.protocol import NUMBER_SIZE, number_in
-from live.game.attended import KEEP, LENT, OTHER, WAKE, Answer
+from live.game.attended import KEEP, OTHER, WAKE, Answer
 from live.game.attending import OF_THE_LINE, Told
 from live.game.files import MEMORY
 from live.game.program import Program
-from live.game.times import CALLED, HEARD, OPENED, TOOK
+from live.game.times import HEARD, OPENED, TOOK
 from live.guard import Guard
 from live.refused import ANOTHER_CALL, printable
 from live.terminal.screen import Screen
@@ -136,7 +137,7 @@ class Cable:
     def answered(self, told: Told, answer: Answer) -> None:
         """Sends the board what is asked for, and does with what it has sent what the program says."""
         if self._another:  # it was told this before
-            if told.what == HEARD:
+            if told.what == HEARD and answer.handling != KEEP:
                 self._is_foreign([told.sent])
             return
         self._asks(answer)
@@ -151,7 +152,8 @@ class Cable:
         if not self.number and (answer.number or number):
             self._is_own(answer.number or number)
         if answer.handling == OTHER and answer.other != self.number:  # else it was taken meanwhile
-            self._has_other(answer.other)
+            self._attend_another()
+            self._is_other(answer.other)
         elif answer.handling == KEEP:
             self._unsure.clear()
             if number == self.number:
@@ -164,10 +166,9 @@ class Cable:
             keep(self._unsure, told.sent)
         elif told.what != WAKE:
             return  # its line isn't open yet
-        if answer.handling == OTHER and answer.other == self.other:
-            unsure, self._unsure = self._unsure, []
-            self._is_foreign(unsure)
-        elif answer.handling in (KEEP, OTHER):
+        if answer.handling == OTHER:
+            self._is_other(answer.other)
+        elif answer.handling == KEEP:
             self._goes_on()
 
     def _asks(self, answer: Answer) -> None:
@@ -182,14 +183,21 @@ class Cable:
         self._last = text[1 - NUMBER_SIZE :]
         return number_in(text)
 
-    def _has_other(self, number: str) -> None:
-        """The board with this number is on the cable. The game's own may be on another one, so another child attends this one."""
+    def plays_elsewhere(self) -> None:
+        """The game's board is on another cable: what is on this one isn't known."""
+        if self._another is None and not self._unplugged:
+            self._attend_another()
+
+    def _attend_another(self) -> None:
+        """The game's own board may come over another cable, so another child attends this one."""
         from live.board.another_board import AnotherBoard  # few cables need it
 
-        self.other = number
-        self._hears.happened(CALLED)
-        self._hears.happened(LENT)
+        self._hears.happened(ANOTHER)
         self._another = AnotherBoard(self._guard, self._program, self.number, self)
+
+    def _is_other(self, number: str) -> None:
+        """The board with this number is on the cable, and has sent what wasn't sure."""
+        self.other = number
         if number != self._told_other:
             self._told_other = number
             self._foreign.clear()

@@ -9,10 +9,11 @@ from live.game.attended import LENT, NUMBER
 from live.game.attending import OF_THE_LINE
 from live.game.files import MEMORY
 from live.game.game import Game
-from live.game.times import HEARD, TOOK, line_after
+from live.game.times import CALLED, HEARD, TOOK, line_after
 
 LENDS = "lends"  # the game's board has sent this on another game's cable
-TOLD = (*OF_THE_LINE, LENT, TOOK)  # news that the program is told
+ANOTHER = "another"  # another board is on the cable, and the game's program attends it no more
+NOTED = (*OF_THE_LINE, TOOK)  # news that the game's times have too
 Happened = Tuple[str, bytes]  # what, and what the board has sent
 
 
@@ -48,7 +49,9 @@ class OnTheWay:
         """This happens, or the board has sent this."""
         if what in OF_THE_LINE:
             self._line = line_after(self._line, what)
-        if what not in (HEARD, LENDS, *TOLD):
+        elif what == ANOTHER:
+            self._line = ()
+        if what not in (HEARD, LENDS, ANOTHER, *NOTED):
             self._games.game.times.happened(what, count)
         elif self._held is None:
             self._passes(what, sent)
@@ -58,7 +61,7 @@ class OnTheWay:
 
     def _passes(self, what: str, sent: bytes) -> None:
         now = self._games.attended
-        if what in TOLD and what != LENT:
+        if what in NOTED:
             self._games.game.times.happened(what)
         if now is None:
             self.left(sent)
@@ -66,6 +69,9 @@ class OnTheWay:
             now.came(sent)
         elif what == LENDS:
             now.lent(sent)
+        elif what == ANOTHER:  # it is told that the line isn't there, and that somebody else has what it has kept aside
+            now.attending.tell(CALLED)
+            now.attending.tell(LENT)
         else:
             now.attending.tell(what)
 

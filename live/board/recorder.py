@@ -319,6 +319,7 @@ class Recorder:
 
     def takes(self, sent: bytes) -> None:
         """The board has sent this on another game's cable."""
+        self._cable.plays_elsewhere()
         self._on_the_way.comes(LENDS, sent)
 
     def happened(self, what: str, count: Optional[int] = None) -> None:

@@ -15,6 +15,7 @@ from live.game.program import CHUNK, Child, HearsChild, Program
 from live.game.timed import Times
 from live.guard import Guard
 from live.loop import Callback, Loop, Timer
+from live.refused import FAILED, Refused
 
 PIECE = 64 * 1024  # bytes of a capture that are told at once: the report of a piece is in the program's memory as a whole
 MOST_WITH_TIMES = 4 * 1024 * 1024  # bytes of a capture that is told with its times, and so as a whole
@@ -183,10 +184,10 @@ class Attending(Child):
                 self._tell(Told(now, CAPTURE), until - at)
                 self._out.append((at, until))
         self._tell(Told(now, times.BEGIN), size)
-        if past and past.capture.pending:
-            self._tell(Told(now, times.ADDED, past.capture.pending))
         if away is not None:
             self._tell(Told(now, times.AWAY), away)
+        if past and past.capture.pending:
+            self._tell(Told(now, times.ADDED, past.capture.pending))
 
     def _writes(self, number: int) -> bool:
         if not self._out:
@@ -198,7 +199,10 @@ class Attending(Child):
         else:
             at, until = part
             assert self._past
-            at += os.write(number, self._past.capture.read(at, min(CHUNK, until - at)))
+            content = self._past.capture.read(at, min(CHUNK, until - at))
+            if not content:
+                raise Refused(FAILED, f"{self._past.capture.path} is shorter than it was")
+            at += os.write(number, content)
             left, is_left = (at, until), at < until
         if is_left:
             self._out[0] = left
