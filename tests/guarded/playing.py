@@ -260,7 +260,7 @@ class Room:
         self.move_unseen("a7a6")
         yield self.adding("a6")
         for child in self.live.children():
-            if "live" in command(child):
+            if {"live", "--recover"} <= set(command(child)):
                 signal_to(child)
         yield self.play("b5a4", "4. Ba4")
         if self.games % 3 == 0:
