@@ -26,6 +26,7 @@ import { another, back as backAgain, mayTake } from './whose.js';
 const LINGER = 10.0; // seconds after which a result ends the game
 const LATE = 1.0; // seconds by which a timer is late if the page was stopped meanwhile
 const STANDS = 0.2; // seconds for which the start is shown before it ends a game
+const DRAWN = 0.05; // seconds after which a move that was heard is on the screen
 const TICK = 1.0; // seconds between two looks at what waits
 const NO_PLIES = '0';
 const ROOM = 1 << 20; // bytes that are left for what `recover` adds: the program reads no more than LARGEST
@@ -501,12 +502,20 @@ export class Recorder {
     return textOf(this.calls, this.options, sent, this.forfeit);
   }
 
+  /** What was heard is on the screen. */
+  drawn() {
+    return new Promise((done) => {
+      this.guard.loop.after(DRAWN, done);
+    });
+  }
+
   async makeText() {
     this.isMaking = true;
     try {
       while (this.wantsText && !this.guard.ended) {
         this.wantsText = false;
         await this.attending.read(); // whether there is something to write is known by its lines
+        await this.drawn(); // the capture is copied for the text, and a long one would hold up the move
         const { epoch } = this.attending;
         const text = await this.textOf(this.game);
         if (epoch === this.attending.epoch) {

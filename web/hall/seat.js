@@ -238,6 +238,8 @@ export class Seat {
       const none = { options: optionsOf(), name: '' };
       return this.trouble ? viewOf(this.id, none, newCourse(none.options), this.standing(now)) : null;
     }
+    const isRead = !recorder.isOld || this.trouble || recorder.trouble;
+    if (this.view && !isRead) return this.view; // while a game is read anew, what was shown stays
     try {
       this.view = viewOf(this.id, recorder.game, recorder.course, this.standing(now));
     } catch (error) {
