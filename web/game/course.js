@@ -27,7 +27,6 @@ export class Course {
     this.stoodAgain = false; // whether any picture has, since there are moves
     this.movedAt = []; // when the last moves came
     this.news = []; // the reported lines of the game: its changes, and the pairs before them
-    this.stands = null; // the board's last state
     this.kept = new Lines();
     this.startAgain = new StartAgain(start);
   }
@@ -48,7 +47,6 @@ export class Course {
       this.news.push(event);
     } else if (STANDING.includes(event.kind)) {
       this.kept.take({ offset, at, event });
-      this.stands = event;
       this.hasAgreed = this.hasAgreed || event.kind === 'agrees';
       if (event.kind === 'move' && !event.corrects) this.movedAt = [...this.movedAt, at].slice(-PACE_OF - 1);
       if (event.kind === 'move' || event.kind === 'result') {
@@ -86,14 +84,6 @@ export class Course {
   /** Whether the game's position is the one at its start. */
   get standsAtStart() {
     return this.plies.length === 0 || (this.fens.length > this.plies.length && same(this.position, this.start));
-  }
-
-  /** The fewest lines that give the board's state. */
-  standing() {
-    const last = this.plies.slice(-1);
-    if (this.result !== '*') last.push({ kind: 'result', outcome: this.result });
-    if (this.stands && !last.some((event) => JSON.stringify(event) === JSON.stringify(this.stands))) last.push(this.stands);
-    return last;
   }
 
   /** The lines of the game, as far as its end may depend on them. */
