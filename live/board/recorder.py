@@ -19,7 +19,7 @@ from live.board.recording import Reason, Recording
 from live.board.standing import Standing
 from live.board.whose import another, back, may_take
 from live.game.alarms import acknowledge, keep_looks, kept_looks
-from live.game.attended import Answer
+from live.game.attended import NUMBER, Answer
 from live.game.attending import Told
 from live.game.control import Control
 from live.game.files import Paths, text_of
@@ -345,7 +345,7 @@ class Recorder:
     def numbered(self, number: str) -> None:
         """The serial number of its board is this from now on."""
         if self.now:
-            self.now.attending.numbered(number)
+            self.now.attending.tell(NUMBER, number.encode("ascii"))
         if number == kept_serial(self.game.paths):
             return
         try:

@@ -88,13 +88,9 @@ class Attending(Child):
         if what in OF_THE_LINE:
             self._line = times.line_after(self._line, what)
         elif what == NUMBER:
-            self.numbered(sent.decode("ascii"))
+            self._number = sent.decode("ascii")
         self._tell(Told(self._guard.now(), what, sent), count)
         self._feed()
-
-    def numbered(self, number: str) -> None:
-        """The game's board has this number, which the program knows."""
-        self._number = number
 
     def _tell(self, told: Told, count: Optional[int] = None) -> None:
         self._told.append(told)

@@ -6,6 +6,7 @@ recorded the loop doesn't wait for it.
 
 from __future__ import annotations
 
+import contextlib
 import errno
 import math
 import os
@@ -274,7 +275,8 @@ class Times:
         late = milliseconds() - events[-1][0] if events else 0
         if late >= LATE:  # the file is as old as its last line: from there on nobody is known to have been there
             at = time.time_ns() - late * 1_000_000
-            os.utime(number, ns=(at, at))
+            with contextlib.suppress(OSError):  # of another user's file
+                os.utime(number, ns=(at, at))
         del self._events[: len(events)]
         if self._is_lost:
             self._told.append(f"{self._path} is written again")
