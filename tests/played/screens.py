@@ -89,7 +89,7 @@ def wrong_over_a_restart(folder: pathlib.Path) -> None:
     for child in live.children():
         signal_to(child)
     until_line(live, "live was killed; it is started again")
-    until_line(live, words.WRONG, 2)
+    rest(1)
     assert words.IN_HAND not in live.lines(), live.lines()
     board.put("g1", 3)
     until_line(live, words.AGREES)
