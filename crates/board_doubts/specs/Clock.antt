@@ -14,7 +14,8 @@ acknowledges bytes = (slice_index bytes 0 % 16 == 10) || (slice_index bytes 3 % 
 abbrev pub has_no_clock : List ℕ → Bool
 has_no_clock bytes = slice_index bytes 6 / 32 % 2 == 1
 
--- whether the clock runs, by the seven bytes of a time message: bit 0 of the last one, unless they say nothing of it
+-- whether the clock runs: bit 0 of the last of the seven bytes of a time message. An acknowledgement doesn't say, nor does a message
+-- without a clock
 abbrev pub running : List ℕ → Option Bool
 running bytes = if acknowledges bytes || has_no_clock bytes then None else Some (slice_index bytes 6 % 2 == 1)
 
@@ -27,8 +28,8 @@ abbrev pub has_run : List Event → Bool
 has_run [] = false
 has_run (event ∷ past) = run_by event.what (has_run past)
 
--- since when the clock stands: since the first message that says so, after the last one that said that it runs, and after the
--- last time in which the board wasn't heard
+-- since when the clock has stood: since the first message that said so. A message that it runs ends this, and so does a time in
+-- which the board wasn't heard
 abbrev pub stands_by : Heard → ℕ → Option ℕ → Option ℕ
 stands_by (Clock runs) at since = if runs then None else carry true at since
 stands_by (Away gap) at since = None
@@ -46,8 +47,8 @@ is_stopped past = has_run past && is_some (stands_since past)
 abbrev pub most : ℕ
 most = 9999
 
--- the moves that were made one after the other while the clock was stopped: since it last ran, and since somebody looked.
--- What an arbiter added was played, and isn't counted
+-- how many moves were made one after the other while the clock was stopped. The count begins anew when the clock runs, when a move
+-- is made while it isn't stopped, and when somebody has looked. What an arbiter added was played, and isn't counted
 abbrev pub tried_by : Heard → Bool → Bool → ℕ → ℕ
 tried_by (Moves repeats) added stopped before = if added then before else if stopped then min most (before + 1) else 0
 tried_by (Clock runs) added stopped before = if runs then 0 else before
@@ -58,7 +59,7 @@ abbrev pub tried : List Event → ℕ
 tried [] = 0
 tried (event ∷ past) = tried_by event.what event.is_added (is_stopped past) (tried past)
 
--- so many plies ago was the last one before them
+-- how many plies ago the last move before these was made
 abbrev pub ago_by : Heard → Bool → Bool → ℕ → ℕ
 ago_by (Moves repeats) added none before = if none && not added then 1 else min most (before + 1)
 ago_by other added none before = before
@@ -67,7 +68,7 @@ abbrev pub ago : List Event → ℕ
 ago [] = 0
 ago (event ∷ past) = ago_by event.what event.is_added (tried past == 0) (ago past)
 
--- A move that was made before the clock was stopped may be seen within this after it, in milliseconds.
+-- A move may be seen as late as this after the clock was stopped, in milliseconds, though it was made before.
 abbrev pub seen_late : ℕ
 seen_late = 3000
 

@@ -53,8 +53,8 @@ has_repeated (event ∷ past) = repeats_by event.what (has_repeated past)
 abbrev pub is_on : List Event → Bool
 is_on past = has_begun past && not (is_over past)
 
--- In a gap this long hidden plies may look like one move, if there was time for one, or lead back to the game's position, if
--- there was time for two. Players who repeat a position need one to do so. After a restart only they are suspected.
+-- Plies may be hidden in a gap this long: before a move, if there was time for one; before an agreement, if there was time for two,
+-- or for one if the players have just repeated a position. After a restart only such players are suspected.
 abbrev pub may_hide : Bool → ℕ → List Event → Bool
 may_hide is_move lasted past =
     fits_ply (if is_move || has_repeated past then lasted else lasted / 2) past && (has_repeated past || not (is_restart (since_news past)))
@@ -71,7 +71,7 @@ hides is_move past = hides_by is_move (gap (since_news past)) past
 abbrev pub late : ℕ
 late = 10000
 
--- why a correction is doubted: any gap hides plies that make another move of the last one
+-- why a correction is doubted: in any gap, however short, plies may be hidden after which the last move looks like another one
 abbrev pub why_corrects : ℕ → List Event → Option Why
 why_corrects now past =
     if has_gap (since_news past) then Some AfterGap
@@ -95,15 +95,15 @@ why_agrees past =
     else if hides false past || touched (since_news past) then Some AfterGap
     else None
 
--- why news are doubted while the game is on; of a game without a move no agreement is
+-- why news is doubted while the game is on. Before the first move no agreement is doubted
 abbrev pub why_by : Heard → ℕ → List Event → Option Why
 why_by (Corrects repeats) now past = if is_on past then why_corrects now past else None
 why_by (Moves repeats) now past = if is_on past then why_moves past else None
 why_by Agrees now past = if is_on past && has_moved past then why_agrees past else None
 why_by other now past = None
 
--- when the last move was made, if it isn't doubted, no picture has come since, and both sides may have moved before it if the
--- piece that had moved before doesn't stay where it belongs
+-- when the last move was made, if the next picture may make it doubtful: it isn't doubted yet, no picture has come since, and both
+-- sides may have moved before it, unless the piece that had moved before stays where it belongs
 abbrev pub passing_by : Heard → ℕ → Bool → Option ℕ → Option ℕ
 passing_by (Moves repeats) at may before = if may then Some at else None
 passing_by (Corrects repeats) at may before = None
@@ -119,12 +119,12 @@ passing (event ∷ past) =
 abbrev pub passes : ℕ
 passes = 150
 
--- It was less than that ago.
+-- Less time than that has passed since then.
 abbrev pub is_recent : ℕ → Option ℕ → Bool
 is_recent now None = false
 is_recent now (Some at) = not (has_lasted passes now (Some at))
 
--- The last move came only since that piece was drawn over its square.
+-- The last move was read only because that piece was drawn over its square.
 abbrev pub was_passed : Seen → ℕ → List Event → Bool
 was_passed seen now past = seen.was_drawn && is_recent now (passing past)
 
@@ -133,7 +133,7 @@ abbrev pub doubted : Place → Option Why → Option Doubt
 doubted place None = None
 doubted place (Some why) = Some (record { place = place; why = why })
 
--- what somebody must look at in this, after what was heard before
+-- what somebody must look at in what is heard now, after what was heard before
 abbrev pub doubt_by : Heard → ℕ → List Event → Option Doubt
 doubt_by (Shows seen) now past = doubted AtLast (if was_passed seen now past then Some BothElsewhere else None)
 doubt_by Agrees now past = doubted AfterLast (why_by Agrees now past)

@@ -14,16 +14,16 @@ differs position picture s = not (slice_index picture s == slice_index position 
 abbrev pub elsewhere : Bool → List ℕ → List ℕ → ℕ → Bool
 elsewhere black position picture s = is_of black (slice_index picture s) && differs position picture s
 
--- A piece of this side that moved from one position to the next isn't where it belongs then, in a picture of a position.
+-- A piece of this side moved from one position to the next, and on its new square the picture differs from the game's position.
 abbrev pub is_gone : Bool → List ℕ → List ℕ → List ℕ → List ℕ → Bool
 is_gone black from to position picture = some_square (λ s. elsewhere black from to s && differs position picture s)
 
--- A piece of this side isn't there, and nothing stands on its square.
+-- A piece of this side is missing in the picture, and its square is empty.
 abbrev pub is_lifted : Bool → List ℕ → List ℕ → Bool
 is_lifted black position picture = some_square (λ s. is_of black (slice_index position s) && (slice_index picture s == 0))
 
--- What a picture shows while Black or White is to move: apart from the position, from that before the last move, and from that
--- before the move before.
+-- What a picture shows, while Black or White is to move, compared with three positions: that of the game, the one before the last
+-- move, and the one before that.
 pub record Sees (seen : Seen) (black : Bool) (earlier before position picture : List ℕ) : Type 0 where
   pub own : Marks seen.own (λ s. elsewhere black position picture s && differs before picture s)
   pub others : Marks seen.others (elsewhere (not black) position picture)

@@ -25,7 +25,7 @@ doubts (event ∷ past) = with_doubt (doubt_of event past) (doubts past)
 abbrev pub StaysDoubtful : Type 0
 StaysDoubtful = (past later : List Event) → (more : List Doubt) × (doubts (later ++ past) ≡ more ++ doubts past)
 
--- No picture shows such a square.
+-- No picture has such a square.
 abbrev pub NoneShows : Squares → List Laid → Type 0
 NoneShows squares [] = ⊤
 NoneShows squares (picture ∷ before) = (squares picture ≡ 0) × NoneShows squares before
@@ -42,8 +42,8 @@ QuickCorrectionPasses = (repeats : Bool) (now : ℕ) (past : List Event)
     → has_gap (since_news past) ≡ false → NoneShows own (pictures (since_news past)) → waited now past ≤ late
     → doubt_by (Corrects repeats) now past ≡ None
 
--- If the board wasn't heard for less than any ply takes, and no piece stood elsewhere since the last news, no move is
--- doubted; nor is an agreement, if no piece of the side that moved last was in a hand then.
+-- If the time in which the board wasn't heard is shorter than any ply, and no piece stood elsewhere since the last news, no move is
+-- doubted; nor is an agreement, if no piece of the side that moved last was in a hand after that time.
 abbrev pub ShortGapPasses : Type 0
 ShortGapPasses = (repeats : Bool) (now lasted : ℕ) (past : List Event)
     → gap (since_news past) ≡ Some lasted → lasted < quickest → by_one (pictures (since_news past)) ≡ false
@@ -55,9 +55,8 @@ abbrev pub UndoubtedCorrection : Type 0
 UndoubtedCorrection = (repeats : Bool) (now : ℕ) (past : List Event) → is_on past ≡ true → doubt_by (Corrects repeats) now past ≡ None
     → (has_gap (since_news past) ≡ false) × (has_stood own stands (pictures (since_news past)) ≡ false) × (waited now past ≤ late)
 
--- A move that isn't doubted, in a game that is on and has a move: since the last news pieces of both sides didn't stand
--- elsewhere, and if the board wasn't heard for a time while the recorder was there, players as quick as these had no time
--- for a ply in it.
+-- If a move isn't doubted in a game that is on and has a move, at most one side may have moved since the last news; and if the board
+-- wasn't heard for a time while the recorder was there, players as quick as these had no time for a ply in it.
 abbrev pub UndoubtedMove : Type 0
 UndoubtedMove = (repeats : Bool) (now : ℕ) (past : List Event) → is_on past ≡ true → has_moved past ≡ true
     → doubt_by (Moves repeats) now past ≡ None
@@ -73,7 +72,7 @@ abbrev pub NoClock : List Event → Type 0
 NoClock [] = ⊤
 NoClock (event ∷ past) = (says_nothing event.what ≡ true) × NoClock past
 
--- After the clock has said that it runs, no move was made while it was stopped, until it says something else.
+-- After the clock has said that it runs, no move counts as made while it was stopped, until it says something else.
 abbrev pub RunningClockPasses : Type 0
 RunningClockPasses = (event said : Event) (past later : List Event) → said.what ≡ Clock true → NoClock later
     → tries_of event (later ++ said ∷ past) ≡ None

@@ -12,7 +12,7 @@ pub record Laid : Type 0 where
   pub others : ℕ
   pub is_off : Bool
 
--- squares of a picture, of one kind
+-- squares of one kind, in each picture
 abbrev pub Squares : Type 0
 Squares = Laid → ℕ
 
@@ -42,7 +42,7 @@ abbrev pub has_stood : Squares → ℕ → List Laid → Bool
 has_stood squares span [] = false
 has_stood squares span (picture ∷ before) = some_square (stood_till squares span picture before) || has_stood squares span before
 
--- And they have left it.
+-- Pieces have stood on such a square for this time, and have left it.
 abbrev pub has_left : Squares → ℕ → List Laid → Bool
 has_left squares span [] = false
 has_left squares span (picture ∷ before) =

@@ -6,7 +6,7 @@ use Rattle.board_doubts.specs.declared.heard.Heard.TheVariants.{Shows, Moves, Co
 use Rattle.board_doubts.specs.declared.heard.Seen.{Seen}
 use Rattle.board_doubts.specs.Pictures.{Laid}
 
--- No time counts for longer than a day, in milliseconds.
+-- a day, in milliseconds: no time counts for longer
 abbrev pub day : ℕ
 day = 86400000
 
@@ -23,7 +23,7 @@ abbrev pub since_news : List Event → List Event
 since_news [] = []
 since_news (event ∷ past) = if is_news event.what then [] else event ∷ since_news past
 
--- The board was away, and no picture has come since.
+-- The board wasn't heard for a time, and no picture has come since.
 abbrev pub first_by : Heard → Bool → Bool
 first_by (Away gap) before = true
 first_by (Shows seen) before = false
@@ -52,7 +52,7 @@ abbrev pub pictures : List Event → List Laid
 pictures [] = []
 pictures (event ∷ past) = with_picture event.what event.at (comes_first past) (pictures past)
 
--- how long the board wasn't heard, if there was such a time: several are added
+-- how long the board wasn't heard, if there was such a time; several are added up
 abbrev pub gap_by : Heard → Option ℕ → Option ℕ
 gap_by (Away gap) before = Some (min day (gap.lasted + unwrap_or before 0))
 gap_by other before = before
@@ -73,7 +73,7 @@ abbrev pub is_restart : List Event → Bool
 is_restart [] = false
 is_restart (event ∷ past) = restart_by event.what (is_restart past)
 
--- Since then a piece of the side that moved last was in a hand.
+-- After such a time a piece of the side that moved last was in a hand.
 abbrev pub touched_by : Heard → Bool → Bool → Bool
 touched_by (Shows seen) away before = before || (away && seen.in_hand)
 touched_by other away before = before

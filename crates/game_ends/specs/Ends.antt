@@ -10,12 +10,12 @@ stands = 1000
 abbrev pub home_stands : ℕ
 home_stands = 3000
 
--- It stood so long. What the board still shows stood long enough for anything.
+-- The move stood for this long. One that the board still shows has stood long enough for anything.
 abbrev pub stood_for : Option ℕ → ℕ → Bool
 stood_for None span = true
 stood_for (Some stood) span = nat_le span stood
 
--- how long it stood
+-- how long it stood; one that the board still shows, longest of all
 abbrev pub time_of : Option ℕ → ℕ
 time_of None = 2 ^ 64 - 1
 time_of (Some stood) = stood
@@ -25,11 +25,13 @@ abbrev pub was_changed : Option Made → Bool
 was_changed None = true
 was_changed (Some next) = next.corrects
 
--- A piece that is drawn over the board may look like a move, for a moment.
+-- A piece was perhaps drawn over the board: that looked like a move for a moment, hands went on at once, and it was the last move or
+-- was corrected.
 abbrev pub is_drawn : Made → Option Made → Bool
 is_drawn made next = if stood_for made.stood stands || not made.goes_on then false else was_changed next
 
--- It was part of a set-up, as all after it were: it brought a piece home, or a piece was drawn.
+-- It was part of a set-up, if all after it were: it brought a piece home and stood for less than three seconds, or a piece was drawn
+-- over the board. What an arbiter added was played.
 abbrev pub sets_up : Made → Option Made → Bool
 sets_up made next = if made.is_added then false else if made.goes_home then not (stood_for made.stood home_stands) else is_drawn made next
 
@@ -39,13 +41,14 @@ pub record SetsUpFrom (first : ℕ) (moves : List Made) : Type 0 where
   pub each : (k : ℕ) (made : Made) → first ≤ k → slice_get moves k ≡ Some made → sets_up made (slice_get moves (k + 1)) ≡ true
   pub before : 0 < first → (made : Made) → slice_get moves (first - 1) ≡ Some made → sets_up made (slice_get moves first) ≡ false
 
--- The last of so many moves stood longest of those from the first of a set-up on.
+-- Of the moves of a set-up, the last one that is kept stood longest.
 abbrev pub IsLongest : ℕ → ℕ → List Made → Type 0
 IsLongest first kept moves = (k : ℕ) (one last : Made) → first ≤ k → slice_get moves k ≡ Some one → slice_get moves (kept - 1) ≡ Some last
     → time_of one.stood ≤ time_of last.stood
 
--- So many moves are the game's, if a set-up begins with this one: all, if nothing else was played; else those before it. But if
--- the last of those stood for less than a second, the one of the set-up that stood longest is the last one: nobody sets up so soon.
+-- So many moves are the game's, if a set-up begins with this one: those before it, or all if there are none before it. But if the
+-- last one before it stood for less than a second, the game ends with the move of the set-up that stood longest: nobody sets up so
+-- soon.
 pub record EndsBefore (first kept : ℕ) (moves : List Made) : Type 0 where
   pub alone : first ≡ 0 → kept ≡ length moves
   pub none : first ≡ length moves → kept ≡ length moves
