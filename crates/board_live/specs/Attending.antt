@@ -1,4 +1,4 @@
--- What is attended at the cable. Lists have the latest first.
+-- What the cable's part of a recorded board stands for, and what comes of it. Lists have the latest first.
 use Rattle.std.specs.Prelude.{◌≡◌, List, ◌∷◌}
 use Rattle.board_asking.specs.Silence.{is_silent}
 use Rattle.board_asking.specs.Whose.{own_number}
@@ -17,7 +17,7 @@ pub record Attends (attending : Attending) (past : List Moment) : Type 0 where
   pub cable : StandsFor attending.cable (cabled past)
   pub kept_is : attending.kept.items ≡ kept cable.turns
 
--- This comes of the cable at a turn.
+-- This comes of a turn of the cable.
 pub record Tells (what : What) (turn : Turn) (turns : List Turn) (comes : Comes) : Type 0 where
   pub request : comes.request ≡ request_of turn
   pub handling : comes.handling ≡ handling_of turn

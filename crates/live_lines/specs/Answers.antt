@@ -1,5 +1,5 @@
--- What a recorder answers to an entry: the bytes that the capture gets, the new lines of the report, the
--- text of the game, and then what is said.
+-- What a recorder answers to an entry: the bytes that the capture gets, the new lines of the report, the text of the game, and then
+-- what is said.
 use Rattle.std.specs.Prelude.{◌-◌, ℕ, true, List, [], ◌∷◌, ◌++◌, codes, decimal, length, Option, Some, None}
 use Rattle.answer_lines.specs.declared.said.Said.{Said}
 use Rattle.answer_lines.specs.Answers.{answer_text as said_text}
@@ -11,7 +11,7 @@ abbrev pub kept_text : List ℕ → List ℕ
 kept_text [] = []
 kept_text (byte ∷ bytes) = codes "kept " ++ decimal (length (byte ∷ bytes)) ++ codes "\n" ++ (byte ∷ bytes)
 
--- the text of the game, if it is wanted, behind a line that says how many bytes it has
+-- the text of the game, if the entry asks for it, behind a line that says how many bytes it has
 abbrev pub game_text : List ℕ → List ℕ
 game_text [] = []
 game_text (byte ∷ bytes) = codes "game " ++ decimal (length (byte ∷ bytes)) ++ codes "\n" ++ (byte ∷ bytes)
@@ -42,7 +42,7 @@ said_of now answer due =
 abbrev pub answer_text : ℕ → Answer → List ℕ → List ℕ → List ℕ → Option ℕ → List ℕ
 answer_text now answer kept lines game due = whole_text kept lines game (said_of now answer due)
 
--- Of a capture of the calls before only the report is said.
+-- A capture of the calls before is answered by its report alone.
 abbrev pub nothing_said : Said
 nothing_said = record { handling = None; number = None; request = None; is_whole = true; state = None; due = None }
 

@@ -34,21 +34,22 @@ size_of (KeepsTimes n) = n
 size_of (KeepsBytes n) = n
 size_of _ = 0
 
--- They are a file of times; or a capture.
+-- The bytes behind the line are a file of times.
 abbrev pub brings_times : What → Bool
 brings_times (KeepsTimes n) = true
 brings_times _ = false
 
+-- The bytes behind the line are a capture.
 abbrev pub brings_capture : What → Bool
 brings_capture (KeepsBytes n) = true
 brings_capture _ = false
 
--- The text of the game is wanted.
+-- The host asks for the text of the game.
 abbrev pub wants_text : What → Bool
 wants_text WantsText = true
 wants_text _ = false
 
--- at most so many bytes do: a capture has no more
+-- At most so many bytes stand behind a line: a capture has no more.
 abbrev pub most : ℕ
 most = 67108864
 

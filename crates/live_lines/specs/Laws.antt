@@ -92,7 +92,7 @@ abbrev pub LaterChangesNothing : Type 0
 LaterChangesNothing = (setup : Setup) (recovers : Bool) (later past : List Heard) (report said : List ℕ) → Writes setup recovers (later ++ past) report said
     → (before earlier more : List ℕ) × Writes setup recovers past before earlier × (said ≡ earlier ++ more)
 
--- The same was told, but that who wanted the text has told a wake.
+-- what was told, with a wake for each entry that asks for the text
 abbrev pub as_wake : What → What
 as_wake WantsText = Wakes
 as_wake what = what
@@ -101,12 +101,12 @@ abbrev pub with_wakes : List Heard → List Heard
 with_wakes [] = []
 with_wakes (heard ∷ past) = record heard { entry = record { at = heard.entry.at; what = as_wake heard.entry.what } } ∷ with_wakes past
 
--- Who wants the text tells nothing but a time: all that is answered later is answered as if there had been a wake.
+-- An entry that asks for the text tells nothing but a time: all later answers are as if it had been a wake.
 abbrev pub TextsAreNoNews : Type 0
 TextsAreNoNews = (setup : Setup) (recovers : Bool) (heard : Heard) (past : List Heard) (more said : List ℕ)
     → (IsHeard heard past ↔ IsHeard heard (with_wakes past)) × (IsAnswered setup recovers heard past more said ↔ IsAnswered setup recovers heard (with_wakes past) more said)
 
--- Where no pairs are recovered, the text is that of the game of all bytes, with the same tags: so `record` writes it.
+-- If no pairs are recovered, the text is that of the game that all bytes show, with the same tags: so `record` writes it.
 abbrev pub TextsAreRecorded : Type 0
 TextsAreRecorded = (setting : Setting) (tags : TagValues) (past : List Came) (events : List Timed) (text : List ℕ) → AreShown (bytes_of past) events
     → IsTextOf setting false tags past text → (game : Content) × IsGameOf game setting tags (past_of events) × Pgn game text

@@ -31,7 +31,7 @@ abbrev pub HasBegun : Recorder → Type 0
 HasBegun recorder = LiveHasBegun recorder.live
 
 -- This is said to the last entry, with these new lines of the report: what `board_live` answers to it, the text of the game if the
--- entry wants it, and when it is due.
+-- entry asks for it, and when the recorder is to be woken.
 pub record IsSaidOf (setup : Setup) (recovers : Bool) (heard : Heard) (past : List Heard) (turn : Turn) (turns : List Turn) (more said : List ℕ) : Type 0 where
   pub answer : Answer
   pub game : List ℕ

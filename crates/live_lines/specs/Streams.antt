@@ -61,7 +61,7 @@ abbrev pub AttendsSome : Setup → Bool → Option (List ℕ) → Option (List �
 AttendsSome setup recovers input input' written written' = (first rest said : List ℕ) × Consumes input input' (first ++ rest)
     × Attends setup recovers first said × Appends written written' said
 
--- Of what some first entries are answered a first part was written, and no other byte.
+-- A first part of the answers to some first entries was written, and no other byte.
 abbrev pub AttendsFront : Setup → Bool → Option (List ℕ) → Option (List ℕ) → Option (List ℕ) → Option (List ℕ) → Type 0
 AttendsFront setup recovers input input' written written' = (first rest said : List ℕ) × Consumes input input' (first ++ rest)
     × Attends setup recovers first said × AppendsPart written written' said
