@@ -42,7 +42,7 @@ class AttendedGame:
         self._is_ending = self._is_closed = False
 
     def attend(self, words: Tuple[str, ...], start: int = 0, with_times: bool = False, known: int = 0) -> None:
-        """The program reads what is kept from an offset on. The first lines of its report, so many, are known."""
+        """The program reads what is kept, from an offset on. The first `known` lines of its report are left out."""
         past = Past(self.game.capture, start, self.game.times if with_times else None)
         self.attending = Attending(self._guard, self.game.program, words, past, self, known)
 
@@ -127,7 +127,7 @@ class AttendedGame:
         raise NotImplementedError
 
     def settle(self, done: Callable[[], None]) -> None:
-        """Calls this once all is answered, or if that takes too long: then what the board has sent counts as kept."""
+        """Calls this once all is answered, or after a while: then what has no answer is kept too, if what came before was."""
 
         def late() -> None:
             self._patience = None

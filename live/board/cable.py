@@ -73,7 +73,7 @@ class Cable:
         self._told_other = ""  # that of the one that was last reported, while it is on the cable
         self._last = b""  # bytes in which a number may begin
         self._another: Optional[AnotherBoard] = None  # while another board is on it
-        self._unsure: List[bytes] = []  # what came while it isn't known whose it is
+        self._unsure: List[bytes] = []  # what has come, while nobody knows whose it is
         self._foreign: List[bytes] = []  # what another board has sent and no game has taken
         self._asked = asked  # before its game was open
         self._connection = asked.connection if asked else Connection(guard, device, self)
@@ -135,7 +135,7 @@ class Cable:
     # What the program answers.
 
     def answered(self, told: Told, answer: Answer) -> None:
-        """Sends the board what is asked for, and does with what it has sent what the program says."""
+        """Asks the board what the program says, and does as it says with what the board has sent."""
         if self._another:  # it was told this before
             if told.what == HEARD and answer.handling != KEEP:
                 self._is_foreign([told.sent])
@@ -160,7 +160,7 @@ class Cable:
                 self._is_back()
 
     def of_another(self, told: Told, answer: Answer) -> None:
-        """The same of what another board sends, or perhaps the game's own again."""
+        """The same for another board, or perhaps the game's own again."""
         self._asks(answer)
         if told.what == HEARD:
             keep(self._unsure, told.sent)
@@ -196,7 +196,7 @@ class Cable:
         self._another = AnotherBoard(self._guard, self._program, self.number, self)
 
     def _is_other(self, number: str) -> None:
-        """The board with this number is on the cable, and has sent what wasn't sure."""
+        """The board with this number is on the cable, and has sent what nobody knew the sender of."""
         self.other = number
         if number != self._told_other:
             self._told_other = number

@@ -12,7 +12,7 @@ from live.game.game import Game
 from live.game.times import CALLED, HEARD, TOOK, line_after
 
 LENDS = "lends"  # the game's board has sent this on another game's cable
-ANOTHER = "another"  # another board is on the cable, and the game's program attends it no more
+ANOTHER = "another"  # another board is on the cable, which the game's program attends no more
 NOTED = (*OF_THE_LINE, TOOK)  # news that the game's times have too
 Happened = Tuple[str, bytes]  # what, and what the board has sent
 
@@ -96,7 +96,7 @@ class OnTheWay:
             now.attending.pause()
 
     def hold(self) -> None:
-        """From now on what comes is held, and the program isn't told the time."""
+        """From now on what comes is held, and the program isn't woken."""
         if self._held is None:
             self._held = []
             if self._games.attended:

@@ -94,7 +94,7 @@ class Recording(AttendedGame):
         self._is_over = self._has_ended = False  # whether it is recorded no more; and whether that is because the game has ended
         self._marks = False  # and whether NAME.end must say how many bytes are the game's
         self._done: Callable[[str], None] = lambda unwritten: None
-        self._is_heard = False  # whether what comes now counts no more
+        self._is_heard = False  # whether all is heard, and what comes now doesn't count
         self._lingering = Lingering(guard, rules.linger, lambda: self._end(Reason.RESULT))
         self.standing: Standing = Standing(guard, screen, self.game.options.rotated)
         self.standing.was_away = bool(opened.old.lines)  # what it showed before this call is long ago

@@ -48,7 +48,7 @@ class Standing:
             self.show()
 
     def stands(self, at: float, stood: Stood) -> None:
-        """The program says this of that time. It is shown with what else it says."""
+        """The program says that the board stood so at that time. This is shown with the rest of its answer."""
         self.board.stands(at, stood)
 
     def plugged(self) -> None:

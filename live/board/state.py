@@ -52,7 +52,7 @@ class Kind(enum.Enum):
 
     @staticmethod
     def of(word: str) -> Kind:
-        """Of the program's word."""
+        """The kind that the program calls so."""
         return Kind[word.replace("-", "_")]
 
 
@@ -128,7 +128,7 @@ class BoardState:
     look: str = ""  # what somebody must look at
     disk: str = ""  # what keeps something from being written
     result: str = ""  # that the board has shown
-    differs: Tuple[str, ...] = ()  # the squares of which the report said so last
+    differs: Tuple[str, ...] = ()  # the squares that the report has named last
     unplugged_since: Optional[float] = None  # a serial server may be there without a board
     _stood: Stood = Stood("WAITS")
     _since: float = 0.0

@@ -1,5 +1,5 @@
-"""Another board on the cable of a game, or on that of another game: what is said of it, and whether `ok` takes it. Whose board is on a
-cable, the program decides. Pure."""
+"""Another board on the cable of a game, or on that of another game: what is said of it, and whether `ok` takes it. The program
+decides whose board is on a cable. Pure."""
 
 from __future__ import annotations
 

@@ -1,4 +1,5 @@
-"""What ends in the bytes of a board: a complete dump, a time message. When it is asked, and whose board it is, the program decides."""
+"""What ends in the bytes of a board: a complete dump, a time message. The program decides when a board is asked, and whose
+board it is."""
 
 from __future__ import annotations
 

@@ -1,5 +1,5 @@
-"""What a recorder is told of its board, and what it answers: the lines of `dgt_replay live`, as docs/FORMATS.md has them in section 6.
-Pure: values and bytes."""
+"""What the program that attends a board is told, and what it answers: the lines of `dgt_replay live`, as section 6 of docs/FORMATS.md
+has them. Pure: values and bytes."""
 
 from __future__ import annotations
 
@@ -41,7 +41,7 @@ class Answer:
 
     kept: bytes = b""  # the capture gets these
     report: List[str] = field(default_factory=list)  # its new lines
-    handling: str = ""  # what is done with what the board has sent; empty: that isn't said of a capture of the calls before
+    handling: str = ""  # what is done with what the board has sent; empty in the answer to a capture of the calls before
     other: str = ""  # the serial number of another board
     number: str = ""  # that of the game's board, if it is said
     asked: bytes = b""  # the board is sent this
@@ -51,7 +51,7 @@ class Answer:
 
 
 class Answers:
-    """Cuts what a recorder writes into its answers. The first lines of its report, so many, are known and left out."""
+    """Cuts what the program writes into its answers. The first `known` lines of its report are left out."""
 
     def __init__(self, known: int = 0) -> None:
         self._known = known

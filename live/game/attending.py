@@ -19,7 +19,7 @@ from live.refused import FAILED, Refused
 
 PIECE = 64 * 1024  # bytes of a capture that are told at once: the report of a piece is in the program's memory as a whole
 MOST_WITH_TIMES = 4 * 1024 * 1024  # bytes of a capture that is told with its times, and so as a whole
-LATER = 0.01  # seconds after the time that it named it is woken: two times that are close are one
+LATER = 0.01  # seconds by which it is woken later than it has said: two times that are close need one wake
 OF_THE_LINE = (times.OPENED, times.ANSWERED, times.GONE, times.CALLED)
 
 
@@ -71,7 +71,7 @@ class Attending(Child):
         self._line: Tuple[str, ...] = ()  # what was told of the line
         self._number = ""  # of the game's board, if it was told
         self._began = 0  # when its call began, by its clock
-        self._slept = -math.inf  # the seconds by which that is ahead of the loop's, which stands still while the computer sleeps
+        self._slept = -math.inf  # the seconds by which that clock is ahead of the loop's, which stands still while the computer sleeps
         self._away = guard.away.seconds
         self._due = math.inf  # when it is to be woken
         self._timer: Optional[Timer] = None  # which may come before that
@@ -115,11 +115,11 @@ class Attending(Child):
         return not self._told
 
     def pause(self) -> None:
-        """The time isn't told, so that all that was told gets answered."""
+        """It isn't woken from now on, so that all that was told gets answered."""
         self._is_paused = True
 
     def go_on(self) -> None:
-        """The time is told again."""
+        """It is woken again."""
         self._is_paused = False
         if self._is_due:
             self._wakes()

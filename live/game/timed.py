@@ -166,8 +166,8 @@ class Times:
         self._events[:0] = [(now, what, count) for what, count in begun]
 
     def take_away(self) -> Optional[int]:
-        """The milliseconds that nobody was there before this call, or before it went on from another capture; then none, if this is
-        asked again."""
+        """For how many milliseconds nobody was there before this call, or before it went on from another capture; None if that isn't
+        known. It is 0 when asked again."""
         is_told, self._is_away_told = self._is_away_told, True
         return 0 if is_told else self._away
 

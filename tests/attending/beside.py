@@ -1,5 +1,5 @@
-"""What `live` says through whole evenings, beside what rules in Python say of the same, which the recorders had before: when the board is asked and what, what is
-done with what it sends, and what is read of it.
+"""What `live` says through whole evenings, beside what rules in Python say, which the recorders had before: when the board is asked and
+what, what is done with what it sends, and what is read of it.
 
 A call that follows another one is left out of the last: the recorders know nothing of the times before a call. The decisions in Python
 take seconds, in which sums fall short of what they stand for; so their clock is a little ahead, each time a little more.

@@ -1,5 +1,5 @@
-"""Where `live` says something else than the rules in Python beside it, and the page in web/. Each has what it says, worked by hand from
-the pages of the crates, and what they say.
+"""Where `live` says something else than the rules in Python beside it, which the recorders had before. Each has what `live` says, worked
+by hand from the pages of the crates, and what the rules say.
 
 - The first picture after a line was opened is the one before it, and then many squares change in one dump. It is no other board, as in
   the table `hints`. The rules look at pictures that are reported, and one that comes again isn't.

@@ -1,4 +1,5 @@
-"""When the board is asked: what comes at which time, and what is sent then. The loop calls `request` whenever it is due."""
+"""When the board is asked, by the rules in Python that `live` is compared with: what comes at which time, and what is sent then. The loop
+calls `request` whenever it is due."""
 
 import math
 import random

@@ -1,4 +1,4 @@
-"""The state of a board: what happens when, and what an arbiter reads at which time."""
+"""The state of a board, by the rules in Python that `live` is compared with: what happens when, and what an arbiter reads at which time."""
 
 import math
 from typing import Any, Dict, Optional

@@ -1,4 +1,5 @@
-"""Whose board is on a cable: what it says of itself, and whether what comes from it is the game's."""
+"""Whose board is on a cable: what it says of itself, and whether what comes from it is the game's, by the rules in Python that `live` is
+compared with; and what is said of another board."""
 
 from live.board.whose import Owner, another, back, may_take
 
