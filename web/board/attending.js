@@ -51,7 +51,7 @@ export class Attending {
     this.began = () => this.times.began;
   }
 
-  /** The options of the game are others: the capture is read anew, with the next `begin`. */
+  /** The game has other options now: the capture is read anew, with the next `begin`. */
   readAnew() {
     this.isAnew = true;
     this.isHistory = true;
@@ -117,7 +117,7 @@ export class Attending {
     this.inTurn(() => this.tellNow(word, given, at));
   }
 
-  /** The same, also while nothing else is told. */
+  /** The same, even while nothing else is told. */
   tellNow(word, given = null, at = this.guard.counted()) {
     if (word === OPENED || word === GONE) this.isOpen = word === OPENED;
     this.attendant.tell(word, given, at);
@@ -183,7 +183,7 @@ export class Attending {
     this.show();
   }
 
-  /** Shows the answers of which all is kept. */
+  /** Shows the answers whose bytes are all kept. */
   show() {
     if (this.isShowing) return;
     this.isShowing = true;
@@ -212,7 +212,7 @@ export class Attending {
     this.hears.heardAll();
   }
 
-  /** The promise ends when all is shown that comes of what was told. */
+  /** The promise ends when the answers to all that was told are shown. */
   read() {
     const number = this.told;
     if (this.shown >= number || this.guard.ended) return Promise.resolve();

@@ -1,5 +1,5 @@
-// What `live` is told of a board that is attended, and what it answers, as bytes. Pure: docs/FORMATS.md has the lines, in
-// section 6.
+// What `live` is told of a board that it attends, and what it answers, as bytes. Section 6 of docs/FORMATS.md has the lines.
+// Pure.
 
 const NEWLINE = 0x0a;
 const ALARMED = ['TURNED-ROUND', 'OTHER-BOARD'];
@@ -19,7 +19,7 @@ export function entryOf(at, word, given = null) {
   return entry;
 }
 
-/** An answer of which nothing is read yet. */
+/** The answer before any line of it is read. */
 function noAnswer() {
   return { kept: new Uint8Array(0), report: [], handling: '', other: '', number: '', asks: '', isFull: false, state: null, due: null };
 }

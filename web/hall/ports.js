@@ -9,7 +9,7 @@ import { optionsOf } from '../game/options.js';
 import { Guard } from '../guard.js';
 
 const DUMPS = 2; // complete dumps without a number: a board sends its number before it shows its pieces
-const NOBODY = new TextEncoder().encode('-----'); // a number that is awaited: so it is asked for again if the answer is lost
+const NOBODY = new TextEncoder().encode('-----'); // no board's number: while it is awaited, a lost number is asked for again
 const AGAIN = 2.0; // seconds between two looks for boards that are awaited
 
 /** Whether the device on a port is of this kind. */
