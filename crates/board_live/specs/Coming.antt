@@ -19,8 +19,8 @@ abbrev pub with_news : ℕ → Option Heard → List Came → List Came
 with_news at None before = before
 with_news at (Some heard) before = News at heard ∷ before
 
--- While the board is silent, whatever happens tells so; and then that it answers. Of a call that begins this isn't known: it
--- counts as answering.
+-- While the board is silent, whatever happens says so; when it answers again, that is said. When a call begins this isn't known: the
+-- board counts as answering.
 abbrev pub silence : What → Bool → Bool → Option Heard
 silence what before true = Some Stops
 silence what before false = if before || begins what then Some Answers else None

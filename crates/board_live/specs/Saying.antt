@@ -12,7 +12,7 @@ use Rattle.board_live.specs.declared.saying.Saying.{Saying}
 use Rattle.board_live.specs.Coming.{came}
 use Rattle.board_live.specs.Moments.{Moment, begins}
 
--- This call has begun: what comes is not only kept of a call before.
+-- This call has begun: what happens isn't only what was kept of the calls before.
 abbrev pub live_by : What → Bool → Bool
 live_by (Cable Begins) before = true
 live_by Keeps before = false

@@ -13,7 +13,7 @@ use Rattle.live_lines.specs.Heard.{Heard}
 abbrev pub capped : ℕ → ℕ
 capped n = min n (2 ^ 64 - 1)
 
--- When the call began to which an entry belongs: at the last time of the one before; and then so much later as nobody was there.
+-- When the call of an entry began: at the last time of the call before, and later by the time in which nobody was there.
 abbrev pub began_by : What → ℕ → ℕ → ℕ
 began_by (Happens (Begins n)) last began = last
 began_by (Happens (IsAway n)) last began = capped (began + n)

@@ -1,5 +1,5 @@
--- What a host tells a recorder: entries, one behind the other. An entry is a line, as in a file of times, and with some words so
--- many bytes behind it. Bytes are in the order in which they stand.
+-- What a host tells a recorder: entries, one behind the other. An entry is a line, as in a file of times; some lines say how many
+-- bytes stand behind them. Bytes are in the order in which they stand.
 use Rattle.std.specs.Prelude.{◌≡◌, ◌≤◌, ℕ, Bool, true, false, List, ◌++◌, Some, None, length}
 use Rattle.board_times.specs.declared.words.Word.TheVariants.{Wake, Lent, Number, Kept, Capture, Text}
 use Rattle.board_times.specs.declared.lines.Tail.{Tail}

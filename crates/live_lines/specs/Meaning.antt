@@ -14,8 +14,8 @@ use Rattle.live_lines.specs.Entries.{brings_capture}
 use Rattle.live_lines.specs.Heard.{Heard}
 use Rattle.live_lines.specs.History.{history_of}
 
--- Nobody listened for a while: an answer that comes may be old, and frames are read anew. That nobody was there before a call, what
--- was asked and that the game is over only name a time. So does a file of times: it is of the capture that comes behind it.
+-- If nobody listened for a while, an answer that comes may be old, and frames are read anew. Three lines only name a time: that nobody
+-- was there before a call, what was asked, and that the game is over. So does a file of times, which belongs to the next capture.
 abbrev pub happening_of : Happening → ToBoard
 happening_of (Begins n) = Cable CallBegins
 happening_of Opens = Cable LineOpens
@@ -48,7 +48,7 @@ time_of heard past = (next_clock heard.entry (clock_after past)).last
 abbrev pub moment_of : Heard → List Heard → Moment
 moment_of heard past = moment_by (time_of heard past) heard
 
--- A capture is all that it says of the calls before.
+-- A capture tells all that is kept of the calls before.
 abbrev pub moments_by : Bool → Heard → List Heard → List Moment → List Moment
 moments_by true heard past before = history_of (clock_after past) heard.events heard.bytes before
 moments_by false heard past before = moment_of heard past ∷ before

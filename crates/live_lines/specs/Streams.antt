@@ -22,8 +22,8 @@ abbrev pub AreTold : List Heard → Type 0
 AreTold [] = ⊤
 AreTold (heard ∷ past) = AreTold past × IsWhole heard.entry heard.bytes × IsHeard heard past
 
--- What is written of entries: the first line of the report, and then what each is answered. Beside it stands the report up to there:
--- each answer has the lines that it has more.
+-- What is written for entries: the first line of the report, and then the answer to each. Beside it stands the report up to there:
+-- each answer has those of its lines that are new.
 abbrev pub Writes : Setup → Bool → List Heard → List ℕ → List ℕ → Type 0
 Writes setup recovers [] report said = (report ≡ first_line (setting_of setup)) × (said ≡ first_line (setting_of setup))
 Writes setup recovers (heard ∷ past) report said = (before earlier more last : List ℕ) × Writes setup recovers past before earlier

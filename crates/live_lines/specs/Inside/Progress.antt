@@ -20,7 +20,7 @@ pub record HasAttended (recorder : Recorder) (setup : Setup) (recovers : Bool) (
   pub told : AreTold past
   pub writes : Writes setup recovers past report said
 
--- It has taken the first entries of a text too, and what they are answered was written; this is left of it.
+-- It has taken the first entries of a text too, and the answers to them were written; this is left of the text.
 abbrev pub GoesOn : Recorder → Setup → Bool → List ℕ → List ℕ → List ℕ → List ℕ → Option (List ℕ) → Option (List ℕ) → Type 0
 GoesOn recorder setup recovers before said text rest written written' = (first more : List ℕ) × (text ≡ first ++ rest)
     × HasAttended recorder setup recovers (before ++ first) (said ++ more) × Appends written written' more
@@ -40,7 +40,7 @@ BreaksOff Write setup recovers before said text written written' = (first rest m
 BreaksOff Read setup recovers before said text written written' = ⊥
 BreaksOff TooLong setup recovers before said text written written' = ⊥
 
--- So far it has come with its input: these entries were answered, and this waits.
+-- It has come so far with its input: these entries were answered, and this waits.
 pub record HasCome (recorder : Recorder) (setup : Setup) (recovers : Bool) (text : List ℕ) (input input' written written' : Option (List ℕ)) : Type 0 where
   pub first : List ℕ
   pub said : List ℕ
