@@ -26,7 +26,8 @@ coming (Hears n) covered = n
 coming (Adds n) covered = n
 coming _ covered = 0
 
--- What these events tell, behind what was told before: their bytes are the next ones of the capture. What is left of the capture came last.
+-- What these events tell, behind what was told before: their bytes are the next ones of the capture. What is left of the capture
+-- came last.
 abbrev pub merged : Clock → ℕ → List ℕ → List Event → List Moment → List Moment
 merged clock covered rest [] past = with_kept clock.last rest past
 merged clock covered rest (event ∷ events) past = merged (clock_at event clock) (covered_after event.what covered)
