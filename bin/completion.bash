@@ -21,7 +21,7 @@ _dgt() {
                     follow | watch | recover) words="$game --help" ;;
                     add) words="$game --recover --line --help" ;;
                     back) words="$game --recover --to --help" ;;
-                    live) words="$game --recover --help" ;;
+                    live) words="$game --event --site $tags --recover --help" ;;
                     pictures) words='--rotated --help' ;;
                     moves | positions) words='--fen --help' ;;
                     *) words='--help' ;;
