@@ -3,3 +3,5 @@ mod SquareLemmas
 pub mod WordLemmas
 pub mod AnswerLemmas
 mod DoneLemmas
+pub mod EndLemmas
+pub mod LookLemmas

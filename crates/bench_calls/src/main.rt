@@ -1,8 +1,10 @@
 //! Calls of the libraries, many times over, for the scripts in bench/: `bench_calls rules`; `bench_calls san write 100`
 //! or `read`, of the game on standard input; `bench_calls settling pictures 1000`, `updates` or `plies`, and as a
-//! yardstick `copy`. Without arguments what has a known answer.
+//! yardstick `copy`; `bench_calls doubts`, of what is heard of boards on standard input. Without arguments what has a known
+//! answer.
 #![tactic(auto)]
 
+mod doubts;
 mod rules;
 mod san;
 mod settling;
@@ -23,6 +25,7 @@ fn run_known(rt: &HostRuntime) -> io::Result<bool> {
 fn run(rt: &HostRuntime, what: &str, task: &str, count: u32) -> io::Result<bool> {
     match what {
         "" => run_known(rt),
+        "doubts" => doubts::run(rt),
         "rules" => rules::run(rt),
         "san" => san::run(rt, task, count),
         "settling" => settling::run(rt, task, count),

@@ -1,5 +1,5 @@
 -- What a board is sent. Events are listed with the latest first, times are milliseconds.
-use Rattle.std.specs.Prelude.{ℕ, ◌||◌, List, ◌∷◌, Option, Some, None, if◌then◌else◌}
+use Rattle.std.specs.Prelude.{◌≢◌, ◌⊎◌, ℕ, ◌||◌, List, ◌∷◌, Option, Some, None, if◌then◌else◌}
 use Rattle.board_asking.specs.declared.line.Event.{Event}
 use Rattle.board_asking.specs.declared.line.Request.{Request}
 use Rattle.board_asking.specs.declared.line.Request.TheVariants.{Dump, Numbered, Start}
@@ -9,7 +9,7 @@ use Rattle.board_asking.specs.Line.{is_unanswered}
 use Rattle.board_asking.specs.Pace.{asks, HasPace}
 use Rattle.board_asking.specs.Silence.{HasSilence}
 use Rattle.board_asking.specs.Starting.{HasStarting, is_start}
-use Rattle.board_asking.specs.Whose.{HasWhose, is_number_asked}
+use Rattle.board_asking.specs.Whose.{HasWhose, handling_at, is_number_asked}
 
 -- The next request: for updates too if the last one is unanswered, or the board may not know that they are wanted; each such one
 -- asks for the serial number, and so do two after it if the board has one.
@@ -24,6 +24,10 @@ request_at now past = if asks now past then Some (next_request past) else None
 abbrev pub with_request : ℕ → Option Request → List Event → List Event
 with_request now None past = past
 with_request now (Some request) past = record { at = now; what = Asks request } ∷ past
+
+-- At the later time the board is asked otherwise than now, or something else is done with what it sends.
+abbrev pub Changes : ℕ → List Event → ℕ → Type 0
+Changes now past later = (asks later past ≢ asks now past) ⊎ (handling_at later past ≢ handling_at now past)
 
 -- This happened, the latest first.
 pub record StandsFor (asking : Asking) (past : List Event) : Type 0 where

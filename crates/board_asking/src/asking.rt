@@ -1,12 +1,13 @@
 //! The machine: it takes what happens on a board's line, and says when to ask the board, and what.
-ghost use Rattle.std.specs.Prelude.{◌≡◌, ◌<◌, ◌≤◌, ◌∷◌, [], ℕ, List, IfSome};
+ghost use Rattle.std.specs.Prelude.{◌≡◌, ◌<◌, ◌∷◌, [], List, IfSome};
 ghost use Rattle.board_asking.specs.declared.line.Event.{Event as EventOf};
 ghost use Rattle.board_asking.specs.declared.line.Happening.TheVariants.{Updates};
 ghost use Rattle.board_asking.specs.Pace.{AsksAlike, asks};
 ghost use Rattle.board_asking.specs.Silence.{is_silent};
 ghost use Rattle.board_asking.specs.Whose.{HandledAlike, handling_at, own_number, shown_number};
-ghost use Rattle.board_asking.specs.Asking.{StandsFor, next_request, request_at, with_request};
+ghost use Rattle.board_asking.specs.Asking.{Changes, StandsFor, next_request, request_at, with_request};
 
+use crate::lasting::sooner;
 use crate::line::{Event, Happening, Request};
 use crate::pace::Pace;
 use crate::silence::Silence;
@@ -93,14 +94,15 @@ impl Asking {
         request
     }
 
-    /// When to wake, if nothing happens: none of what is said here changes before, once `wake` was called. None: never.
+    /// When to wake, if nothing happens: none of what is said here changes before, once `wake` was called. Then the board is asked,
+    /// or something else is done with what it sends. None: never.
     pub fn due(&self, now: u64) -> Option<u64>
-        ensures later { IfSome result (λ d. now < d) }
+        ensures later { IfSome result (λ due. now < due) }
         ensures asks { (past : List EventOf) → StandsFor self.now past → AsksAlike now past result }
         ensures handling { (past : List EventOf) → StandsFor self.now past → HandledAlike now past result }
+        ensures changes { (past : List EventOf) → StandsFor self.now past → IfSome result (λ due. Changes now past due) }
     {
-        let due = self.whose.due(now);
-        self.pace.due(now, due)
+        sooner(self.pace.due(now), self.whose.due(now))
     }
 
     /// Whether the board sends no dump, though it was asked for 5 s.

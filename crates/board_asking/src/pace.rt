@@ -1,12 +1,12 @@
 //! When a board is asked for a dump.
-ghost use Rattle.std.specs.Prelude.{◌≡◌, ◌<◌, ◌^◌, ◌∷◌, [], ℕ, List, IfSome, if◌then◌else◌};
-ghost use Rattle.board_asking.specs.Lasting.{IsBefore};
+ghost use Rattle.std.specs.Prelude.{◌≡◌, ◌≢◌, ◌<◌, ◌^◌, ◌∷◌, [], ℕ, List, IfSome, if◌then◌else◌};
+ghost use Rattle.board_asking.specs.Lasting.{has_come};
 ghost use Rattle.board_asking.specs.declared.line.Event.{Event as EventOf};
 ghost use Rattle.board_asking.specs.declared.line.Happening.TheVariants.{Updates};
 ghost use Rattle.board_asking.specs.Line.{asked_by, dumped_by, is_unanswered, open_by, unanswered_by, unfinished_by, updated_by, wanted_by};
-ghost use Rattle.board_asking.specs.Pace.{HasPace, asks, AsksAlike};
+ghost use Rattle.board_asking.specs.Pace.{HasPace, asks, AsksAlike, would_help};
 
-use crate::lasting::{is_past, lasted, sooner};
+use crate::lasting::{after, at_once_or_after, has_come, later, sooner, to_come};
 use crate::line::{Event, Happening};
 
 /// What the pace of the requests depends on.
@@ -155,38 +155,44 @@ impl Pace {
         self.is_unanswered
     }
 
+    /// When a dump would help.
+    fn helps_from(&self) -> Option<u64>
+        ensures { (now : ℕ) (past : List EventOf) → now < 2 ^ 64 → HasPace self.now past → has_come now result ≡ would_help now past }
+    {
+        if self.is_wanted {
+            return Some(0);
+        }
+        let finished = after(200, self.unfinished);
+        let old = after(1000, self.dumped);
+        let quiet = at_once_or_after(500, self.updated);
+        let oldest = after(4000, self.dumped);
+        sooner(finished, sooner(later(old, quiet), oldest))
+    }
+
+    /// When the board is asked, if nothing happens.
+    fn asks_from(&self) -> Option<u64>
+        ensures { (now : ℕ) (past : List EventOf) → now < 2 ^ 64 → HasPace self.now past → has_come now result ≡ asks now past }
+    {
+        if !self.is_open {
+            return None;
+        }
+        let may_ask = at_once_or_after(between(self.is_unanswered), self.asked);
+        later(may_ask, self.helps_from())
+    }
+
     /// Whether the board is asked now.
     pub fn asks(&self, now: u64) -> bool
         ensures { (past : List EventOf) → HasPace self.now past → result ≡ asks now past }
     {
-        if !self.is_open {
-            return false;
-        }
-        if !is_past(between(self.is_unanswered), now, self.asked) {
-            return false;
-        }
-        if self.is_wanted {
-            return true;
-        }
-        if lasted(200, now, self.unfinished) {
-            return true;
-        }
-        if lasted(1000, now, self.dumped) && is_past(500, now, self.updated) {
-            return true;
-        }
-        lasted(4000, now, self.dumped)
+        has_come(now, self.asks_from())
     }
 
-    /// The sooner of a time and that at which the board may be asked, if nothing happens.
-    pub fn due(&self, now: u64, due: Option<u64>) -> Option<u64>
-        ensures later { IfSome due (λ d. now < d) → IfSome result (λ d. now < d) }
-        ensures before { (later : ℕ) → later < 2 ^ 64 → IsBefore later result → IsBefore later due }
+    /// When the board is asked, if it isn't now and nothing happens.
+    pub fn due(&self, now: u64) -> Option<u64>
+        ensures later { IfSome result (λ due. now < due) }
         ensures waits { (past : List EventOf) → HasPace self.now past → AsksAlike now past result }
+        ensures asks { (past : List EventOf) → HasPace self.now past → IfSome result (λ due. asks due past ≢ asks now past) }
     {
-        let due = sooner(due, between(self.is_unanswered), now, self.asked);
-        let due = sooner(due, 200, now, self.unfinished);
-        let due = sooner(due, 500, now, self.updated);
-        let due = sooner(due, 1000, now, self.dumped);
-        sooner(due, 4000, now, self.dumped)
+        to_come(now, self.asks_from())
     }
 }

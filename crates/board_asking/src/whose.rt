@@ -1,10 +1,10 @@
 //! Which board is on the cable, and what is done with what it sends.
-ghost use Rattle.std.specs.Prelude.{◌≡◌, ◌<◌, ◌∷◌, [], ℕ, List, IfSome};
+ghost use Rattle.std.specs.Prelude.{◌≡◌, ◌≢◌, ◌<◌, ◌∷◌, [], List, IfSome};
 ghost use Rattle.std.specs.Str.{bytes_eq};
 ghost use Rattle.board_asking.specs.declared.line.Event.{Event as EventOf};
 ghost use Rattle.board_asking.specs.Whose.{HandledAlike, HasWhose, awaited_by, dumps_by, handling_at, handling_by, handling_of, is_awaited, is_number_asked, left_by, own_by, own_number, shown_by, shown_number};
 
-use crate::lasting::{lasted, sooner};
+use crate::lasting::{after, lasted, to_come};
 use crate::line::{Event, Happening, Request};
 
 /// What is done with what a board sends.
@@ -193,11 +193,15 @@ impl Whose {
         )
     }
 
-    /// The time until which that stays, if nothing happens.
+    /// When what is held is held no longer, if nothing happens.
     pub fn due(&self, now: u64) -> Option<u64>
-        ensures later { IfSome result (λ d. now < d) }
+        ensures later { IfSome result (λ due. now < due) }
         ensures waits { (past : List EventOf) → HasWhose self.now past → HandledAlike now past result }
+        ensures ends { (past : List EventOf) → HasWhose self.now past → IfSome result (λ due. handling_at due past ≢ handling_at now past) }
     {
-        sooner(None, 5000, now, self.awaited)
+        if self.own.is_none() || 3 <= self.dumps {
+            return None;
+        }
+        to_come(now, after(5000, self.awaited))
     }
 }

@@ -1,7 +1,7 @@
 //! The machine: it takes what happens at a board's cable, and answers what the board is sent and which bytes the game gets.
 ghost use Rattle.std.specs.Prelude.{◌≡◌, ◌<◌, ◌∷◌, [], List, IfOk, IfSome, OnOk};
 ghost use Rattle.board_asking.specs.declared.line.Event.{Event as ToldOf};
-ghost use Rattle.board_asking.specs.Asking.{StandsFor as AskingStandsFor};
+ghost use Rattle.board_asking.specs.Asking.{Changes, StandsFor as AskingStandsFor};
 ghost use Rattle.board_asking.specs.Pace.{AsksAlike};
 ghost use Rattle.board_asking.specs.Silence.{is_silent};
 ghost use Rattle.board_asking.specs.Whose.{HandledAlike, own_number, shown_number};
@@ -114,12 +114,14 @@ impl Cable {
         self.back.aside()
     }
 
-    /// When to wake, if nothing happens: none of what is said here changes before. None: never.
+    /// When to wake, if nothing happens: none of what is said here changes before, and then some of it does. None: never.
     pub fn due(&self, now: u64) -> Option<u64>
         ensures later { IfSome result (λ d. now < d) }
         ensures asks { (past : List Moment) (turns : List Turn) → StandsFor self.now past → Told past turns → AsksAlike now (told turns) result }
         ensures handling { (past : List Moment) (turns : List Turn) → StandsFor self.now past → Told past turns
             → HandledAlike now (told turns) result }
+        ensures changes { (past : List Moment) (turns : List Turn) → StandsFor self.now past → Told past turns
+            → IfSome result (λ due. Changes now (told turns) due) }
     {
         self.asking.due(now)
     }

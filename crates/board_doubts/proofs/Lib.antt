@@ -1,4 +1,8 @@
 pub mod Masks
 pub mod Paces
-pub mod Below
+pub mod Lent
 pub mod Passing
+pub mod Reasons
+pub mod Stops
+pub mod Going
+pub mod Walking

@@ -13,8 +13,9 @@ use Rattle.board_doubts.specs.declared.heard.Heard.{Heard}
 use Rattle.board_doubts.specs.declared.heard.Heard.TheVariants.{Shows, Moves, Away, Clock}
 use Rattle.board_doubts.specs.declared.heard.Place.TheVariants.{AtLast, AfterLast}
 use Rattle.board_doubts.specs.declared.heard.Why.TheVariants.{Late, Elsewhere, BothElsewhere, AfterGap}
+use Rattle.board_doubts.specs.declared.stopped_clock.Tried.{Tried}
 use Rattle.board_doubts.specs.Clock.{ago, has_run, seen_late, stands_by, stands_since, tried, tries_by}
-use Rattle.board_doubts.specs.Doubts.{doubt_of, doubted, hides, hides_by, is_on, late, may_be_moved}
+use Rattle.board_doubts.specs.Doubts.{doubt_of, doubted, hides, hides_by, is_on, may_be_played, late, may_be_moved}
 use Rattle.board_doubts.specs.Laws.{HandsOffPasses, NoClock, NoneShows, QuickCorrectionPasses, RunningClockPasses, StaysDoubtful, doubts, says_nothing, with_doubt}
 use Rattle.board_doubts.specs.Pictures.{Laid, Squares, by_one, has_left, has_stood, moved_on, others, own, shown_as, stands, stands_again, stood_till}
 use Rattle.board_doubts.specs.Recent.{gap, gap_by, has_gap, pictures, since_news, touched, touched_by}
@@ -98,7 +99,7 @@ hands_off_passes repeats now past heard still =
     no_move (has_stood others stands shown) (has_left own stands shown) (has_stood moved_on stands_again shown) (has_stood own stands shown) (has_gap recent) (by_one shown)
     (none_stood others stands shown still) (none_stood moved_on stands_again shown (none_moved_on shown still)) heard in (
       move_passes (is_on past) (has_moved past) (may_be_moved recent) (hides true past) none (nothing_hidden true past (gap recent) heard),
-      agreement_passes (is_on past && has_moved past) (may_be_moved recent) (hides false past) (touched recent) none
+      agreement_passes (is_on past && may_be_played past) (may_be_moved recent) (hides false past) (touched recent) none
           (nothing_hidden false past (gap recent) heard) (untouched recent heard),
     )
 
@@ -133,10 +134,11 @@ and_false false = refl
 
 none_tried : (what : Heard) (event : Event) (past : List Event) → stands_since past ≡ None → tries_by what event past ≡ None
 none_tried (Moves repeats) event past none =
-    ap (λ since. if not event.is_added && ((has_run past && is_some since) && has_lasted seen_late event.at since)
-    then Some (record { moves = tried (event ∷ past); plies = ago (event ∷ past) }) else None) none
-    ∙ ap (λ b. if not event.is_added && (b && false) then Some (record { moves = tried (event ∷ past); plies = ago (event ∷ past) }) else None) (and_false (has_run past))
-    ∙ ap (λ b. if b then Some (record { moves = tried (event ∷ past); plies = ago (event ∷ past) }) else None) (and_false (not event.is_added))
+    let given : Option Tried = Some (record { moves = tried (event ∷ past); plies = ago (event ∷ past) }) in
+    let seen : Bool = not (tried past == 0) in
+    ap (λ since. if not event.is_added && ((has_run past && is_some since) && (seen || has_lasted seen_late event.at since)) then given else None) none
+    ∙ ap (λ b. if not event.is_added && (b && (seen || false)) then given else None) (and_false (has_run past))
+    ∙ ap (λ b. if b then given else None) (and_false (not event.is_added))
 none_tried other event past none = refl
 
 pub running_clock_passes : RunningClockPasses

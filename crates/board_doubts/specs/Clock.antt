@@ -72,10 +72,14 @@ ago (event ∷ past) = ago_by event.what event.is_added (tried past == 0) (ago p
 abbrev pub seen_late : ℕ
 seen_late = 3000
 
+-- A move that is seen now was made after the stop: it is seen later than that, or another one was seen since the stop.
+abbrev pub is_after : ℕ → List Event → Bool
+is_after now past = not (tried past == 0) || has_lasted seen_late now (stands_since past)
+
 -- what somebody must look at if this move was made while the clock was stopped
 abbrev pub tries_by : Heard → Event → List Event → Option Tried
 tries_by (Moves repeats) event past =
-    if not event.is_added && (is_stopped past && has_lasted seen_late event.at (stands_since past))
+    if not event.is_added && (is_stopped past && is_after event.at past)
     then Some (record { moves = tried (event ∷ past); plies = ago (event ∷ past) }) else None
 tries_by other event past = None
 

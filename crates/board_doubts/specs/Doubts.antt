@@ -1,19 +1,22 @@
 -- Which news somebody must look at. Events are listed with the latest first.
-use Rattle.std.specs.Prelude.{ℕ, ◌/◌, ◌&&◌, ◌||◌, not, Bool, true, false, nat_lt, List, [], ◌∷◌, Option, Some, None, is_some, if◌then◌else◌}
+use Rattle.std.specs.Prelude.{ℕ, ◌/◌, ◌&&◌, ◌||◌, not, Bool, true, false, nat_lt, List, [], ◌∷◌, Option, Some, None, is_some, take, if◌then◌else◌}
 use Rattle.square_runs.specs.Lasting.{has_lasted}
 use Rattle.board_doubts.specs.declared.heard.Doubt.{Doubt}
 use Rattle.board_doubts.specs.declared.heard.Event.{Event}
 use Rattle.board_doubts.specs.declared.heard.Heard.{Heard}
-use Rattle.board_doubts.specs.declared.heard.Heard.TheVariants.{Shows, Moves, Corrects, Agrees, Ends, Reopens, PutsBack}
+use Rattle.board_doubts.specs.declared.heard.Heard.TheVariants.{Shows, Moves, Corrects, Agrees, Ends, Reopens, PutsBack, Plays, Replaces}
 use Rattle.board_doubts.specs.declared.heard.Place.{Place}
 use Rattle.board_doubts.specs.declared.heard.Place.TheVariants.{AtLast, AfterLast}
 use Rattle.board_doubts.specs.declared.heard.Seen.{Seen}
 use Rattle.board_doubts.specs.declared.heard.Why.{Why}
-use Rattle.board_doubts.specs.declared.heard.Why.TheVariants.{Late, Elsewhere, BothElsewhere, AfterGap}
-use Rattle.board_doubts.specs.Pace.{fits_ply}
+use Rattle.board_doubts.specs.declared.heard.Why.TheVariants.{Late, Elsewhere, BothElsewhere, AfterGap, TakenBack, Unpressed, OtherTime}
+use Rattle.board_doubts.specs.Pace.{fits_ply, half_within, last_within, pace_of}
 use Rattle.board_doubts.specs.Pictures.{by_both, by_both_perhaps, by_one, has_stood, own, stands}
+use Rattle.board_doubts.specs.Plies.{both_back, played, played_by}
+use Rattle.board_doubts.specs.Presses.{between, between_by, is_left_by, is_used, pressed, runs, unpressed}
 use Rattle.board_doubts.specs.Recent.{gap, has_gap, is_restart, pictures, since_news, touched}
-use Rattle.board_doubts.specs.Waiting.{has_moved, waited}
+use Rattle.board_doubts.specs.Thinking.{is_exchanged}
+use Rattle.board_doubts.specs.Waiting.{has_moved, ply_times, waited}
 
 -- The board has shown the game's position; since then nobody has been asked to put pieces where they belong.
 abbrev pub begun_by : Heard → Bool → Bool
@@ -95,11 +98,43 @@ why_agrees past =
     else if hides false past || touched (since_news past) then Some AfterGap
     else None
 
--- why news is doubted while the game is on. Before the first move no agreement is doubted
+-- A piece is taken back within this, in milliseconds, once the other side's was.
+abbrev pub soon : ℕ
+soon = 3000
+
+-- Players are unhurried if they need longer than this for more than half of their plies, in milliseconds: with a clock, and without
+-- one. Others may go back and forth so soon.
+abbrev pub unhurried : Bool → ℕ
+unhurried clocked = if clocked then 1500 else 6000
+
+abbrev pub is_unhurried : Bool → List Event → Bool
+is_unhurried clocked past = not (half_within (unhurried clocked) (take pace_of (ply_times past)))
+
+-- Both sides have taken plies back, the second one soon after the first, though they are unhurried; and if they use a clock, it
+-- wasn't pressed between them.
+abbrev pub takes_back : Heard → List Event → Bool
+takes_back what past =
+    (both_back (played_by what (played past)) && last_within soon (ply_times past))
+    && (is_unhurried (is_used past) past && not (is_used past && between_by what (pressed past) (between past)))
+
+abbrev pub why_played : Heard → List Event → Option Why
+why_played what past =
+    if takes_back what past then Some TakenBack
+    else if is_left_by what (runs past) (unpressed past) then Some Unpressed
+    else if is_exchanged what past then Some OtherTime
+    else None
+
+-- Plies may have been made: there was a move, or the clock runs. Until then pieces may be set up.
+abbrev pub may_be_played : List Event → Bool
+may_be_played past = has_moved past || runs past
+
+-- why news is doubted while the game is on
 abbrev pub why_by : Heard → ℕ → List Event → Option Why
 why_by (Corrects repeats) now past = if is_on past then why_corrects now past else None
 why_by (Moves repeats) now past = if is_on past then why_moves past else None
-why_by Agrees now past = if is_on past && has_moved past then why_agrees past else None
+why_by Agrees now past = if is_on past && may_be_played past then why_agrees past else None
+why_by (Plays ply) now past = if is_on past then why_played (Plays ply) past else None
+why_by (Replaces ply) now past = if is_on past then why_played (Replaces ply) past else None
 why_by other now past = None
 
 -- when the last move was made, if the next picture may make it doubtful: it isn't doubted yet, no picture has come since, and both

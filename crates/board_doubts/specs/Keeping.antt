@@ -3,17 +3,24 @@ use Rattle.std.specs.Prelude.{◌≡◌, ◌+◌, ◌-◌, min, ℕ, zero, suc, 
 use Rattle.square_runs.specs.Keeping.{StandsFor as RunsStandFor}
 use Rattle.board_doubts.specs.declared.doubts.Doubts.{Doubts}
 use Rattle.board_doubts.specs.declared.heard.Event.{Event}
+use Rattle.board_doubts.specs.declared.heard.Ply.{Ply}
 use Rattle.board_doubts.specs.declared.pace.Pace.{Pace}
+use Rattle.board_doubts.specs.declared.plies.Plies.{Plies}
+use Rattle.board_doubts.specs.declared.presses.Presses.{Presses}
 use Rattle.board_doubts.specs.declared.recent.Recent.{Recent}
 use Rattle.board_doubts.specs.declared.since.Since.{Since}
 use Rattle.board_doubts.specs.declared.stood.Stood.{Stood}
 use Rattle.board_doubts.specs.declared.stopped_clock.StoppedClock.{StoppedClock}
+use Rattle.board_doubts.specs.declared.thinking.Thinking.{Thinking}
 use Rattle.board_doubts.specs.declared.waited.Waited.{Waited}
 use Rattle.board_doubts.specs.Clock.{ago, has_run, stands_since, tried}
 use Rattle.board_doubts.specs.Doubts.{has_begun, has_repeated, is_over, passing}
 use Rattle.board_doubts.specs.Pace.{pace_of}
-use Rattle.board_doubts.specs.Pictures.{Laid, Squares, has_left, has_stood, moved_on, others, own, shown_as, stands, stands_again}
+use Rattle.board_doubts.specs.Pictures.{Laid, Squares, astray, has_left, has_stood, moved_on, others, own, shown_as, stands, stands_again}
+use Rattle.board_doubts.specs.Plies.{played}
+use Rattle.board_doubts.specs.Presses.{between, pressed, runs, unpressed}
 use Rattle.board_doubts.specs.Recent.{comes_first, day, gap, is_restart, pictures, since_news, touched}
+use Rattle.board_doubts.specs.Thinking.{counting, lent}
 use Rattle.board_doubts.specs.Waiting.{has_moved, ply_times, waited}
 
 -- What is kept of these squares of these pictures.
@@ -26,6 +33,7 @@ pub record KeepsStood (kept : Stood) (squares : Squares) (span : ℕ) (past : Li
 pub record KeepsSince (kept : Since) (past : List Laid) : Type 0 where
   pub own_is : KeepsStood kept.own own stands past
   pub others_is : KeepsStood kept.others others stands past
+  pub astray_is : KeepsStood kept.astray astray stands past
   pub again : KeepsStood kept.moved_on moved_on stands_again past
   pub drawn : KeepsStood kept.drawn moved_on stands past
 
@@ -60,11 +68,39 @@ is_within time (Some ply) = nat_le ply time
 pub record KeepsPace (kept : Pace) (times : List ℕ) : Type 0 where
   pub last : kept.last ≡ padded pace_of times
 
+-- What is kept of plies.
+pub record KeepsPlies (kept : Plies) (plies : ℕ → Option Ply) : Type 0 where
+  pub last : kept.last ≡ plies 0
+  pub second : kept.second ≡ plies 1
+  pub third : kept.third ≡ plies 2
+  pub fourth : kept.fourth ≡ plies 3
+
+-- What is kept of presses of the clock.
+pub record KeepsPresses (kept : Presses) (past : List Event) : Type 0 where
+  pub pressed_is : kept.pressed ≡ pressed past
+  pub between_is : kept.between ≡ between past
+  pub runs_is : kept.runs ≡ runs past
+  pub unpressed_is : kept.unpressed ≡ unpressed past
+
+-- the first n of these, and `false` where there are fewer
+abbrev pub filled : ℕ → List Bool → List Bool
+filled zero plies = []
+filled (suc n) [] = false ∷ filled n []
+filled (suc n) (ply ∷ plies) = ply ∷ filled n plies
+
+-- What is kept of the sides on whose time players think.
+pub record KeepsThinking (kept : Thinking) (past : List Event) : Type 0 where
+  pub counting_is : kept.counting ≡ counting past
+  pub lent_is : kept.lent ≡ filled pace_of (lent past)
+
 -- This was heard, the latest first.
 pub record StandsFor (doubts : Doubts) (past : List Event) : Type 0 where
   pub recent : KeepsRecent doubts.recent (since_news past)
   pub waited_is : KeepsWaited doubts.waited past
   pub pace : KeepsPace doubts.pace (ply_times past)
+  pub plies : KeepsPlies doubts.plies (played past)
+  pub presses : KeepsPresses doubts.presses past
+  pub thinking : KeepsThinking doubts.thinking past
   pub moved : doubts.has_moved ≡ has_moved past
   pub begun : doubts.has_begun ≡ has_begun past
   pub over : doubts.is_over ≡ is_over past

@@ -1,16 +1,27 @@
 -- What holds of each history. Events and pictures are listed with the latest first.
-use Rattle.std.specs.Prelude.{◌≡◌, ◌<◌, ◌≤◌, ◌+◌, ℕ, Bool, true, false, List, [], ◌∷◌, ◌++◌, Option, Some, None, ⊤}
+use Rattle.std.specs.Prelude.{◌≡◌, ◌<◌, ◌≤◌, ◌+◌, ◌==◌, ◌⊎◌, ℕ, not, Bool, true, false, List, [], ◌∷◌, ◌++◌, Option, Some, None, is_some, slice_index, ⊤, if◌then◌else◌}
+use Rattle.std.specs.Int.{bit_at}
 use Rattle.board_doubts.specs.declared.heard.Doubt.{Doubt}
 use Rattle.board_doubts.specs.declared.heard.Event.{Event}
 use Rattle.board_doubts.specs.declared.heard.Heard.{Heard}
-use Rattle.board_doubts.specs.declared.heard.Heard.TheVariants.{Moves, Corrects, Agrees, Clock}
+use Rattle.board_doubts.specs.declared.heard.Heard.TheVariants.{Moves, Corrects, Agrees, Away, Clock, Looked, Plays, Presses}
+use Rattle.board_doubts.specs.declared.heard.Place.{Place}
+use Rattle.board_doubts.specs.declared.heard.Ply.{Ply}
+use Rattle.board_doubts.specs.declared.heard.Seen.{Seen}
+use Rattle.board_doubts.specs.declared.heard.Why.{Why}
+use Rattle.board_doubts.specs.declared.heard.Why.TheVariants.{OtherTime, TakenBack, Unpressed}
 use Rattle.board_doubts.specs.declared.stopped_clock.Tried.{Tried}
 use Rattle.board_doubts.specs.Clock.{has_run, seen_late, stands_since, tries_of}
 use Rattle.board_doubts.specs.Doubts.{doubt_by, doubt_of, is_on, late}
+use Rattle.board_doubts.specs.Elsewhere.{Sees, differs, elsewhere}
 use Rattle.board_doubts.specs.Pace.{fits_ply, quickest}
 use Rattle.board_doubts.specs.Pictures.{Laid, Squares, by_both, by_one, has_stood, others, own, stands}
+use Rattle.board_doubts.specs.Plies.{is_back, played}
+use Rattle.board_doubts.specs.Presses.{runs}
 use Rattle.board_doubts.specs.Recent.{gap, has_gap, is_restart, pictures, since_news, touched}
+use Rattle.board_doubts.specs.Thinking.{counting, is_other}
 use Rattle.board_doubts.specs.Waiting.{has_moved, waited}
+use Rattle.board_doubts.specs.Ways.{can_go, kind_of}
 
 abbrev pub with_doubt : Option Doubt → List Doubt → List Doubt
 with_doubt None before = before
@@ -77,8 +88,119 @@ abbrev pub RunningClockPasses : Type 0
 RunningClockPasses = (event said : Event) (past later : List Event) → said.what ≡ Clock true → NoClock later
     → tries_of event (later ++ said ∷ past) ≡ None
 
--- Moves that were made while the clock was stopped: it has run in this game, and at the last of them it had been stopped
--- for as long as a move may be seen late.
+-- Moves that were made while the clock was stopped: it has run in this game; and at the last of them it had been stopped for as
+-- long as a move may be seen late, or there were others.
 abbrev pub OnlyWhileStopped : Type 0
 OnlyWhileStopped = (event : Event) (past : List Event) (tried : Tried) → tries_of event past ≡ Some tried
-    → (has_run past ≡ true) × ((since : ℕ) × (stands_since past ≡ Some since) × (since + seen_late ≤ event.at))
+    → (has_run past ≡ true) × ((since : ℕ) × (stands_since past ≡ Some since) × ((since + seen_late ≤ event.at) ⊎ (1 < tried.moves)))
+
+-- The clock doesn't say that it runs, the board is heard, and nobody says that he has looked.
+abbrev pub leaves_stopped : Heard → Bool
+leaves_stopped (Clock runs) = not runs
+leaves_stopped (Away gap) = false
+leaves_stopped Looked = false
+leaves_stopped other = true
+
+abbrev pub StaysStopped : List Event → Type 0
+StaysStopped [] = ⊤
+StaysStopped (event ∷ past) = (leaves_stopped event.what ≡ true) × StaysStopped past
+
+-- Once a clock that has run is stopped, the second move is reported, whatever else is heard, while it stays so.
+abbrev pub SecondMoveIsTried : Type 0
+SecondMoveIsTried = (second first stop : Event) (repeats again : Bool) (past between later : List Event)
+    → has_run past ≡ true → stop.what ≡ Clock false → StaysStopped between → StaysStopped later
+    → first.what ≡ Moves repeats → first.is_added ≡ false → second.what ≡ Moves again → second.is_added ≡ false
+    → is_some (tries_of second (later ++ first ∷ (between ++ stop ∷ past))) ≡ true
+
+-- Somebody must look at what is heard, for this reason.
+abbrev pub IsDoubtedFor : Why → Event → List Event → Type 0
+IsDoubtedFor why event past = (place : Place) × (doubt_of event past ≡ Some (record { place = place; why = why }))
+
+-- If a ply doesn't take back the one that its side made before, it isn't doubted as taken back.
+abbrev pub OnlyBackIsTakenBack : Type 0
+OnlyBackIsTakenBack = (event : Event) (past : List Event) → is_back (played (event ∷ past) 0) (played (event ∷ past) 2) ≡ false
+    → IsDoubtedFor TakenBack event past → ⊥
+
+abbrev pub is_ply : Heard → Bool
+is_ply (Plays ply) = true
+is_ply other = false
+
+-- The clock was pressed since the last ply, if there is one.
+abbrev pub was_pressed_by : Heard → Bool → Bool
+was_pressed_by Presses before = true
+was_pressed_by (Plays ply) before = false
+was_pressed_by other before = before
+
+abbrev pub was_pressed : List Event → Bool
+was_pressed [] = true
+was_pressed (event ∷ past) = was_pressed_by event.what (was_pressed past)
+
+-- Between each two plies the clock was pressed.
+abbrev pub PressesEach : List Event → Type 0
+PressesEach [] = ⊤
+PressesEach (event ∷ past) = (is_ply event.what ≡ true → was_pressed past ≡ true) × PressesEach past
+
+-- While players press the clock after each ply, no ply is doubted as unpressed or as taken back, whatever else is heard.
+abbrev pub PressedPlyPasses : Type 0
+PressedPlyPasses = (event : Event) (past : List Event) → PressesEach (event ∷ past)
+    → (IsDoubtedFor Unpressed event past → ⊥) × (IsDoubtedFor TakenBack event past → ⊥)
+
+-- so many plies were made. What an arbiter added isn't counted
+abbrev pub one_by : Heard → Bool → ℕ
+one_by (Plays ply) added = if added then 0 else 1
+one_by other added = 0
+
+abbrev pub plies_in : List Event → ℕ
+plies_in [] = 0
+plies_in (event ∷ past) = plies_in past + one_by event.what event.is_added
+
+-- Nobody presses the clock, and it doesn't say that it stands.
+abbrev pub leaves_running : Heard → Bool
+leaves_running (Clock runs) = runs
+leaves_running Presses = false
+leaves_running other = true
+
+abbrev pub StaysUnpressed : List Event → Type 0
+StaysUnpressed [] = ⊤
+StaysUnpressed (event ∷ past) = (leaves_running event.what ≡ true) × StaysUnpressed past
+
+-- While the clock runs in a game that is on, the sixth ply since it was pressed is doubted, whatever else is heard.
+abbrev pub SixthPlyIsDoubted : Type 0
+SixthPlyIsDoubted = (sixth press : Event) (ply : Ply) (past later : List Event)
+    → runs past ≡ true → press.what ≡ Presses → StaysUnpressed later → plies_in later ≡ 5 → sixth.what ≡ Plays ply → sixth.is_added ≡ false
+    → is_on (later ++ press ∷ past) ≡ true → is_some (doubt_of sixth (later ++ press ∷ past)) ≡ true
+
+-- A ply was thought about on its own side's time, as far as that is known.
+abbrev pub is_own : Heard → Option Bool → Bool
+is_own (Plays ply) (Some black) = not (is_other black ply.black)
+is_own other counts = true
+
+abbrev pub OnOwnTime : List Event → Type 0
+OnOwnTime [] = ⊤
+OnOwnTime (event ∷ past) = (is_own event.what (counting past) ≡ true) × OnOwnTime past
+
+-- While players think on their own time, no ply is doubted for that.
+abbrev pub OwnTimePasses : Type 0
+OwnTimePasses = (event : Event) (past : List Event) → OnOwnTime (event ∷ past) → IsDoubtedFor OtherTime event past → ⊥
+
+-- A piece of this side stands where the position doesn't have it, and is missing on its square. On an empty board it could go back there.
+pub record CouldGoBack (black : Bool) (position picture : List ℕ) (s home : ℕ) : Type 0 where
+  pub low : home < 64
+  pub stands : elsewhere black position picture s ≡ true
+  pub its : slice_index position home ≡ slice_index picture s
+  pub missing : differs position picture home ≡ true
+  pub goes : can_go (slice_index picture s) s home ≡ true
+
+-- If plies lead back to a position, each piece that was moved by them went back to its square at last. From where it stood before that,
+-- it could go back: a square from which a piece could counts. For the side to move it must not have stood there before the last move.
+abbrev pub ReturnCounts : Type 0
+ReturnCounts = (seen : Seen) (black : Bool) (earlier before position picture : List ℕ) (s home : ℕ) → s < 64
+    → Sees seen black earlier before position picture
+    → (CouldGoBack black position picture s home → differs before picture s ≡ true → (bit_at seen.own s == 1) ≡ true)
+    × (CouldGoBack (not black) position picture s home → (bit_at seen.others s == 1) ≡ true)
+
+-- No pawn counts, since it never goes back.
+abbrev pub NoPawnCounts : Type 0
+NoPawnCounts = (seen : Seen) (black : Bool) (earlier before position picture : List ℕ) (s : ℕ) → s < 64
+    → Sees seen black earlier before position picture → kind_of (slice_index picture s) ≡ 1
+    → ((bit_at seen.own s == 1) ≡ false) × ((bit_at seen.others s == 1) ≡ false)

@@ -5,5 +5,9 @@ pub mod Keeping
 pub mod Laws
 pub mod Pace
 pub mod Pictures
+pub mod Plies
+pub mod Presses
 pub mod Recent
+pub mod Thinking
 pub mod Waiting
+pub mod Ways

@@ -1,5 +1,5 @@
 -- How long hurried players need for a ply.
-use Rattle.std.specs.Prelude.{ℕ, ◌*◌, ◌&&◌, Bool, nat_le, List, [], ◌∷◌, count_by, length, take}
+use Rattle.std.specs.Prelude.{ℕ, ◌*◌, ◌&&◌, Bool, false, nat_le, List, [], ◌∷◌, count_by, length, take}
 use Rattle.board_doubts.specs.declared.heard.Event.{Event}
 use Rattle.board_doubts.specs.Waiting.{ply_times}
 
@@ -26,3 +26,8 @@ fits_by time (ply ∷ plies) = nat_le quickest time && half_within time (ply ∷
 
 abbrev pub fits_ply : ℕ → List Event → Bool
 fits_ply time past = fits_by time (take pace_of (ply_times past))
+
+-- The last of these plies took no longer than this.
+abbrev pub last_within : ℕ → List ℕ → Bool
+last_within time [] = false
+last_within time (ply ∷ plies) = nat_le ply time

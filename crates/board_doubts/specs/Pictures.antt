@@ -3,28 +3,33 @@ use Rattle.std.specs.Prelude.{ℕ, ◌&&◌, ◌||◌, not, Bool, false, List, [
 use Rattle.square_runs.specs.Shown.{Shown, has, has_held, shown}
 use Rattle.square_runs.specs.Squares.{some_square}
 
--- A picture: when it came, since when its pieces may have stood there, on which squares the side to move and the side that
--- moved last have pieces that aren't there in the position, and whether the piece that moved last is off.
+-- A picture: when it came, since when its pieces may have stood there, to which squares pieces of the side to move and of the
+-- side that moved last may have gone, where other pieces stand elsewhere, and whether the piece that moved last is off.
 pub record Laid : Type 0 where
   pub time : ℕ
   pub since : ℕ
   pub own : ℕ
   pub others : ℕ
+  pub astray : ℕ
   pub is_off : Bool
 
 -- squares of one kind, in each picture
 abbrev pub Squares : Type 0
 Squares = Laid → ℕ
 
--- where the side to move has pieces
+-- where pieces of the side to move stand
 abbrev pub own : Squares
 own picture = picture.own
 
--- where the side that moved last has
+-- where those of the side that moved last do
 abbrev pub others : Squares
 others picture = picture.others
 
--- where it has them while the piece that moved last is off: that piece may have been moved on
+-- where pieces of either side stand elsewhere that can't have gone there at once
+abbrev pub astray : Squares
+astray picture = picture.astray
+
+-- where those of the side that moved last stand while the piece that moved last is off: that piece may have been moved on
 abbrev pub moved_on : Squares
 moved_on picture = if picture.is_off then picture.others else 0
 
@@ -62,9 +67,9 @@ stands_again = 1000
 abbrev pub by_both : List Laid → Bool
 by_both past = (has_stood others stands past && has_left own stands past) || (has_stood moved_on stands_again past && has_stood own stands past)
 
--- One side may have moved.
+-- One side may have moved, once or more often.
 abbrev pub by_one : List Laid → Bool
-by_one past = has_stood own stands past || has_stood others stands past
+by_one past = (has_stood own stands past || has_stood others stands past) || has_stood astray stands past
 
 -- Both may have moved, if the piece that moved last doesn't stay where it belongs.
 abbrev pub by_both_perhaps : List Laid → Bool

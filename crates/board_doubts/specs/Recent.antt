@@ -40,6 +40,7 @@ laid at first seen = record {
   since = if first then 0 else at;
   own = seen.own;
   others = seen.others;
+  astray = seen.astray;
   is_off = seen.is_off;
 }
 

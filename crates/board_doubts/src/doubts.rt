@@ -1,15 +1,22 @@
 //! Which news somebody must look at.
 ghost use Rattle.std.specs.Prelude.{◌≡◌, ◌/◌, ◌&&◌, ◌||◌, ◌∷◌, [], not, ℕ, List, if◌then◌else◌};
 ghost use Rattle.board_doubts.specs.declared.heard.Event.{Event as EventOf};
-ghost use Rattle.board_doubts.specs.Doubts.{begun_by, doubt_by, doubt_of, doubted as doubted_of, hides as hides_of, is_on as is_on_of, is_recent as is_recent_of, may_hide as may_hide_of, over_by, passing as passing_of, repeats_by, was_passed as was_passed_of, why_agrees as why_agrees_of, why_by, why_corrects as why_corrects_of, why_moves as why_moves_of};
+ghost use Rattle.board_doubts.specs.declared.heard.Heard.TheVariants.{Agrees, Shows};
+ghost use Rattle.board_doubts.specs.declared.heard.Seen.{Seen as SeenOf};
+ghost use Rattle.board_doubts.specs.Doubts.{begun_by, doubt_by, doubt_of, doubted as doubted_of, hides as hides_of, is_on as is_on_of, may_be_played as may_be_played_of, is_recent as is_recent_of, is_unhurried as is_unhurried_of, may_hide as may_hide_of, over_by, passing as passing_of, repeats_by, soon, takes_back as takes_back_of, unhurried as unhurried_of, was_passed as was_passed_of, why_agrees as why_agrees_of, why_by, why_corrects as why_corrects_of, why_moves as why_moves_of, why_played as why_played_of};
+ghost use Rattle.board_doubts.specs.Pace.{last_within};
+ghost use Rattle.board_doubts.specs.Plies.{both_back, played, played_by};
 ghost use Rattle.board_doubts.specs.Recent.{since_news};
-ghost use Rattle.board_doubts.specs.Waiting.{moved_by, times_by};
+ghost use Rattle.board_doubts.specs.Waiting.{moved_by, ply_times, times_by};
 ghost use Rattle.board_doubts.specs.Keeping.{KeepsPace, KeepsRecent, StandsFor};
 
 use crate::heard::{Doubt, Event, Heard, Place, Seen, Why};
 use crate::logic::either;
 use crate::pace::Pace;
+use crate::plies::Plies;
+use crate::presses::Presses;
 use crate::recent::{Recent, is_news};
+use crate::thinking::Thinking;
 use crate::waited::Waited;
 use square_runs::lasted;
 
@@ -19,6 +26,15 @@ const LATE: u64 = 10_000;
 /// A piece that is drawn over a square leaves it within this.
 const PASSES: u64 = 150;
 
+/// A piece is taken back within this once the other side's was.
+const SOON: u64 = 3_000;
+
+/// Unhurried players need longer than this for more than half of their plies, with a clock.
+const UNHURRIED: u64 = 1_500;
+
+/// Without one.
+const UNHURRIED_UNCLOCKED: u64 = 6_000;
+
 /// Takes what is heard of a board and its game, and says what somebody must look at.
 #[derive(Clone, Copy)]
 pub struct Doubts {
@@ -26,6 +42,9 @@ pub struct Doubts {
     recent: Recent,
     waited: Waited,
     pace: Pace,
+    plies: Plies,
+    presses: Presses,
+    thinking: Thinking,
     has_moved: bool,
     has_begun: bool,
     is_over: bool,
@@ -77,7 +96,7 @@ fn carry_on(recent: &mut Recent, event: Event)
     ensures { (past : List EventOf) → KeepsRecent recent.old (since_news past) → KeepsRecent recent.new (since_news (event ∷ past)) }
 {
     if is_news(event.what) {
-        *recent = Recent::new();
+        recent.clear();
     } else {
         recent.take(event);
     }
@@ -111,6 +130,16 @@ fn may_be_hidden(fits: bool, has_repeated: bool, is_restart: bool) -> bool
     fits && (has_repeated || !is_restart)
 }
 
+fn unhurried(is_clocked: bool) -> u64
+    ensures { result ≡ unhurried_of is_clocked }
+{
+    if is_clocked {
+        UNHURRIED
+    } else {
+        UNHURRIED_UNCLOCKED
+    }
+}
+
 fn is_recent(now: u64, at: Option<u64>) -> bool
     ensures { result ≡ is_recent_of now at }
 {
@@ -135,6 +164,9 @@ impl Doubts {
             recent: Recent::new(),
             waited: Waited::new(),
             pace: Pace::new(),
+            plies: Plies::new(),
+            presses: Presses::new(),
+            thinking: Thinking::new(),
             has_moved: false,
             has_begun: false,
             is_over: false,
@@ -155,11 +187,58 @@ impl Doubts {
         carry_on(&mut self.recent, event);
         keep_pace(&mut self.pace, event.what, self.has_moved, time);
         self.waited.take(event);
+        self.plies = self.plies.after(event.what);
+        self.presses.take(event);
+        self.thinking.take(event);
         self.has_moved = moved_after(event.what, self.has_moved);
         self.has_begun = begun_after(event.what, self.has_begun);
         self.is_over = over_after(event.what, self.is_over);
         self.has_repeated = repeated_after(event.what, self.has_repeated);
         doubt
+    }
+
+    /// Takes a picture, as `take` does. Most of what is heard are pictures, and news that they agree.
+    pub fn see(&mut self, at: u64, is_added: bool, seen: &Seen) -> Option<Doubt>
+        ensures stands { let event : EventOf = record { at = at; is_added = is_added; what = Shows seen.now } in (past : List EventOf)
+            → StandsFor self.old past → StandsFor self.new (event ∷ past) }
+        ensures doubt { let event : EventOf = record { at = at; is_added = is_added; what = Shows seen.now } in (past : List EventOf)
+            → StandsFor self.old past → result ≡ doubt_of event past }
+    {
+        let why = self.why_shows(seen.was_drawn, at);
+        self.passing = None;
+        self.recent.see(at, is_added, seen);
+        self.waited.see(at, is_added, seen);
+        if is_added {
+            return None;
+        }
+        doubted(Place::AtLast, why)
+    }
+
+    /// Takes the news that the board shows the game's position, as `take` does.
+    pub fn agree(&mut self, at: u64, is_added: bool) -> Option<Doubt>
+        ensures stands { let event : EventOf = record { at = at; is_added = is_added; what = Agrees } in (past : List EventOf)
+            → StandsFor self.old past → StandsFor self.new (event ∷ past) }
+        ensures doubt { let event : EventOf = record { at = at; is_added = is_added; what = Agrees } in (past : List EventOf)
+            → StandsFor self.old past → result ≡ doubt_of event past }
+    {
+        let why = self.why_agreement();
+        self.recent.clear();
+        self.has_begun = true;
+        if is_added {
+            return None;
+        }
+        doubted(Place::AfterLast, why)
+    }
+
+    /// Why such news are doubted.
+    fn why_agreement(&self) -> Option<Why>
+        ensures { (at : ℕ) (past : List EventOf) → StandsFor self.now past → result ≡ why_by Agrees at past }
+    {
+        if self.is_on() && self.may_be_played() {
+            self.why_agrees()
+        } else {
+            None
+        }
     }
 
     /// What somebody must look at in this, if its news are doubted for this reason.
@@ -170,17 +249,18 @@ impl Doubts {
             return None;
         }
         match event.what {
-            Heard::Shows(seen) => doubted(Place::AtLast, self.why_shows(seen, event.at)),
+            Heard::Shows(seen) => doubted(Place::AtLast, self.why_shows(seen.was_drawn, event.at)),
             Heard::Agrees => doubted(Place::AfterLast, why),
             _ => doubted(Place::AtLast, why),
         }
     }
 
-    /// Why the last move is doubted when this is seen.
-    fn why_shows(&self, seen: Seen, now: u64) -> Option<Why>
-        ensures { (past : List EventOf) → StandsFor self.now past → result ≡ (if was_passed_of seen now past then Some Why.BothElsewhere else None) }
+    /// Why the last move is doubted when a picture is seen, if the piece that had moved before isn't where it belonged then.
+    fn why_shows(&self, was_drawn: bool, now: u64) -> Option<Why>
+        ensures { (seen : SeenOf) (past : List EventOf) → seen.was_drawn ≡ was_drawn → StandsFor self.now past
+            → result ≡ (if was_passed_of seen now past then Some Why.BothElsewhere else None) }
     {
-        if seen.was_drawn && is_recent(now, self.passing) {
+        if was_drawn && is_recent(now, self.passing) {
             Some(Why::BothElsewhere)
         } else {
             None
@@ -194,6 +274,13 @@ impl Doubts {
         self.has_begun && !self.is_over
     }
 
+    /// Whether plies may have been made.
+    fn may_be_played(&self) -> bool
+        ensures { (past : List EventOf) → StandsFor self.now past → result ≡ may_be_played_of past }
+    {
+        self.has_moved || self.presses.runs()
+    }
+
     /// Why these news are doubted.
     fn why(&self, event: Event) -> Option<Why>
         ensures { (past : List EventOf) → StandsFor self.now past → result ≡ why_by event.what event.at past }
@@ -204,7 +291,8 @@ impl Doubts {
         match event.what {
             Heard::Corrects { .. } => self.why_corrects(event.at),
             Heard::Moves { .. } => self.why_moves(),
-            Heard::Agrees if self.has_moved => self.why_agrees(),
+            Heard::Agrees => self.why_agreement(),
+            Heard::Plays(_) | Heard::Replaces(_) => self.why_played(event.what),
             _ => None,
         }
     }
@@ -249,6 +337,49 @@ impl Doubts {
         } else {
             None
         }
+    }
+
+    /// Why a ply is doubted by those before it.
+    fn why_played(&self, what: Heard) -> Option<Why>
+        ensures { (past : List EventOf) → StandsFor self.now past → result ≡ why_played_of what past }
+    {
+        if self.takes_back(what) {
+            return Some(Why::TakenBack);
+        }
+        if self.presses.is_left(what) {
+            return Some(Why::Unpressed);
+        }
+        if self.thinking.is_exchanged(what) {
+            Some(Why::OtherTime)
+        } else {
+            None
+        }
+    }
+
+    /// Whether both sides have taken plies back at once.
+    fn takes_back(&self, what: Heard) -> bool
+        ensures { (past : List EventOf) → StandsFor self.now past → result ≡ takes_back_of what past }
+    {
+        let is_clocked = self.presses.is_used();
+        let is_pressed = is_clocked && self.presses.was_between(what);
+        let is_unhurried = self.is_unhurried(is_clocked);
+        self.are_back(what) && is_unhurried && !is_pressed
+    }
+
+    /// Whether they have, the second one soon after the first.
+    fn are_back(&self, what: Heard) -> bool
+        ensures { (past : List EventOf) → StandsFor self.now past
+            → result ≡ (both_back (played_by what (played past)) && last_within soon (ply_times past)) }
+    {
+        let plies = self.plies.after(what);
+        plies.both_back() && self.pace.was_within(SOON)
+    }
+
+    /// Whether the players need long for more than half of their plies.
+    fn is_unhurried(&self, is_clocked: bool) -> bool
+        ensures { (past : List EventOf) → StandsFor self.now past → result ≡ is_unhurried_of is_clocked past }
+    {
+        !self.pace.is_half_within(unhurried(is_clocked))
     }
 
     /// Whether plies may be hidden in the gap since the last news.

@@ -1,12 +1,14 @@
 //! What a picture shows apart from the game's position. Pictures and positions are the codes of the 64 squares, as
 //! `Position::picture` of `chess_rules` has them.
-ghost use Rattle.std.specs.Prelude.{◌≡◌, ◌≢◌, ◌<◌, ◌==◌, ◌&&◌, ◌↔◌, not, ℕ, IsTrue, slice_index};
-ghost use Rattle.std.specs.Int.{bit_at};
+ghost use Rattle.std.specs.Prelude.{◌≡◌, ◌<◌, ◌==◌, ◌&&◌, ◌||◌, ◌↔◌, not, ℕ, IsTrue, slice_index};
 ghost use Rattle.square_runs.specs.Squares.{Marks};
-ghost use Rattle.board_doubts.specs.Elsewhere.{Sees, differs as differs_of, elsewhere, is_gone as is_gone_of, is_lifted as is_lifted_of, is_of as is_of_side};
+ghost use Rattle.board_doubts.specs.Elsewhere.{Sees, comes as comes_of, differs as differs_of, elsewhere, is_astray as is_astray_of, is_gone as is_gone_of, is_lifted as is_lifted_of, is_of as is_of_side, may_have_gone as may_have_gone_of};
+ghost use Rattle.board_doubts.specs.Ways.{can_go as can_go_of};
 
 use crate::heard::Seen;
 use crate::logic::{both, either};
+use crate::squares::{differing, first_square, with_if, without};
+use crate::ways::can_go;
 
 /// What a picture is compared with. Before the first moves these positions are the same.
 #[derive(Clone, Copy)]
@@ -38,20 +40,26 @@ fn differ(one: u8, other: u8) -> bool
     other != one
 }
 
-/// Whether a piece of this side is shown that stands there in neither position.
-fn is_on_neither(black: bool, one: u8, other: u8, shown: u8) -> bool
-    ensures { result ≡ (is_of_side black shown && not (shown == one) && not (shown == other)) }
+/// Whether a piece of this side is shown that the position doesn't have there.
+fn is_elsewhere(black: bool, position: u8, shown: u8) -> bool
+    ensures { result ≡ (is_of_side black shown && not (shown == position)) }
 {
-    let is_elsewhere = both(is_of(black, shown), differ(one, shown));
-    both(is_elsewhere, differ(other, shown))
+    both(is_of(black, shown), differ(position, shown))
+}
+
+/// Whether this piece is missing on a square, from which it could have gone to another one.
+fn is_missing(code: u8, position: u8, shown: u8, from: u8, to: u8) -> bool
+    ensures { result ≡ (((position == code) && not (shown == position)) && can_go_of code from to) }
+{
+    let is_away = both(position == code, differ(position, shown));
+    both(is_away, can_go(code, from, to))
 }
 
 /// Whether a piece of this side that moved here isn't shown where it is in the position.
 fn is_off(black: bool, from: u8, to: u8, position: u8, shown: u8) -> bool
     ensures { result ≡ (is_of_side black to && not (to == from) && not (shown == position)) }
 {
-    let moved = both(is_of(black, to), differ(from, to));
-    both(moved, differ(position, shown))
+    both(is_elsewhere(black, from, to), differ(position, shown))
 }
 
 /// Whether a piece of this side isn't shown here, and nothing else is.
@@ -61,25 +69,122 @@ fn is_in_hand(black: bool, position: u8, shown: u8) -> bool
     both(is_of(black, position), shown == 0)
 }
 
-/// The mask with this square.
-fn with(mask: u64, square: u8) -> u64
-    requires { square < 64 }
-    ensures set { bit_at result square ≡ 1 }
-    ensures others { (s : ℕ) → s < 64 → s ≢ square → bit_at result s ≡ bit_at mask s }
+// The masks of the functions below have the squares on which the picture differs from the position.
+
+/// Whether the piece that the picture has on this square could have gone there.
+fn comes(position: &[u8; 64], picture: &[u8; 64], mask: u64, square: u8) -> bool
+    requires inside { square < 64 }
+    requires marks { Marks mask (differs_of position.now picture.now) }
+    ensures { result ≡ comes_of position.now picture.now square }
 {
-    mask | (1 << square)
+    let code = picture[square as usize];
+    let mut left = mask;
+    'left: while 0 < left {
+        let from = first_square(left);
+        let i = from as usize;
+        if is_missing(code, position[i], picture[i], from, square) {
+            return true;
+        }
+        left = without(left, from);
+    }
+    false
 }
 
-/// The squares on which a picture has pieces of this side that neither position has there.
-fn on_neither(black: bool, one: &[u8; 64], other: &[u8; 64], picture: &[u8; 64]) -> u64
-    ensures { Marks result (λ s. elsewhere black one.now picture.now s && differs_of other.now picture.now s) }
+/// Whether a piece of this side may have gone to this square.
+fn may_have_gone(
+    black: bool,
+    position: &[u8; 64],
+    picture: &[u8; 64],
+    mask: u64,
+    square: u8,
+) -> bool
+    requires inside { square < 64 }
+    requires marks { Marks mask (differs_of position.now picture.now) }
+    ensures { result ≡ may_have_gone_of black position.now picture.now square }
 {
+    let i = square as usize;
+    if is_elsewhere(black, position[i], picture[i]) {
+        comes(position, picture, mask, square)
+    } else {
+        false
+    }
+}
+
+/// Whether one may have gone there, and another position doesn't have it there.
+fn is_new_there(
+    black: bool,
+    position: &[u8; 64],
+    other: &[u8; 64],
+    picture: &[u8; 64],
+    mask: u64,
+    square: u8,
+) -> bool
+    requires inside { square < 64 }
+    requires marks { Marks mask (differs_of position.now picture.now) }
+    ensures { result ≡ (may_have_gone_of black position.now picture.now square && differs_of other.now picture.now square) }
+{
+    let i = square as usize;
+    let may = may_have_gone(black, position, picture, mask, square);
+    both(may, differ(other[i], picture[i]))
+}
+
+/// The squares to which pieces of this side may have gone, and on which another position doesn't have them.
+fn gone_to(black: bool, position: &[u8; 64], other: &[u8; 64], picture: &[u8; 64], mask: u64) -> u64
+    requires { Marks mask (differs_of position.now picture.now) }
+    ensures { Marks result (λ s. may_have_gone_of black position.now picture.now s && differs_of other.now picture.now s) }
+{
+    let mut left = mask;
     let mut squares = 0u64;
-    for s in 0..64u8 {
-        let i = s as usize;
-        if is_on_neither(black, one[i], other[i], picture[i]) {
-            squares = with(squares, s);
-        }
+    'left: while 0 < left {
+        let square = first_square(left);
+        let is_here = is_new_there(black, position, other, picture, mask, square);
+        squares = with_if(squares, square, is_here);
+        left = without(left, square);
+    }
+    squares
+}
+
+/// Whether a piece is shown that the position doesn't have there, of the side to move or of the other one.
+fn is_out(black: bool, before: u8, position: u8, shown: u8) -> bool
+    ensures { result ≡ (((is_of_side black shown && not (shown == position)) && not (shown == before)) || (is_of_side (not black) shown && not (shown == position))) }
+{
+    let own = both(is_elsewhere(black, position, shown), differ(before, shown));
+    either(own, is_elsewhere(!black, position, shown))
+}
+
+/// Whether one is that can't have gone to this square.
+fn is_astray(
+    black: bool,
+    before: &[u8; 64],
+    position: &[u8; 64],
+    picture: &[u8; 64],
+    mask: u64,
+    square: u8,
+) -> bool
+    requires inside { square < 64 }
+    requires marks { Marks mask (differs_of position.now picture.now) }
+    ensures { result ≡ is_astray_of black before.now position.now picture.now square }
+{
+    let i = square as usize;
+    if is_out(black, before[i], position[i], picture[i]) {
+        !comes(position, picture, mask, square)
+    } else {
+        false
+    }
+}
+
+/// The squares of such pieces.
+fn astray(black: bool, before: &[u8; 64], position: &[u8; 64], picture: &[u8; 64], mask: u64) -> u64
+    requires { Marks mask (differs_of position.now picture.now) }
+    ensures { Marks result (is_astray_of black before.now position.now picture.now) }
+{
+    let mut left = mask;
+    let mut squares = 0u64;
+    'left: while 0 < left {
+        let square = first_square(left);
+        let is_here = is_astray(black, before, position, picture, mask, square);
+        squares = with_if(squares, square, is_here);
+        left = without(left, square);
     }
     squares
 }
@@ -91,27 +196,38 @@ fn is_gone(
     to: &[u8; 64],
     position: &[u8; 64],
     picture: &[u8; 64],
+    mask: u64,
 ) -> bool
+    requires { Marks mask (differs_of position.now picture.now) }
     ensures { result ≡ is_gone_of black from.now to.now position.now picture.now }
 {
-    let mut found = false;
-    for s in 0..64usize {
-        let is_here = is_off(black, from[s], to[s], position[s], picture[s]);
-        found = either(is_here, found);
+    let mut left = mask;
+    'left: while 0 < left {
+        let square = first_square(left);
+        let i = square as usize;
+        if is_off(black, from[i], to[i], position[i], picture[i]) {
+            return true;
+        }
+        left = without(left, square);
     }
-    found
+    false
 }
 
 /// Whether a piece of this side isn't there, and nothing stands on its square.
-fn is_lifted(black: bool, position: &[u8; 64], picture: &[u8; 64]) -> bool
+fn is_lifted(black: bool, position: &[u8; 64], picture: &[u8; 64], mask: u64) -> bool
+    requires { Marks mask (differs_of position.now picture.now) }
     ensures { result ≡ is_lifted_of black position.now picture.now }
 {
-    let mut found = false;
-    for s in 0..64usize {
-        let is_here = is_in_hand(black, position[s], picture[s]);
-        found = either(is_here, found);
+    let mut left = mask;
+    'left: while 0 < left {
+        let square = first_square(left);
+        let i = square as usize;
+        if is_in_hand(black, position[i], picture[i]) {
+            return true;
+        }
+        left = without(left, square);
     }
-    found
+    false
 }
 
 fn is_picture(one: &[u8; 64], other: &[u8; 64]) -> bool
@@ -126,12 +242,33 @@ pub fn seen(played: &Played, picture: &[u8; 64]) -> Seen
 {
     let black = played.black;
     let position = played.position;
+    let mask = differing(position, picture);
+    let is_back = is_picture(picture, played.before);
+    if mask == 0 {
+        return Seen {
+            own: 0,
+            others: 0,
+            astray: 0,
+            is_off: false,
+            is_back,
+            was_drawn: false,
+            in_hand: false,
+        };
+    }
     Seen {
-        own: on_neither(black, position, played.before, picture),
-        others: on_neither(!black, position, position, picture),
-        is_off: is_gone(!black, played.before, position, position, picture),
-        is_back: is_picture(picture, played.before),
-        was_drawn: is_gone(black, played.earlier, played.before, position, picture),
-        in_hand: is_lifted(!black, position, picture),
+        own: gone_to(black, position, played.before, picture, mask),
+        others: gone_to(!black, position, position, picture, mask),
+        astray: astray(black, played.before, position, picture, mask),
+        is_off: is_gone(!black, played.before, position, position, picture, mask),
+        is_back,
+        was_drawn: is_gone(
+            black,
+            played.earlier,
+            played.before,
+            position,
+            picture,
+            mask,
+        ),
+        in_hand: is_lifted(!black, position, picture, mask),
     }
 }

@@ -1,13 +1,16 @@
 //! What is heard of a board and its game, and what is said of it.
 
 /// What a picture shows apart from the game's position. A mask has bit n for square n, as `chess_rules` counts them from a8
-/// to h1.
+/// to h1. A piece may have gone to a square if one like it is missing, and could go there on an empty board; a pawn never has.
 #[derive(Clone, Copy)]
 pub struct Seen {
-    /// Where pieces of the side to move stand that aren't there in the position, and weren't before the last move.
+    /// Where pieces of the side to move stand that may have gone there, and weren't there before the last move.
     pub own: u64,
-    /// Where pieces of the side that moved last stand that aren't there in the position.
+    /// Where pieces of the side that moved last stand that may have gone there.
     pub others: u64,
+    /// Where pieces of either side stand that aren't there in the position and can't have gone there at once. Those of the side
+    /// to move weren't there before the last move either.
+    pub astray: u64,
     /// The piece that moved last isn't where it belongs.
     pub is_off: bool,
     /// It is the position before the last move.
@@ -27,6 +30,15 @@ pub struct Gap {
     pub is_restart: bool,
 }
 
+/// Where a piece goes; of castling it is the king. Squares are numbered as in masks.
+#[derive(Clone, Copy)]
+pub struct Ply {
+    pub from: u8,
+    pub to: u8,
+    /// It is Black's.
+    pub black: bool,
+}
+
 /// What is heard of a board and its game.
 #[derive(Clone, Copy)]
 pub enum Heard {
@@ -36,6 +48,10 @@ pub enum Heard {
     Moves { repeats: bool },
     /// News: a correction of the last move, and whether that repeats a position.
     Corrects { repeats: bool },
+    /// The ply of the move that was heard just before.
+    Plays(Ply),
+    /// The ply of the correction that was heard just before.
+    Replaces(Ply),
     /// News: the board shows the game's position again, or still.
     Agrees,
     /// News: a result, which ends the game.
@@ -48,6 +64,10 @@ pub enum Heard {
     Away(Gap),
     /// The clock says that it runs, or that it stands.
     Clock { runs: bool },
+    /// Somebody presses the clock.
+    Presses,
+    /// The time of this side goes down, as the clock's sides are read.
+    Counts { black: bool },
     /// Somebody has looked at what was doubtful.
     Looked,
 }
@@ -72,6 +92,12 @@ pub enum Why {
     BothElsewhere,
     /// The board wasn't heard for a time.
     AfterGap,
+    /// Both sides have taken plies back at once.
+    TakenBack,
+    /// Nobody presses the clock.
+    Unpressed,
+    /// Plies are thought about on the other side's time: the clock's sides may be read the wrong way.
+    OtherTime,
 }
 
 /// Where moves may be missing.

@@ -1,6 +1,6 @@
 //! How long the last plies took.
 ghost use Rattle.std.specs.Prelude.{◌≡◌, ◌≤◌, ◌*◌, ◌==◌, ◌&&◌, ◌∷◌, [], ℕ, List, count_by, is_some, nat_le, take, if◌then◌else◌};
-ghost use Rattle.board_doubts.specs.Pace.{fits_by, pace_of, quickest, usual};
+ghost use Rattle.board_doubts.specs.Pace.{fits_by, half_within, last_within, pace_of, quickest, usual};
 ghost use Rattle.board_doubts.specs.Keeping.{KeepsPace, is_within as is_within_of};
 
 /// A ply takes at least this, in milliseconds.
@@ -34,6 +34,14 @@ fn has_room(time: u64, known: usize, within: usize) -> bool
         return USUAL <= time;
     }
     QUICKEST <= time && known <= 2 * within
+}
+
+/// Whether so many are half of all, or more.
+fn is_half(all: usize, of_all: usize) -> bool
+    requires { of_all ≤ pace_of }
+    ensures { result ≡ nat_le all (2 * of_all) }
+{
+    all <= 2 * of_all
 }
 
 impl Pace {
@@ -83,5 +91,19 @@ impl Pace {
         ensures { (times : List ℕ) → KeepsPace self.now times → result ≡ fits_by time (take pace_of times) }
     {
         has_room(time, self.known(), self.within(time))
+    }
+
+    /// Whether the last ply took no longer than this.
+    pub fn was_within(&self, time: u64) -> bool
+        ensures { (times : List ℕ) → KeepsPace self.now times → result ≡ last_within time times }
+    {
+        is_within(time, self.last[0])
+    }
+
+    /// Whether half of the plies took no longer than this, or more of them.
+    pub fn is_half_within(&self, time: u64) -> bool
+        ensures { (times : List ℕ) → KeepsPace self.now times → result ≡ half_within time (take pace_of times) }
+    {
+        is_half(self.known(), self.within(time))
     }
 }

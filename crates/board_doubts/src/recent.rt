@@ -1,12 +1,13 @@
 //! What was heard since the last news.
 ghost use Rattle.std.specs.Prelude.{◌≡◌, ◌∷◌, [], is_some, List};
 ghost use Rattle.board_doubts.specs.declared.heard.Event.{Event as EventOf};
+ghost use Rattle.board_doubts.specs.declared.heard.Heard.TheVariants.{Shows};
 ghost use Rattle.board_doubts.specs.Doubts.{may_be_moved as may_be_moved_of};
 ghost use Rattle.board_doubts.specs.Pictures.{Laid, by_both_perhaps, has_stood, own, stands};
 ghost use Rattle.board_doubts.specs.Recent.{first_by, gap as gap_of, gap_by, has_gap as has_gap_of, is_news as is_news_of, is_restart as is_restart_of, pictures, restart_by, touched as touched_of, touched_by, with_picture};
 ghost use Rattle.board_doubts.specs.Keeping.{KeepsRecent, KeepsSince};
 
-use crate::heard::{Event, Gap, Heard};
+use crate::heard::{Event, Gap, Heard, Seen};
 use crate::since::Since;
 
 /// No time counts for longer than a day, in milliseconds.
@@ -86,7 +87,7 @@ fn show(since: &mut Since, at: u64, first: bool, what: Heard)
     ensures { (past : List Laid) → KeepsSince since.old past → KeepsSince since.new (with_picture what at first past) }
 {
     match what {
-        Heard::Shows(seen) => since.show(at, first, seen),
+        Heard::Shows(seen) => since.show(at, first, &seen),
         _ => {}
     }
 }
@@ -105,6 +106,17 @@ impl Recent {
         }
     }
 
+    /// Begins anew, as if nothing had been heard.
+    pub fn clear(&mut self)
+        ensures { KeepsRecent self.new [] }
+    {
+        self.since.clear();
+        self.gap = None;
+        self.is_restart = false;
+        self.comes_first = false;
+        self.touched = false;
+    }
+
     /// Takes what is heard.
     pub fn take(&mut self, event: Event)
         ensures { (past : List EventOf) → KeepsRecent self.old past → KeepsRecent self.new (event ∷ past) }
@@ -114,6 +126,16 @@ impl Recent {
         self.comes_first = first_after(event.what, self.comes_first);
         self.gap = gap_after(event.what, self.gap);
         self.is_restart = restart_after(event.what, self.is_restart);
+    }
+
+    /// Takes a picture.
+    pub fn see(&mut self, at: u64, is_added: bool, seen: &Seen)
+        ensures { let event : EventOf = record { at = at; is_added = is_added; what = Shows seen.now } in (past : List EventOf)
+            → KeepsRecent self.old past → KeepsRecent self.new (event ∷ past) }
+    {
+        self.since.show(at, self.comes_first, seen);
+        self.touched = self.touched || (self.gap.is_some() && seen.in_hand);
+        self.comes_first = false;
     }
 
     /// How long the board wasn't heard, if there was such a time.

@@ -5,6 +5,7 @@ ghost use Rattle.board_doubts.specs.Recent.{laid};
 ghost use Rattle.board_doubts.specs.Keeping.{KeepsSince};
 
 use crate::heard::Seen;
+use crate::logic::either;
 use crate::stood::Stood;
 
 /// A piece that is drawn over a square is there for less than this, in milliseconds.
@@ -18,6 +19,8 @@ const STANDS_AGAIN: u64 = 1_000;
 pub struct Since {
     own: Stood,
     others: Stood,
+    /// Of either side, where they can't have gone at once.
+    astray: Stood,
     /// Of the side that moved last, while the piece that moved last is off.
     moved_on: Stood,
     /// The same, for a shorter time.
@@ -31,8 +34,8 @@ fn since_of(at: u64, first: bool) -> u64
     if first { 0 } else { at }
 }
 
-fn moved_on(seen: Seen) -> u64
-    ensures { (at : ℕ) (first : Bool) → result ≡ moved_on_of (laid at first seen) }
+fn moved_on(seen: &Seen) -> u64
+    ensures { (at : ℕ) (first : Bool) → result ≡ moved_on_of (laid at first seen.now) }
 {
     if seen.is_off { seen.others } else { 0 }
 }
@@ -45,19 +48,32 @@ impl Since {
         Since {
             own: Stood::new(),
             others: Stood::new(),
+            astray: Stood::new(),
             moved_on: Stood::new(),
             drawn: Stood::new(),
         }
     }
 
+    /// Begins anew, as if no picture had come.
+    pub fn clear(&mut self)
+        ensures { KeepsSince self.new [] }
+    {
+        self.own.clear();
+        self.others.clear();
+        self.astray.clear();
+        self.moved_on.clear();
+        self.drawn.clear();
+    }
+
     /// Takes a picture, which comes first after a gap or doesn't.
-    pub fn show(&mut self, at: u64, first: bool, seen: Seen)
-        ensures { (past : List Laid) → KeepsSince self.old past → KeepsSince self.new (laid at first seen ∷ past) }
+    pub fn show(&mut self, at: u64, first: bool, seen: &Seen)
+        ensures { (past : List Laid) → KeepsSince self.old past → KeepsSince self.new (laid at first seen.now ∷ past) }
     {
         let since = since_of(at, first);
         let moved_on = moved_on(seen);
         self.own.show(STANDS, at, since, seen.own);
         self.others.show(STANDS, at, since, seen.others);
+        self.astray.show(STANDS, at, since, seen.astray);
         self.moved_on.show(STANDS_AGAIN, at, since, moved_on);
         self.drawn.show(STANDS, at, since, moved_on);
     }
@@ -70,11 +86,14 @@ impl Since {
             || (self.moved_on.has_stood && self.own.has_stood)
     }
 
-    /// Whether one side may have.
+    /// Whether one side may have, once or more often.
     pub fn by_one(&self) -> bool
         ensures { (past : List Laid) → KeepsSince self.now past → result ≡ by_one_of past }
     {
-        self.own.has_stood || self.others.has_stood
+        either(
+            either(self.own.has_stood, self.others.has_stood),
+            self.astray.has_stood,
+        )
     }
 
     /// Whether both may have, if the piece that moved last doesn't stay where it belongs.

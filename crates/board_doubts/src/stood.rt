@@ -37,11 +37,23 @@ impl Stood {
         }
     }
 
+    /// Begins anew, as if no picture had come.
+    pub fn clear(&mut self)
+        ensures { (squares : Squares) (span : ℕ) → KeepsStood self.new squares span [] }
+    {
+        self.runs.clear();
+        self.has_stood = false;
+        self.has_left = false;
+    }
+
     /// Takes the squares of a picture, on which its pieces stand since this time.
     pub fn show(&mut self, span: u64, at: u64, since: u64, shown: u64)
         ensures { (squares : Squares) (picture : Laid) (past : List Laid) → picture.time ≡ at → picture.since ≡ since → squares picture ≡ shown
             → KeepsStood self.old squares span past → KeepsStood self.new squares span (picture ∷ past) }
     {
+        if shown == 0 && self.runs.is_empty() {
+            return;
+        }
         let stood = self.runs.lasting(span, at);
         let left = without(stood, shown);
         self.has_stood = either(has_any(stood), self.has_stood);

@@ -1,12 +1,13 @@
 //! Moves that are made while the clock is stopped: players try moves after they have agreed on a draw, or the clock was
 //! forgotten.
-ghost use Rattle.std.specs.Prelude.{◌≡◌, ◌+◌, ◌&&◌, ◌∷◌, [], List, min};
+ghost use Rattle.std.specs.Prelude.{◌≡◌, ◌&&◌, ◌||◌, ◌∷◌, [], not, List};
 ghost use Rattle.square_runs.specs.Lasting.{has_lasted};
 ghost use Rattle.board_doubts.specs.declared.heard.Event.{Event as EventOf};
-ghost use Rattle.board_doubts.specs.Clock.{acknowledges as acknowledges_of, ago_by, has_no_clock as has_no_clock_of, is_stopped as is_stopped_of, most, run_by, running, seen_late, stands_by, stands_since, tried_by, tries_of};
+ghost use Rattle.board_doubts.specs.Clock.{acknowledges as acknowledges_of, ago_by, has_no_clock as has_no_clock_of, is_after as is_after_of, is_stopped as is_stopped_of, most, run_by, running, seen_late, stands_by, stands_since, tried_by, tries_of};
 ghost use Rattle.board_doubts.specs.Keeping.{ClockStandsFor};
 
 use crate::heard::{Event, Heard};
+use crate::logic::one_more;
 use square_runs::{carried, lasted};
 
 /// In the low four bits of a byte: the message acknowledges a command to the clock.
@@ -27,26 +28,26 @@ pub struct Tried {
     pub plies: u64,
 }
 
-fn acknowledges(data: &[u8; 7]) -> bool
-    ensures { result ≡ acknowledges_of data.now }
+fn acknowledges(bytes: &[u8; 7]) -> bool
+    ensures { result ≡ acknowledges_of bytes.now }
 {
-    data[0] % 16 == ACKNOWLEDGES || data[3] % 16 == ACKNOWLEDGES
+    bytes[0] % 16 == ACKNOWLEDGES || bytes[3] % 16 == ACKNOWLEDGES
 }
 
-fn has_no_clock(data: &[u8; 7]) -> bool
-    ensures { result ≡ has_no_clock_of data.now }
+fn has_no_clock(bytes: &[u8; 7]) -> bool
+    ensures { result ≡ has_no_clock_of bytes.now }
 {
-    data[6] / 32 % 2 == 1
+    bytes[6] / 32 % 2 == 1
 }
 
 /// Whether the clock runs, by the seven bytes of a time message; `None` where they don't say.
-pub fn runs(data: &[u8; 7]) -> Option<bool>
-    ensures { result ≡ running data.now }
+pub fn runs(bytes: &[u8; 7]) -> Option<bool>
+    ensures { result ≡ running bytes.now }
 {
-    if acknowledges(data) || has_no_clock(data) {
+    if acknowledges(bytes) || has_no_clock(bytes) {
         return None;
     }
-    Some(data[6] % 2 == 1)
+    Some(bytes[6] % 2 == 1)
 }
 
 /// Counts the moves that are made while the clock is stopped.
@@ -77,11 +78,11 @@ fn stands_after(what: Heard, at: u64, since: Option<u64>) -> Option<u64>
     }
 }
 
-/// One more, but no more than are counted.
-fn one_more(before: u64) -> u64
-    ensures { result ≡ min most (before + 1) }
+/// Whether a move that is seen now was made after the stop, if none was seen since then, or some were.
+fn was_made_after(is_none: bool, now: u64, since: Option<u64>) -> bool
+    ensures { result ≡ (not is_none || has_lasted seen_late now since) }
 {
-    before.min(MOST - 1) + 1
+    !is_none || lasted(SEEN_LATE, now, since)
 }
 
 fn tried_after(what: Heard, is_added: bool, is_stopped: bool, before: u64) -> u64
@@ -92,7 +93,7 @@ fn tried_after(what: Heard, is_added: bool, is_stopped: bool, before: u64) -> u6
             if is_added {
                 before
             } else if is_stopped {
-                one_more(before)
+                one_more(MOST, before)
             } else {
                 0
             }
@@ -110,7 +111,7 @@ fn ago_after(what: Heard, is_added: bool, is_none: bool, before: u64) -> u64
         Heard::Moves { .. } => if is_none && !is_added {
             1
         } else {
-            one_more(before)
+            one_more(MOST, before)
         },
         _ => before,
     }
@@ -136,12 +137,13 @@ impl StoppedClock {
     {
         let since = self.stands_since;
         let is_stopped = self.is_stopped();
-        self.ago = ago_after(event.what, event.is_added, self.tried == 0, self.ago);
+        let is_none = self.tried == 0;
+        self.ago = ago_after(event.what, event.is_added, is_none, self.ago);
         self.tried = tried_after(event.what, event.is_added, is_stopped, self.tried);
         self.has_run = run_after(event.what, self.has_run);
         self.stands_since = stands_after(event.what, event.at, since);
-        let is_seen = is_stopped && lasted(SEEN_LATE, event.at, since);
-        self.tries(event, is_seen)
+        let is_after = was_made_after(is_none, event.at, since);
+        self.tries(event, is_stopped && is_after)
     }
 
     /// Whether the clock has run, and stands now.
@@ -152,12 +154,12 @@ impl StoppedClock {
     }
 
     /// What is counted, if this is a move, and moves are made while the clock is stopped.
-    fn tries(&self, event: Event, is_seen: bool) -> Option<Tried>
+    fn tries(&self, event: Event, is_tried: bool) -> Option<Tried>
         ensures { (past : List EventOf) → ClockStandsFor self.now (event ∷ past)
-            → is_seen ≡ (is_stopped_of past && has_lasted seen_late event.at (stands_since past)) → result ≡ tries_of event past }
+            → is_tried ≡ (is_stopped_of past && is_after_of event.at past) → result ≡ tries_of event past }
     {
         match event.what {
-            Heard::Moves { .. } if is_seen && !event.is_added => Some(Tried {
+            Heard::Moves { .. } if is_tried && !event.is_added => Some(Tried {
                 moves: self.tried,
                 plies: self.ago,
             }),

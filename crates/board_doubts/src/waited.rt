@@ -1,11 +1,12 @@
 //! How long the last move has stood.
 ghost use Rattle.std.specs.Prelude.{◌≡◌, ◌+◌, ◌∷◌, [], ℕ, List, min};
 ghost use Rattle.board_doubts.specs.declared.heard.Event.{Event as EventOf};
+ghost use Rattle.board_doubts.specs.declared.heard.Heard.TheVariants.{Shows};
 ghost use Rattle.board_doubts.specs.Recent.{day};
 ghost use Rattle.board_doubts.specs.Waiting.{waited};
 ghost use Rattle.board_doubts.specs.Keeping.{KeepsWaited, from_mark};
 
-use crate::heard::{Event, Heard};
+use crate::heard::{Event, Heard, Seen};
 use crate::recent::DAY;
 
 /// The time since the last move, as far as it counts.
@@ -48,11 +49,7 @@ impl Waited {
         ensures { (past : List EventOf) → KeepsWaited self.old past → KeepsWaited self.new (event ∷ past) }
     {
         match event.what {
-            Heard::Shows(seen) => {
-                self.counted = self.counted_until(event.at);
-                self.mark = event.at;
-                self.counts = !seen.is_back;
-            }
+            Heard::Shows(seen) => self.see(event.at, event.is_added, &seen),
             Heard::Moves { .. } | Heard::Corrects { .. } => {
                 self.counted = 0;
                 self.mark = event.at;
@@ -60,6 +57,16 @@ impl Waited {
             }
             _ => {}
         }
+    }
+
+    /// Takes a picture.
+    pub fn see(&mut self, at: u64, is_added: bool, seen: &Seen)
+        ensures { let event : EventOf = record { at = at; is_added = is_added; what = Shows seen.now } in (past : List EventOf)
+            → KeepsWaited self.old past → KeepsWaited self.new (event ∷ past) }
+    {
+        self.counted = self.counted_until(at);
+        self.mark = at;
+        self.counts = !seen.is_back;
     }
 
     /// The time since the last move.

@@ -8,24 +8,13 @@ use Rattle.board_events.specs.Settings.{Setting}
 use Rattle.pair_frames.specs.PutIn.{ShowsWhole, put_in, time_put_in}
 use Rattle.recovery.specs.Weaving.{TellsRecovered}
 use Rattle.recovery.specs.Inside.Passing.{Adds as AddsPair, added}
+use Rattle.board_alarms.specs.declared.event_heard.When.{When}
 use Rattle.board_game.specs.declared.following.Following.{Following}
 use Rattle.board_game.specs.declared.telling.Teller.{Teller}
 use Rattle.board_game.specs.History.{Finds, Item, Pair, Sent, events_of, with_events, with_found}
 use Rattle.board_game.specs.Inside.Telling.{HasFollowed, HasKept, HasTold, KeepsEvent}
 use Rattle.board_game.proofs.ItemLemmas.{events_found}
 use Rattle.board_game.proofs.PlainLemmas.{ShowsOnce}
-
--- the line of a pair
-told_pair : (teller : Teller) (setting : Setting) (items : List Item) (text line : List ℕ) (time offset : ℕ) (r : Recovery) → HasTold teller setting items text
-    → TellsRecovered offset r line → HasTold teller setting (Pair time offset r ∷ items) (text ++ line)
-told_pair teller setting items text line time offset r told tells = record {
-  watched = told.watched;
-  seen = told.seen;
-  heard = told.heard;
-  hears = told.hears;
-  standing = told.standing;
-  reports = (text, line, told.reports, tells, refl);
-}
 
 no_events : ShowsOnce → (events : List Event) → ShowsWhole [] events → events ≡ []
 no_events once events whole =
@@ -37,11 +26,11 @@ some_events [] back event e = cc
 some_events (x ∷ front) back event e = cc
 
 -- what is told of an event
-abbrev pub TellsWith : Following → Setting → Bool → List Event → List Item → List ℕ → ℕ → Timed → List ℕ → List ℕ → Type 0
+abbrev pub TellsWith : Following → Setting → Bool → List Event → List Item → List ℕ → When → Timed → List ℕ → List ℕ → Type 0
 TellsWith following setting recovers past items text time x lines lines' = (found : Option Recovery) × (more : List ℕ) × Finds setting recovers past x.event found
     × (lines' ≡ lines ++ more) × HasFollowed following setting recovers (x.event ∷ past) (with_found setting past time x found items) (text ++ more)
 
-none_by : ShowsOnce → (following : Following) (setting : Setting) (recovers : Bool) (past : List Event) (items : List Item) (text more : List ℕ) (time : ℕ) (x : Timed)
+none_by : ShowsOnce → (following : Following) (setting : Setting) (recovers : Bool) (past : List Event) (items : List Item) (text more : List ℕ) (time : When) (x : Timed)
     (frames line lines lines' : List ℕ) (found : Option Recovery) → Finds setting recovers past x.event found
     → HasKept following.keeper setting recovers (x.event ∷ past) (added setting past x.event found (events_of items)) → AddsPair setting (x.event ∷ past) x.offset found frames line
     → frames ≡ [] → lines' ≡ (lines ++ more) ++ line → HasTold following.teller setting (Sent time x ∷ items) (text ++ more)
@@ -55,7 +44,7 @@ none_by once following setting recovers past items text more time x frames line 
     absurd (some_events (time_put_in setting.first entry.reading r.reading) _ _ (no_events once events (subst W none adds.0)))
 
 -- Nothing is put in.
-pub tells_none : ShowsOnce → (following : Following) (setting : Setting) (recovers : Bool) (past : List Event) (items : List Item) (text more : List ℕ) (time offset : ℕ) (event : Event)
+pub tells_none : ShowsOnce → (following : Following) (setting : Setting) (recovers : Bool) (past : List Event) (items : List Item) (text more : List ℕ) (time : When) (offset : ℕ) (event : Event)
     (frames line lines lines' : List ℕ) → KeepsEvent following.keeper setting recovers past (events_of items) offset event frames line
     → frames ≡ [] → lines' ≡ (lines ++ more) ++ line → HasTold following.teller setting (Sent time (record { offset = offset; event = event }) ∷ items) (text ++ more)
     → TellsWith following setting recovers past items text time (record { offset = offset; event = event }) lines lines'
@@ -63,22 +52,27 @@ tells_none once following setting recovers past items text more time offset even
     none_by once following setting recovers past items text more time (record { offset = offset; event = event }) frames line lines lines' k.found k.finds k.keeps k.adds none lines_are told
 
 -- what tells frames that are put in
-abbrev pub PutsIn : Teller → Teller → ℕ → ℕ → List ℕ → List ℕ → List ℕ → Type 0
+abbrev pub PutsIn : Teller → Teller → When → ℕ → List ℕ → List ℕ → List ℕ → Type 0
 PutsIn old new time offset frames lines lines' = (setting : Setting) (items : List Item) (text : List ℕ) (events : List Event) → HasTold old setting items text
     → ShowsWhole frames events → (more : List ℕ) × (lines' ≡ lines ++ more) × HasTold new setting (with_events time offset events items) (text ++ more)
 
-put_by : (following : Following) (teller : Teller) (setting : Setting) (recovers : Bool) (past : List Event) (items : List Item) (text more : List ℕ) (time : ℕ) (x : Timed)
+-- what notes a pair
+abbrev pub NotesPair : Teller → Teller → When → Type 0
+NotesPair old new time = (setting : Setting) (items : List Item) (text line : List ℕ) (offset : ℕ) (r : Recovery) → HasTold old setting items text
+    → TellsRecovered offset r line → HasTold new setting (Pair time offset r ∷ items) (text ++ line)
+
+put_by : (following : Following) (teller mid : Teller) (setting : Setting) (recovers : Bool) (past : List Event) (items : List Item) (text more : List ℕ) (time : When) (x : Timed)
     (frames line lines told_lines pair_lines lines' : List ℕ) (found : Option Recovery) → Finds setting recovers past x.event found
     → HasKept following.keeper setting recovers (x.event ∷ past) (added setting past x.event found (events_of items)) → AddsPair setting (x.event ∷ past) x.offset found frames line
     → (frames ≡ [] → ⊥) → told_lines ≡ lines ++ more → HasTold teller setting (Sent time x ∷ items) (text ++ more) → pair_lines ≡ told_lines ++ line
-    → PutsIn teller following.teller time x.offset frames pair_lines lines'
+    → NotesPair teller mid time → PutsIn mid following.teller time x.offset frames pair_lines lines'
     → TellsWith following setting recovers past items text time x lines lines'
-put_by following teller setting recovers past items text more time x frames line lines told_lines pair_lines lines' None finds keeps adds some lines_are told pair_are puts =
+put_by following teller mid setting recovers past items text more time x frames line lines told_lines pair_lines lines' None finds keeps adds some lines_are told pair_are notes puts =
     absurd (some adds.0)
-put_by following teller setting recovers past items text more time x frames line lines told_lines pair_lines lines' (Some r) finds keeps adds some lines_are told pair_are puts =
+put_by following teller mid setting recovers past items text more time x frames line lines told_lines pair_lines lines' (Some r) finds keeps adds some lines_are told pair_are notes puts =
     let entry = entry_at setting.first setting.rotated (x.event ∷ past) in
     let events = put_in setting.first setting.rotated entry r in
-    let pair = told_pair teller setting (Sent time x ∷ items) (text ++ more) line time x.offset r told adds.1 in
+    let pair = notes setting (Sent time x ∷ items) (text ++ more) line x.offset r told adds.1 in
     let put = puts setting (Pair time x.offset r ∷ Sent time x ∷ items) ((text ++ more) ++ line) events pair adds.0 in
     let all = (more ++ line) ++ put.0 in
     let same : ((text ++ more) ++ line) ++ put.0 ≡ text ++ all =
@@ -93,11 +87,17 @@ put_by following teller setting recovers past items text more time x frames line
     )
 
 -- A pair is put in.
-pub tells_put : (following : Following) (teller : Teller) (setting : Setting) (recovers : Bool) (past : List Event) (items : List Item) (text more : List ℕ) (time offset : ℕ) (event : Event)
+pub tells_put : (following : Following) (teller mid : Teller) (setting : Setting) (recovers : Bool) (past : List Event) (items : List Item) (text more : List ℕ) (time : When) (offset : ℕ) (event : Event)
     (frames line lines told_lines pair_lines lines' : List ℕ) → KeepsEvent following.keeper setting recovers past (events_of items) offset event frames line
     → (frames ≡ [] → ⊥) → told_lines ≡ lines ++ more → HasTold teller setting (Sent time (record { offset = offset; event = event }) ∷ items) (text ++ more)
-    → pair_lines ≡ told_lines ++ line → PutsIn teller following.teller time offset frames pair_lines lines'
+    → pair_lines ≡ told_lines ++ line → NotesPair teller mid time → PutsIn mid following.teller time offset frames pair_lines lines'
     → TellsWith following setting recovers past items text time (record { offset = offset; event = event }) lines lines'
-tells_put following teller setting recovers past items text more time offset event frames line lines told_lines pair_lines lines' k some lines_are told pair_are puts =
-    put_by following teller setting recovers past items text more time (record { offset = offset; event = event }) frames line lines told_lines pair_lines lines' k.found k.finds k.keeps k.adds
-    some lines_are told pair_are puts
+tells_put following teller mid setting recovers past items text more time offset event frames line lines told_lines pair_lines lines' k some lines_are told pair_are notes puts =
+    put_by following teller mid setting recovers past items text more time (record { offset = offset; event = event }) frames line lines told_lines pair_lines lines' k.found k.finds k.keeps k.adds
+    some lines_are told pair_are notes puts
+
+-- Where something is put in, a pair was found.
+pub some_pair : (setting : Setting) (past : List Event) (offset : ℕ) (found : Option Recovery) (frames line : List ℕ) → AddsPair setting past offset found frames line
+    → (frames ≡ [] → ⊥) → (r : Recovery) × TellsRecovered offset r line
+some_pair setting past offset None frames line adds some = absurd (some adds.0)
+some_pair setting past offset (Some r) frames line adds some = (r, adds.1)

@@ -1,3 +1,5 @@
+mod AlarmLemmas
+mod EndLemmas
 pub mod HearLemmas
 pub mod ItemLemmas
 pub mod OnceLemmas
@@ -5,5 +7,6 @@ pub mod PlainLemmas
 pub mod PlyLemmas
 pub mod SeeLemmas
 pub mod ShownLemmas
+pub mod SilenceLemmas
 pub mod TakeLemmas
 pub mod WithinLemmas

@@ -19,16 +19,22 @@ use Rattle.board_events.specs.History.{picture_of}
 use Rattle.board_events.specs.Session.{entries_in}
 use Rattle.board_events.specs.Settings.{Setting}
 use Rattle.board_events.proofs.GameLemmas.{one_result}
+use Rattle.board_alarms.specs.declared.event_heard.When.{When}
 use Rattle.board_listing.specs.GameText.{HasResult, reached_by}
 use Rattle.board_standing.specs.declared.heard.Event.{Event as Told}
 use Rattle.board_standing.specs.declared.heard.Heard.{Heard}
 use Rattle.board_standing.specs.declared.heard.Heard.TheVariants.{Shows, Repeats, Moves, Ends, Reopens, Stops, Answers, Unplugs, Plugs, Begins}
 use Rattle.board_standing.specs.declared.heard.Picture.{Picture}
-use Rattle.recovery.specs.Keeping.{RecoversAt}
-use Rattle.recovery.proofs.InventedLemmas.{found_is}
-use Rattle.board_game.specs.Hearing.{Changes, Compares, Hears, HearsEvent, HearsPicture, HearsResult, IsMask, IsNew, with_heard}
+use Rattle.recovery.proofs.WovenLemmas.{recovers_same}
+use Rattle.board_game.specs.Hearing.{Changes, Compares, Hears, HearsEvent, HearsPicture, HearsResult, IsMask, IsNew, heard_of, with_heard}
 use Rattle.board_game.specs.History.{Adds, Bytes, Came, Finds, Item, Makes, News, Noted, Pair, Sent, bytes_of, events_of, with_found}
-use Rattle.board_game.specs.Laws.{HearsOnce}
+use Rattle.board_alarms.specs.Hearing.{AreOpen}
+use Rattle.board_alarms.specs.Laws.{OpensOnce as AlarmsOpenOnce}
+use Rattle.board_game.specs.Alarming.{alarm_items}
+use Rattle.board_endings.specs.Laws.{EndsOnce as EndingsAreOne, SameUntilDue}
+use Rattle.board_endings.specs.Saying.{IsDueAt, IsEndAt}
+use Rattle.board_game.specs.Ending.{end_items}
+use Rattle.board_game.specs.Laws.{EndStaysUntilDue, EndsOnce, HearsOnce, OpensOnce}
 use Rattle.board_game.proofs.PlainLemmas.{ShowsOnce, same_shown}
 
 -- ---- masks
@@ -161,33 +167,25 @@ event_once setting past event s e t f valid g h =
 
 -- ---- what is heard of items
 
-items_heard : (setting : Setting) (items : List Item) (a b : List Told) → Valid setting.start → Hears setting items a → Hears setting items b → a ≡ b
+pub items_heard : (setting : Setting) (items : List Item) (a b : List Told) → Valid setting.start → Hears setting items a → Hears setting items b → a ≡ b
 items_heard setting [] a b valid g h = g ∙ sym h
 items_heard setting (Sent time x ∷ items) a b valid g h =
     let earlier = items_heard setting items g.0 h.0 valid g.3 h.3 in
     let both = event_once setting (events_of items) x.event g.1 g.2 h.1 h.2 valid g.4 h.4 in
-    g.5 ∙ ap (λ (s : Option Heard). with_heard time g.2 (with_heard time s g.0)) both.0 ∙ ap (λ (e : Option Heard). with_heard time e (with_heard time h.1 g.0)) both.1
-    ∙ ap (λ (l : List Told). with_heard time h.2 (with_heard time h.1 l)) earlier ∙ sym h.5
+    g.5 ∙ ap (λ (s : Option Heard). with_heard time.at g.2 (with_heard time.at s g.0)) both.0 ∙ ap (λ (e : Option Heard). with_heard time.at e (with_heard time.at h.1 g.0)) both.1
+    ∙ ap (λ (l : List Told). with_heard time.at h.2 (with_heard time.at h.1 l)) earlier ∙ sym h.5
 items_heard setting (Pair time offset r ∷ items) a b valid g h = items_heard setting items a b valid g h
-items_heard setting (Noted time what ∷ items) a b valid g h =
-    g.2 ∙ ap (λ (l : List Told). with_heard time (Some what) l) (items_heard setting items g.0 h.0 valid g.1 h.1) ∙ sym h.2
+items_heard setting (Noted time note ∷ items) a b valid g h =
+    g.2 ∙ ap (λ (l : List Told). with_heard time (heard_of note) l) (items_heard setting items g.0 h.0 valid g.1 h.1) ∙ sym h.2
 
 -- ---- what is told of what came
-
-recovers_same : RecoversOnce → (setting : Setting) (past : List Event) (event : Event) (f g : Option Recovery) → Valid setting.start → RecoversAt setting past event f
-    → RecoversAt setting past event g → f ≡ g
-recovers_same once setting past event None None valid h k = refl
-recovers_same once setting past event f (Some r) valid h k =
-    let new = k.1 in found_is once setting past event new.1.0 new.1.1 r f valid k.0 new.0 new.1.2 new.1.3 h
-recovers_same once setting past event (Some r) None valid h k =
-    let new = h.1 in sym (found_is once setting past event new.1.0 new.1.1 r None valid h.0 new.0 new.1.2 new.1.3 k)
 
 finds_same : RecoversOnce → (setting : Setting) (recovers : Bool) (past : List Event) (event : Event) (f g : Option Recovery) → Valid setting.start
     → Finds setting recovers past event f → Finds setting recovers past event g → f ≡ g
 finds_same once setting false past event f g valid h k = h ∙ sym k
 finds_same once setting true past event f g valid h k = recovers_same once setting past event f g valid h k
 
-adds_same : RecoversOnce → (setting : Setting) (recovers : Bool) (time : ℕ) (past : List Event) (more : List Timed) (before others a b : List Item) → Valid setting.start
+adds_same : RecoversOnce → (setting : Setting) (recovers : Bool) (time : When) (past : List Event) (more : List Timed) (before others a b : List Item) → Valid setting.start
     → before ≡ others → Adds setting recovers time past more before a → Adds setting recovers time past more others b → a ≡ b
 adds_same once setting recovers time past [] before others a b valid same g h = g ∙ same ∙ sym h
 adds_same once setting recovers time past (x ∷ more) before others a b valid same g h =
@@ -196,7 +194,7 @@ adds_same once setting recovers time past (x ∷ more) before others a b valid s
     let found = finds_same once setting recovers here x.event g.1 h.1 valid g.3 h.3 in
     g.4 ∙ ap (λ (f : Option Recovery). with_found setting here time x f g.0) found ∙ ap (λ (items : List Item). with_found setting here time x h.1 items) earlier ∙ sym h.4
 
-makes_once : ShowsOnce → RecoversOnce → (setting : Setting) (recovers : Bool) (past : List Came) (a b : List Item) → Valid setting.start → Makes setting recovers past a
+pub makes_once : ShowsOnce → RecoversOnce → (setting : Setting) (recovers : Bool) (past : List Came) (a b : List Item) → Valid setting.start → Makes setting recovers past a
     → Makes setting recovers past b → a ≡ b
 makes_once shows once setting recovers [] a b valid g h = g ∙ sym h
 makes_once shows once setting recovers (Bytes time bytes ∷ past) a b valid g h =
@@ -208,10 +206,26 @@ makes_once shows once setting recovers (Bytes time bytes ∷ past) a b valid g h
     let A : List Timed → Type 0 = λ es. Adds setting recovers time (past_of es) g.2 g.0 a in
     let B : List Timed → Type 0 = λ es. Adds setting recovers time (past_of h.1) es g.0 a in
     adds_same once setting recovers time (past_of h.1) h.2 g.0 h.0 a b valid before (subst B more (subst A events g.6)) h.6
-makes_once shows once setting recovers (News time heard ∷ past) a b valid g h =
-    g.2 ∙ ap (λ (items : List Item). Noted time heard ∷ items) (makes_once shows once setting recovers past g.0 h.0 valid g.1 h.1) ∙ sym h.2
+makes_once shows once setting recovers (News time note ∷ past) a b valid g h =
+    g.2 ∙ ap (λ (items : List Item). Noted time note ∷ items) (makes_once shows once setting recovers past g.0 h.0 valid g.1 h.1) ∙ sym h.2
 
 pub hears_once : ShowsOnce → RecoversOnce → HearsOnce
 hears_once shows once setting recovers past a b valid g h =
     let items = makes_once shows once setting recovers past g.0 h.0 valid g.1 h.1 in
     items_heard setting h.0 a b valid (subst (λ (is : List Item). Hears setting is a) items g.2) h.2
+
+pub opens_once : ShowsOnce → RecoversOnce → AlarmsOpenOnce → OpensOnce
+opens_once shows once opens setting recovers past a b valid g h =
+    let items = makes_once shows once setting recovers past g.0 h.0 valid g.1 h.1 in
+    opens setting (alarm_items h.0) a b valid (subst (λ (is : List Item). AreOpen setting (alarm_items is) a) items g.2) h.2
+
+pub ends_once : ShowsOnce → RecoversOnce → EndingsAreOne → EndsOnce
+ends_once shows once ends setting recovers past now a b valid g h =
+    let items = makes_once shows once setting recovers past g.0 h.0 valid g.1 h.1 in
+    ends setting (end_items h.0) now a b valid (subst (λ (is : List Item). IsEndAt setting (end_items is) now a) items g.2) h.2
+
+pub end_stays : ShowsOnce → RecoversOnce → SameUntilDue → EndStaysUntilDue
+end_stays shows once same setting recovers past now later due end valid le fits before d e =
+    let items = makes_once shows once setting recovers past d.0 e.0 valid d.1 e.1 in
+    let D : List Item → Type 0 = λ is. IsDueAt setting (end_items is) now due in
+    (e.0, e.1, same setting (end_items e.0) now later due end valid le fits before (subst D items d.2) e.2)

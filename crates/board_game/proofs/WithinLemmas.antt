@@ -11,6 +11,7 @@ use Rattle.board_events.specs.Commands.{past_of}
 use Rattle.board_events.specs.Limits.{limit}
 use Rattle.board_events.specs.Settings.{Setting}
 use Rattle.board_events.proofs.CommandLemmas.{past_both}
+use Rattle.board_alarms.specs.declared.event_heard.When.{When}
 use Rattle.board_game.specs.declared.following.Following.{Following}
 use Rattle.board_game.specs.declared.game.Game.{Game}
 use Rattle.board_game.specs.Games.{StandsFor}
@@ -18,7 +19,7 @@ use Rattle.board_game.specs.History.{Bytes, Came, Finds, Item, bytes_of, with_fo
 use Rattle.board_game.specs.Inside.Telling.{HasFollowed, IsWithin}
 
 -- no byte of it yet
-pub within_start : (game : Game) (setting : Setting) (recovers : Bool) (past : List Came) (text : List ℕ) (time : ℕ) (lines gathered : List ℕ) → gathered ≡ [] → StandsFor game setting recovers past text
+pub within_start : (game : Game) (setting : Setting) (recovers : Bool) (past : List Came) (text : List ℕ) (time : When) (lines gathered : List ℕ) → gathered ≡ [] → StandsFor game setting recovers past text
     → IsWithin game.decoder game.following setting recovers past text text time [] lines (lines ++ gathered)
 within_start game setting recovers past text time lines gathered none s =
     let D : List ℕ → List Timed → Type 0 = λ bytes events. Decoded game.decoder bytes events in
@@ -38,7 +39,7 @@ within_start game setting recovers past text time lines gathered none s =
     }
 
 -- the bytes up to the next event
-pub within_more : (old new : Decoder) (following next : Following) (setting : Setting) (recovers : Bool) (past : List Came) (before text : List ℕ) (time offset : ℕ)
+pub within_more : (old new : Decoder) (following next : Following) (setting : Setting) (recovers : Bool) (past : List Came) (before text : List ℕ) (time : When) (offset : ℕ)
     (bytes piece lines lines' lines'' : List ℕ) (event : Event)
     → ((all : List ℕ) (events : List Timed) → Decoded old all events → length all + length piece ≡ offset + 1
     → Decoded new (all ++ piece) (events ++ record { offset = offset; event = event } ∷ []))
@@ -75,7 +76,7 @@ within_more old new following next setting recovers past before text time offset
     )
 
 -- the bytes behind the last event
-pub within_rest : (old new : Decoder) (following : Following) (setting : Setting) (recovers : Bool) (past : List Came) (before text : List ℕ) (time : ℕ)
+pub within_rest : (old new : Decoder) (following : Following) (setting : Setting) (recovers : Bool) (past : List Came) (before text : List ℕ) (time : When)
     (bytes piece lines lines' : List ℕ) → TakesAll old piece new → IsWithin old following setting recovers past before text time bytes lines lines'
     → IsWithin new following setting recovers past before text time (bytes ++ piece) lines lines'
 within_rest old new following setting recovers past before text time bytes piece lines lines' takes w =
@@ -102,7 +103,7 @@ past_within events later =
     ∙ ap (λ (es : List Timed). map (λ (t : Timed). t.event) es) (reverse-reverse later))
 
 -- all bytes of it
-pub within_end : (game : Game) (setting : Setting) (recovers : Bool) (past : List Came) (before text : List ℕ) (time rest : ℕ) (bytes lines lines' lines'' : List ℕ)
+pub within_end : (game : Game) (setting : Setting) (recovers : Bool) (past : List Came) (before text : List ℕ) (time : When) (rest : ℕ) (bytes lines lines' lines'' : List ℕ)
     → lines'' ≡ lines' → IsWithin game.decoder game.following setting recovers past before text time bytes lines lines'
     → ((all : List ℕ) (events : List Timed) → Decoded game.decoder all events → Shows all events rest)
     → game.count ≡ length (bytes_of past) + length bytes → length (bytes_of past) + length bytes ≤ limit

@@ -15,6 +15,8 @@ use Rattle.board_standing.specs.declared.heard.Event.{Event as Told}
 use Rattle.board_standing.specs.declared.heard.Heard.{Heard}
 use Rattle.board_standing.specs.declared.heard.Heard.TheVariants.{Shows, Repeats, Moves, Ends, Reopens}
 use Rattle.board_standing.specs.declared.heard.Picture.{Picture}
+use Rattle.board_game.specs.declared.note.Note.{Note}
+use Rattle.board_game.specs.declared.note.Note.TheVariants.{Line, Looked, PutsBack, Suspects}
 use Rattle.board_game.specs.History.{Came, Item, Sent, Pair, Noted, Makes, events_of}
 
 -- The mask has exactly the squares on which two pictures differ.
@@ -74,13 +76,20 @@ abbrev pub with_heard : ℕ → Option Heard → List Told → List Told
 with_heard time None before = before
 with_heard time (Some what) before = record { at = time; what = what } ∷ before
 
+-- what it tells of the line
+abbrev pub heard_of : Note → Option Heard
+heard_of (Line heard) = Some heard
+heard_of Looked = None
+heard_of PutsBack = None
+heard_of (Suspects n) = None
+
 -- This is heard of these items. A pair is heard by the events that are put in for it.
 abbrev pub Hears : Setting → List Item → List Told → Type 0
 Hears setting [] heard = heard ≡ []
 Hears setting (Sent time x ∷ items) heard = (earlier : List Told) × (shown ended : Option Heard) × Hears setting items earlier
-    × HearsEvent setting (events_of items) x.event shown ended × (heard ≡ with_heard time ended (with_heard time shown earlier))
+    × HearsEvent setting (events_of items) x.event shown ended × (heard ≡ with_heard time.at ended (with_heard time.at shown earlier))
 Hears setting (Pair time offset r ∷ items) heard = Hears setting items heard
-Hears setting (Noted time what ∷ items) heard = (earlier : List Told) × Hears setting items earlier × (heard ≡ with_heard time (Some what) earlier)
+Hears setting (Noted time note ∷ items) heard = (earlier : List Told) × Hears setting items earlier × (heard ≡ with_heard time (heard_of note) earlier)
 
 -- This is heard of what came.
 abbrev pub IsHeard : Setting → Bool → List Came → List Told → Type 0

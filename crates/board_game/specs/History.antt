@@ -8,20 +8,21 @@ use Rattle.board_events.specs.Commands.{past_of}
 use Rattle.board_events.specs.Entries.{entry_at}
 use Rattle.board_events.specs.Limits.{limit}
 use Rattle.board_events.specs.Settings.{Setting}
-use Rattle.board_standing.specs.declared.heard.Heard.{Heard}
+use Rattle.board_alarms.specs.declared.event_heard.When.{When}
+use Rattle.board_game.specs.declared.note.Note.{Note}
 use Rattle.pair_frames.specs.PutIn.{put_in}
 use Rattle.recovery.specs.Keeping.{RecoversAt}
 
--- What came at a time: bytes of the board, or news of its line.
+-- What came at a time: bytes of the board, or bytes that were added by hand; or what isn't in the bytes.
 pub data Came : Type 0 where
-  Bytes : ℕ → List ℕ → Came
-  News : ℕ → Heard → Came
+  Bytes : When → List ℕ → Came
+  News : ℕ → Note → Came
 
 -- all bytes that came, in their order
 abbrev pub bytes_of : List Came → List ℕ
 bytes_of [] = []
 bytes_of (Bytes time bytes ∷ past) = bytes_of past ++ bytes
-bytes_of (News time heard ∷ past) = bytes_of past
+bytes_of (News time note ∷ past) = bytes_of past
 
 -- how many bytes more are taken
 abbrev pub room_of : List Came → ℕ
@@ -31,28 +32,28 @@ room_of past = limit - length (bytes_of past)
 abbrev pub AreShown : List ℕ → List Timed → Type 0
 AreShown bytes events = (rest : ℕ) × Shows bytes events rest
 
--- What is told, with its time: an event, which the board sent or which is put in, at its offset; a pair of plies that was
--- recovered at this offset; or news of the line.
+-- What is told, with its time: an event, which the board sent, or which was added by hand or is put in, at its offset; a pair of
+-- plies that was recovered at this offset; or what isn't in the bytes.
 pub data Item : Type 0 where
-  Sent : ℕ → Timed → Item
-  Pair : ℕ → ℕ → Recovery → Item
-  Noted : ℕ → Heard → Item
+  Sent : When → Timed → Item
+  Pair : When → ℕ → Recovery → Item
+  Noted : ℕ → Note → Item
 
 -- the events among them
 abbrev pub events_of : List Item → List Event
 events_of [] = []
 events_of (Sent time x ∷ items) = x.event ∷ events_of items
 events_of (Pair time offset r ∷ items) = events_of items
-events_of (Noted time heard ∷ items) = events_of items
+events_of (Noted time note ∷ items) = events_of items
 
 -- events that come at one time and at one offset, behind these items
-abbrev pub with_events : ℕ → ℕ → List Event → List Item → List Item
+abbrev pub with_events : When → ℕ → List Event → List Item → List Item
 with_events time offset [] items = items
 with_events time offset (event ∷ events) items = with_events time offset events (Sent time (record { offset = offset; event = event }) ∷ items)
 
 -- an event, and what was recovered at it: the pair, and the events that are put in for it, all with the offset of the
 -- event
-abbrev pub with_found : Setting → List Event → ℕ → Timed → Option Recovery → List Item → List Item
+abbrev pub with_found : Setting → List Event → When → Timed → Option Recovery → List Item → List Item
 with_found setting past time x None items = Sent time x ∷ items
 with_found setting past time x (Some r) items = with_events time x.offset
     (put_in setting.first setting.rotated (entry_at setting.first setting.rotated (x.event ∷ past)) r) (Pair time x.offset r ∷ Sent time x ∷ items)
@@ -63,7 +64,7 @@ Finds setting false past event found = found ≡ None
 Finds setting true past event found = RecoversAt setting past event found
 
 -- Behind the first items come those of the second events, all at this time; the first events came before.
-abbrev pub Adds : Setting → Bool → ℕ → List Event → List Timed → List Item → List Item → Type 0
+abbrev pub Adds : Setting → Bool → When → List Event → List Timed → List Item → List Item → Type 0
 Adds setting recovers time past [] before items = items ≡ before
 Adds setting recovers time past (x ∷ more) before items = (earlier : List Item) × (found : Option Recovery)
     × Adds setting recovers time past more before earlier × Finds setting recovers (map (λ t. t.event) more ++ past) x.event found
@@ -76,4 +77,4 @@ Makes setting recovers [] items = items ≡ []
 Makes setting recovers (Bytes time bytes ∷ past) items = (before : List Item) × (events more : List Timed) × Makes setting recovers past before
     × AreShown (bytes_of past) events × AreShown (bytes_of past ++ bytes) (events ++ reverse more)
     × Adds setting recovers time (past_of events) more before items
-Makes setting recovers (News time heard ∷ past) items = (before : List Item) × Makes setting recovers past before × (items ≡ Noted time heard ∷ before)
+Makes setting recovers (News time note ∷ past) items = (before : List Item) × Makes setting recovers past before × (items ≡ Noted time note ∷ before)

@@ -1,11 +1,16 @@
 -- What holds of each history.
-use Rattle.std.specs.Prelude.{◌≡◌, ℕ, false, Bool, List}
+use Rattle.std.specs.Prelude.{◌≡◌, ◌<◌, ◌≤◌, ◌^◌, ℕ, false, Bool, List, Option}
 use Rattle.chess_rules.specs.Valid.{Valid}
 use Rattle.dgt_frame.specs.Streams.{Timed}
 use Rattle.board_events.specs.Settings.{Setting}
 use Rattle.board_listing.specs.declared.listing.Listing.TheVariants.{Watched}
 use Rattle.board_listing.specs.Listings.{HasLines}
 use Rattle.board_standing.specs.declared.heard.Event.{Event as Told}
+use Rattle.square_runs.specs.Lasting.{IsBefore}
+use Rattle.board_looks.specs.declared.look.Look.{Look}
+use Rattle.board_game.specs.Alarming.{AlarmsAre}
+use Rattle.board_endings.specs.declared.news.End.{End}
+use Rattle.board_game.specs.Ending.{IsEndDueOf, IsEndOf}
 use Rattle.board_game.specs.Hearing.{IsHeard}
 use Rattle.board_game.specs.History.{AreShown, Came, bytes_of}
 use Rattle.board_game.specs.Report.{IsReport}
@@ -19,3 +24,19 @@ ReportsAsWatch = (setting : Setting) (past : List Came) (events : List Timed) (t
 abbrev pub HearsOnce : Type 0
 HearsOnce = (setting : Setting) (recovers : Bool) (past : List Came) (a b : List Told) → Valid setting.start
     → IsHeard setting recovers past a → IsHeard setting recovers past b → a ≡ b
+
+-- So the alarms that are open follow from what came.
+abbrev pub OpensOnce : Type 0
+OpensOnce = (setting : Setting) (recovers : Bool) (past : List Came) (a b : List Look) → Valid setting.start → AlarmsAre setting recovers past a
+    → AlarmsAre setting recovers past b → a ≡ b
+
+-- So the game's end follows from what came.
+abbrev pub EndsOnce : Type 0
+EndsOnce = (setting : Setting) (recovers : Bool) (past : List Came) (now : ℕ) (a b : End) → Valid setting.start → IsEndOf setting recovers past now a
+    → IsEndOf setting recovers past now b → a ≡ b
+
+-- Until time is due to end the game, it stands as it does now.
+abbrev pub EndStaysUntilDue : Type 0
+EndStaysUntilDue = (setting : Setting) (recovers : Bool) (past : List Came) (now later : ℕ) (due : Option ℕ) (end : End) → Valid setting.start → now ≤ later
+    → later < 2 ^ 64 → IsBefore later due → IsEndDueOf setting recovers past now due → IsEndOf setting recovers past now end
+    → IsEndOf setting recovers past later end

@@ -1,6 +1,9 @@
+pub mod Alarming
+pub mod Ending
 pub mod Games
 pub mod Hearing
 pub mod History
 pub mod Inside
 pub mod Laws
 pub mod Report
+pub mod Silences

@@ -20,7 +20,7 @@ Reports setting (Sent time x ∷ items) text = (before : List ℕ) × (lines : L
     × WatchesEvent setting (events_of items) x lines × (text ≡ before ++ text_of lines)
 Reports setting (Pair time offset r ∷ items) text = (before more : List ℕ) × Reports setting items before × TellsRecovered offset r more
     × (text ≡ before ++ more)
-Reports setting (Noted time heard ∷ items) text = Reports setting items text
+Reports setting (Noted time note ∷ items) text = Reports setting items text
 
 -- The text is the report of what came.
 abbrev pub IsReport : Setting → Bool → List Came → List ℕ → Type 0

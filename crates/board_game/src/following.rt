@@ -10,9 +10,10 @@ ghost use Rattle.board_game.specs.History.{Finds, Item, Noted, with_found};
 ghost use Rattle.board_game.specs.Inside.Telling.{HasFollowed, HasKept, KeepsEvent};
 ghost use Rattle.board_game.specs.Report.{first_line};
 
+use crate::note::Note;
 use crate::telling::{Teller, flush};
+use board_alarms::When;
 use board_captures::Method;
-use board_standing::Heard;
 use dgt_frame::Event;
 use dgt_frame::laws::shows_once;
 use recovery::{Frames, Keeper, hear};
@@ -80,10 +81,10 @@ impl Following {
         }
     }
 
-    /// Takes the next event, which came at this time, and adds what is told of it behind what is gathered.
+    /// Takes the next event, which came then, and adds what is told of it behind what is gathered.
     pub fn take(
         &mut self,
-        at: u64,
+        when: When,
         offset: u32,
         event: &Event,
         frames: &mut Frames,
@@ -98,11 +99,11 @@ impl Following {
             × Finds setting recovers past event.now found
             × (lines.new.items ++ gathered.new.items ≡ (lines.old.items ++ gathered.old.items) ++ more)
             × HasFollowed self.new setting recovers (event.now ∷ past)
-            (with_found setting past at (record { offset = offset; event = event.now }) found items) (text ++ more)) }
+            (with_found setting past when (record { offset = offset; event = event.now }) found items) (text ++ more)) }
     {
         // For its clause: no bytes show no event.
         shows_once();
-        self.teller.take(at, offset, event, gathered, lines)?;
+        self.teller.take(when, offset, event, gathered, lines)?;
         keep(
             self.alloc,
             &mut self.keeper,
@@ -116,16 +117,17 @@ impl Following {
         if is_nothing(put) {
             return Ok(());
         }
-        self.teller.put_in(at, offset, put, gathered, lines)?;
+        self.teller.note_pair(when)?;
+        self.teller.put_in(when, offset, put, gathered, lines)?;
         Ok(())
     }
 
-    /// Hears news of the line.
-    pub fn note(&mut self, at: u64, what: Heard)
+    /// Takes what isn't in the bytes.
+    pub fn note(&mut self, at: u64, note: Note) -> Result<(), AllocError>
         ensures { (setting : Setting) (recovers : Bool) (past : List EventOf) (items : List Item) (text : List ℕ)
-            → HasFollowed self.old setting recovers past items text → HasFollowed self.new setting recovers past (Noted at what ∷ items) text }
+            → HasFollowed self.old setting recovers past items text → OnOk result (HasFollowed self.new setting recovers past (Noted at note ∷ items) text) }
     {
-        self.teller.note(at, what);
+        self.teller.note(at, note)
     }
 
     /// What tells them.

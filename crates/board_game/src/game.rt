@@ -4,16 +4,22 @@ ghost use Rattle.board_captures.specs.Reading.{setting_of};
 ghost use Rattle.board_events.specs.Limits.{limit};
 ghost use Rattle.board_events.specs.Session.{HasTakenEvents};
 ghost use Rattle.board_events.specs.Settings.{Setting};
+ghost use Rattle.board_game.specs.Alarming.{AlarmsAre};
+ghost use Rattle.board_game.specs.Ending.{IsEndDueOf, IsEndOf};
 ghost use Rattle.board_game.specs.Games.{HasBegun, IsDueOf, IsStateOf, StandsFor};
 ghost use Rattle.board_game.specs.History.{Bytes, Came, Item, Makes, News, events_of, room_of};
 ghost use Rattle.board_game.specs.Report.{IsReport, first_line};
 
 use crate::following::Following;
+use crate::note::Note;
 use crate::telling::append;
+use board_alarms::When;
 use board_captures::Method;
+use board_endings::End;
 use board_events::Session;
 use board_listing::{Listing, add_first};
-use board_standing::{Heard, State};
+use board_looks::Look;
+use board_standing::State;
 use dgt_frame::{BLANK, Decoder, First, LIMIT};
 use recovery::Frames;
 use std::alloc::{AllocError, Global};
@@ -79,33 +85,43 @@ impl Game {
         append(space.as_slice(), lines)
     }
 
-    /// Takes bytes that came at this time, in milliseconds, and appends what is told of them to the lines. Whether these
-    /// are all of the bytes: those behind the first 67,108,864 of the capture are not taken.
+    /// Takes bytes that came then, and appends what is told of them to the lines. Whether these are all of the bytes: those
+    /// behind the first 67,108,864 of the capture are not taken.
     ///
     /// # Errors
     ///
     /// Where there is no memory. Then nothing more may be taken.
-    pub fn take(&mut self, at: u64, bytes: &[u8], lines: &mut Vec<u8>) -> Result<bool, AllocError>
+    pub fn take(
+        &mut self,
+        when: When,
+        bytes: &[u8],
+        lines: &mut Vec<u8>,
+    ) -> Result<bool, AllocError>
         requires begun { HasBegun self.old }
         ensures told { (setting : Setting) (recovers : Bool) (past : List Came) (text : List ℕ) → StandsFor self.old setting recovers past text
             → OnOk result ((more : List ℕ) × (lines.new.items ≡ lines.old.items ++ more)
-            × StandsFor self.new setting recovers (Bytes at (take (room_of past) bytes.now) ∷ past) (text ++ more)) }
+            × StandsFor self.new setting recovers (Bytes when (take (room_of past) bytes.now) ∷ past) (text ++ more)) }
         ensures whole { (setting : Setting) (recovers : Bool) (past : List Came) (text : List ℕ) → StandsFor self.old setting recovers past text
             → IfOk result (λ is. IsTrue is ↔ (length bytes.now ≤ room_of past)) }
         ensures begun { OnOk result (HasBegun self.new) }
     {
         let room = (LIMIT - self.count) as usize;
-        self.take_within(at, first_bytes(bytes, room), lines)?;
+        self.take_within(when, first_bytes(bytes, room), lines)?;
         Ok(bytes.len() <= room)
     }
 
     /// The same of bytes for which there is room.
-    fn take_within(&mut self, at: u64, bytes: &[u8], lines: &mut Vec<u8>) -> Result<(), AllocError>
+    fn take_within(
+        &mut self,
+        when: When,
+        bytes: &[u8],
+        lines: &mut Vec<u8>,
+    ) -> Result<(), AllocError>
         requires begun { HasBegun self.old }
         requires room { self.old.count + length bytes.now ≤ limit }
         ensures { (setting : Setting) (recovers : Bool) (past : List Came) (text : List ℕ) → StandsFor self.old setting recovers past text
             → OnOk result ((more : List ℕ) × (lines.new.items ≡ lines.old.items ++ more)
-            × StandsFor self.new setting recovers (Bytes at bytes.now ∷ past) (text ++ more)) }
+            × StandsFor self.new setting recovers (Bytes when bytes.now ∷ past) (text ++ more)) }
     {
         self.gathered.clear();
         let mut event = BLANK;
@@ -114,7 +130,7 @@ impl Game {
             taken += more;
             let offset = self.count + (taken - 1) as u32;
             self.following.take(
-                at,
+                when,
                 offset,
                 &event,
                 &mut self.frames,
@@ -129,13 +145,25 @@ impl Game {
         Ok(())
     }
 
-    /// Hears news of the line: that it is gone or open, that the board doesn't answer or does, that a recorder begins.
-    pub fn tell(&mut self, at: u64, news: Heard)
+    /// Takes what isn't in the bytes.
+    ///
+    /// # Errors
+    ///
+    /// As `take`.
+    pub fn tell(&mut self, at: u64, note: Note) -> Result<(), AllocError>
         ensures told { (setting : Setting) (recovers : Bool) (past : List Came) (text : List ℕ) → StandsFor self.old setting recovers past text
-            → StandsFor self.new setting recovers (News at news ∷ past) text }
-        ensures begun { HasBegun self.old → HasBegun self.new }
+            → OnOk result (StandsFor self.new setting recovers (News at note ∷ past) text) }
+        ensures begun { HasBegun self.old → OnOk result (HasBegun self.new) }
     {
-        self.following.note(at, news);
+        self.following.note(at, note)
+    }
+
+    /// The alarms that are open, in the order in which they came.
+    pub fn alarms(&self) -> &[Look]
+        ensures { (setting : Setting) (recovers : Bool) (past : List Came) (text : List ℕ) → StandsFor self.now setting recovers past text
+            → AlarmsAre setting recovers past result.now }
+    {
+        self.following.teller().alarms().open()
     }
 
     /// How the board stands at this time, which is none before the last at which something came.
@@ -152,6 +180,22 @@ impl Game {
             → IsDueOf setting recovers past now result }
     {
         self.following.teller().standing().due(now)
+    }
+
+    /// How the game stands with its end at this time, which is none before the last at which something came.
+    pub fn end(&self, now: u64) -> End
+        ensures { (setting : Setting) (recovers : Bool) (past : List Came) (text : List ℕ) → StandsFor self.now setting recovers past text
+            → IsEndOf setting recovers past now result }
+    {
+        self.following.teller().endings().end(now)
+    }
+
+    /// When time alone ends the game, if nothing comes before. None: never, or it has by now.
+    pub fn ends_at(&self, now: u64) -> Option<u64>
+        ensures { (setting : Setting) (recovers : Bool) (past : List Came) (text : List ℕ) → StandsFor self.now setting recovers past text
+            → IsEndDueOf setting recovers past now result }
+    {
+        self.following.teller().endings().due(now)
     }
 
     /// The session of the game so far, with what was put in.

@@ -1,6 +1,9 @@
 //! What holds of each history. Each law is the contract of a function, which does nothing.
-ghost use Rattle.board_game.specs.Laws.{HearsOnce, ReportsAsWatch};
+ghost use Rattle.board_game.specs.Laws.{EndStaysUntilDue, EndsOnce, HearsOnce, OpensOnce, ReportsAsWatch};
+ghost use Rattle.board_game.specs.Silences.{SilenceIsForgotten};
 
+use board_alarms::laws::opens_once as alarms_open_once;
+use board_endings::laws::{ends_once as endings_are_one, same_until_due};
 use dgt_frame::laws::shows_once;
 use unseen_pairs::laws::recovers_once;
 
@@ -20,4 +23,55 @@ pub fn hears_once()
     shows_once();
     // For its clause: at an event one pair is recovered, or none.
     recovers_once();
+}
+
+/// From a valid start, the alarms that are open follow from what came.
+pub fn opens_once()
+    ensures { OpensOnce }
+{
+    // For its clause: bytes show one list of events.
+    shows_once();
+    // For its clause: at an event one pair is recovered, or none.
+    recovers_once();
+    // For its clause: what events and news open.
+    alarms_open_once();
+}
+
+/// From a valid start, the game's end follows from what came.
+pub fn ends_once()
+    ensures { EndsOnce }
+{
+    // For its clause: bytes show one list of events.
+    shows_once();
+    // For its clause: at an event one pair is recovered, or none.
+    recovers_once();
+    // For its clause: what events and news say of the end.
+    endings_are_one();
+}
+
+/// From a valid start, the game stands as it does now until time is due to end it.
+pub fn end_stays_until_due()
+    ensures { EndStaysUntilDue }
+{
+    // For its clause: bytes show one list of events.
+    shows_once();
+    // For its clause: at an event one pair is recovered, or none.
+    recovers_once();
+    // For its clause: what events and news say of the end.
+    same_until_due();
+}
+
+/// From a valid start, a silence that is over changes neither what is read of the board, nor which alarms are open, nor how the game
+/// stands with its end.
+pub fn silence_is_forgotten()
+    ensures { SilenceIsForgotten }
+{
+    // For its clause: bytes show one list of events.
+    shows_once();
+    // For its clause: at an event one pair is recovered, or none.
+    recovers_once();
+    // For its clause: what events and news open.
+    alarms_open_once();
+    // For its clause: what events and news say of the end.
+    endings_are_one();
 }

@@ -4,9 +4,12 @@ ghost use Rattle.dgt_frame.specs.declared.events.Event.{Event as EventOf};
 ghost use Rattle.settle_core.specs.Masks.{IsDiff};
 ghost use Rattle.board_events.specs.Entries.{is_entry as is_entry_of};
 ghost use Rattle.board_events.specs.History.{IsInRange, is_trusted};
+ghost use Rattle.board_events.specs.Pictures.{IsLast, pictures};
 ghost use Rattle.board_events.specs.Settings.{Setting};
+ghost use Rattle.board_alarms.specs.Hearing.{IsShown as IsWhole, shown_at};
 ghost use Rattle.board_game.specs.Inside.Shown.{HasSeen, IsShown};
 
+use board_alarms::Sight;
 use board_events::{Change, View};
 use chess_rules::Position;
 use dgt_frame::{Event, Message};
@@ -79,6 +82,18 @@ fn changed_from(was_shown: bool, before: &[u8; 64], picture: &[u8; 64]) -> u64
     }
 }
 
+/// What an event shows, as alarms are told it.
+pub fn sight(shown: Shown) -> Sight
+    ensures { (setting : Setting) (past : List EventOf) (event : EventOf) (seen : List ℕ) → IsLast seen (pictures setting.rotated (event ∷ past))
+        → IsShown setting past event shown → IsWhole setting past event (shown_at result seen) }
+{
+    match shown {
+        Shown::Nothing => Sight::Nothing,
+        Shown::Again => Sight::Again,
+        Shown::Another { .. } => Sight::Another,
+    }
+}
+
 impl Pictures {
     /// No picture was seen.
     pub fn new(start: &Position, rotated: bool) -> Pictures
@@ -137,5 +152,12 @@ impl Pictures {
                 }
             }
         }
+    }
+
+    /// The last picture.
+    pub fn last(&self) -> &[u8; 64]
+        ensures { (setting : Setting) (past : List EventOf) → HasSeen self.now setting past → IsLast result.now (pictures setting.rotated past) }
+    {
+        self.view.picture()
     }
 }

@@ -22,8 +22,8 @@ pub struct Stage {
 fn last_of(settler: &Settler) -> Option<Ply>
     ensures { result ≡ first_of settler.now.score.plies }
 {
-    match settler.last_ply() {
-        Some(last) => Some(last.1),
+    match settler.moves().last() {
+        Some(last) => Some(*last),
         None => None,
     }
 }

@@ -12,15 +12,24 @@ ghost use Rattle.board_standing.specs.declared.heard.Event.{Event as ToldOf};
 ghost use Rattle.board_standing.specs.declared.heard.Heard.{Heard as HeardOf};
 ghost use Rattle.board_standing.specs.Keeping.{StandsFor as StandingStands};
 ghost use Rattle.pair_frames.specs.PutIn.{ShowsWhole};
-ghost use Rattle.board_game.specs.Hearing.{HearsEvent, HearsPicture, HearsResult, with_heard};
-ghost use Rattle.board_game.specs.History.{Item, Noted, Sent, with_events};
+ghost use Rattle.unseen_pairs.specs.declared.pair.Recovery.{Recovery};
+ghost use Rattle.recovery.specs.Weaving.{TellsRecovered};
+ghost use Rattle.board_alarms.specs.Items.{Item as AlarmItem};
+ghost use Rattle.board_alarms.specs.Keeping.{StandsFor as AlarmsStand};
+ghost use Rattle.board_game.specs.Alarming.{news_of, of_line, with_news};
+ghost use Rattle.board_game.specs.Hearing.{HearsEvent, HearsPicture, HearsResult, heard_of as heard_of_note, with_heard};
+ghost use Rattle.board_game.specs.History.{Item, Noted, Pair, Sent, with_events};
 ghost use Rattle.board_game.specs.Inside.Plies.{Grows, IsStage};
 ghost use Rattle.board_game.specs.Inside.Shown.{IsShown};
 ghost use Rattle.board_game.specs.Inside.Telling.{HasTold};
 ghost use Rattle.board_game.specs.Report.{first_line};
 
-use crate::pictures::{Pictures, Shown};
+use crate::ending::{note_end, tell_end};
+use crate::note::Note;
+use crate::pictures::{Pictures, Shown, sight};
 use crate::stage::{Stage, has_same_plies, stage_of};
+use board_alarms::{Alarms, News, When};
+use board_endings::Endings;
 use board_listing::Watcher;
 use board_standing::{Event as Told, Heard, Picture, Standing};
 use chess_rules::Position;
@@ -105,6 +114,49 @@ fn result_heard(old: Option<Outcome>, new: Option<Outcome>) -> Option<Heard>
     }
 }
 
+/// What a note tells of the line.
+fn heard_of(note: Note) -> Option<Heard>
+    ensures { result ≡ heard_of_note note }
+{
+    match note {
+        Note::Line(heard) => Some(heard),
+        Note::Looked | Note::PutsBack | Note::Suspects(_) => None,
+    }
+}
+
+/// What news of the line are to alarms.
+fn of_line(heard: Heard) -> Option<News>
+    ensures { result ≡ of_line heard }
+{
+    match heard {
+        Heard::Unplugs => Some(News::Gone),
+        Heard::Begins => Some(News::Begins),
+        _ => None,
+    }
+}
+
+/// What a note is to alarms.
+fn news_of(note: Note) -> Option<News>
+    ensures { result ≡ news_of note }
+{
+    match note {
+        Note::Line(heard) => of_line(heard),
+        Note::Looked => Some(News::Looked),
+        Note::PutsBack => Some(News::PutsBack),
+        Note::Suspects(n) => Some(News::Suspects(n)),
+    }
+}
+
+/// Tells the alarms news, if there are any.
+fn note_news(alarms: &mut Alarms, at: u64, news: Option<News>) -> Result<(), AllocError>
+    ensures { (setting : Setting) (items : List AlarmItem) → AlarmsStand alarms.old setting items → OnOk result (AlarmsStand alarms.new setting (with_news at news items)) }
+{
+    match news {
+        None => Ok(()),
+        Some(news) => alarms.note(at, news),
+    }
+}
+
 /// Tells how a board stands what is heard, if anything.
 fn tell(standing: &mut Standing, at: u64, what: Option<Heard>)
     ensures { (heard : List ToldOf) → StandingStands standing.old heard → StandingStands standing.new (with_heard at what heard) }
@@ -114,16 +166,16 @@ fn tell(standing: &mut Standing, at: u64, what: Option<Heard>)
     }
 }
 
-/// Tells how a board stands what is heard of the event that was watched last. Before it the game had come so far.
-fn hear(standing: &mut Standing, watcher: &Watcher, at: u64, old: &Stage, shown: Shown)
+/// Tells how a board stands what is heard of the event that was watched last, before and after which the game had come so far.
+fn hear(standing: &mut Standing, watcher: &Watcher, at: u64, old: &Stage, new: &Stage, shown: Shown)
     ensures { (setting : Setting) (past : List EventOf) (event : EventOf) (before : Score) (heard : List ToldOf)
-        → HasWatched watcher.now setting (event ∷ past) → IsStage old.now setting past before → IsShown setting past event shown
+        → HasWatched watcher.now setting (event ∷ past) → IsStage old.now setting past before
+        → IsStage new.now setting (event ∷ past) watcher.now.follower.session.settler.score → IsShown setting past event shown
         → StandingStands standing.old heard → (picture ended : Option HeardOf) × HearsEvent setting past event picture ended
         × StandingStands standing.new (with_heard at ended (with_heard at picture heard)) }
 {
-    let new = stage_of(watcher);
     let settler = watcher.session().settler();
-    let picture = picture_heard(shown, old, &new, settler);
+    let picture = picture_heard(shown, old, new, settler);
     let ended = result_heard(old.result, new.result);
     tell(standing, at, picture);
     tell(standing, at, ended);
@@ -135,6 +187,8 @@ pub struct Teller {
     watcher: Watcher,
     pictures: Pictures,
     standing: Standing,
+    alarms: Alarms,
+    endings: Endings,
 }
 
 impl Teller {
@@ -145,17 +199,21 @@ impl Teller {
         let watcher = Watcher::new(alloc, start, first, rotated);
         let pictures = Pictures::new(&start, rotated);
         let standing = Standing::new();
+        let alarms = Alarms::new(alloc, &start);
+        let endings = Endings::new(alloc, &start);
         Teller {
             watcher,
             pictures,
             standing,
+            alarms,
+            endings,
         }
     }
 
-    /// Tells the next event: adds its lines behind those that are gathered, and hears it at this time.
+    /// Tells the next event, which came then: adds its lines behind those that are gathered, and hears it.
     pub fn take(
         &mut self,
-        at: u64,
+        when: When,
         offset: u32,
         event: &Event,
         gathered: &mut Lines,
@@ -165,21 +223,48 @@ impl Teller {
         requires begun { (setting : Setting) × (items : List Item) × (text : List ℕ) × HasTold self.old setting items text }
         ensures { (setting : Setting) (items : List Item) (text : List ℕ) → HasTold self.old setting items text
             → OnOk result ((more : List ℕ) × (lines.new.items ++ gathered.new.items ≡ (lines.old.items ++ gathered.old.items) ++ more)
-            × HasTold self.new setting (Sent at (record { offset = offset; event = event.now }) ∷ items) (text ++ more)) }
+            × HasTold self.new setting (Sent when (record { offset = offset; event = event.now }) ∷ items) (text ++ more)) }
     {
         let old = stage_of(&self.watcher);
         let trusted = self.watcher.session().trusted();
         make_room(gathered, lines)?;
         self.watcher.add(gathered, offset, event)?;
         let shown = self.pictures.see(trusted, event);
-        hear(&mut self.standing, &self.watcher, at, &old, shown);
-        Ok(())
+        let new = stage_of(&self.watcher);
+        hear(
+            &mut self.standing,
+            &self.watcher,
+            when.at,
+            &old,
+            &new,
+            shown,
+        );
+        let picture = self.pictures.last();
+        let session = self.watcher.session();
+        self.alarms.take(
+            when.at,
+            when.is_added,
+            event,
+            sight(shown),
+            picture,
+            session,
+            new.result,
+        )?;
+        tell_end(
+            &mut self.endings,
+            when,
+            offset,
+            shown,
+            &self.pictures,
+            session,
+            new.result,
+        )
     }
 
     /// Tells the events of these frames, all at this offset.
     pub fn put_in(
         &mut self,
-        at: u64,
+        when: When,
         offset: u32,
         frames: &[u8],
         gathered: &mut Lines,
@@ -189,7 +274,7 @@ impl Teller {
         ensures { (setting : Setting) (items : List Item) (text : List ℕ) (events : List EventOf) → HasTold self.old setting items text
             → ShowsWhole frames.now events → OnOk result ((more : List ℕ)
             × (lines.new.items ++ gathered.new.items ≡ (lines.old.items ++ gathered.old.items) ++ more)
-            × HasTold self.new setting (with_events at offset events items) (text ++ more)) }
+            × HasTold self.new setting (with_events when offset events items) (text ++ more)) }
     {
         // For its clause: bytes show one list of events.
         shows_once();
@@ -198,19 +283,43 @@ impl Teller {
         let mut taken = 0;
         'events: while let Some(more) = decoder.push_into(&frames[taken..], &mut event) {
             taken += more;
-            self.take(at, offset, &event, gathered, lines)?;
+            self.take(when, offset, &event, gathered, lines)?;
         }
         // For its clause: the frames show these events.
         decoder.pending();
         Ok(())
     }
 
-    /// Hears news of the line.
-    pub fn note(&mut self, at: u64, what: Heard)
+    /// Takes what isn't in the bytes.
+    pub fn note(&mut self, at: u64, note: Note) -> Result<(), AllocError>
         ensures { (setting : Setting) (items : List Item) (text : List ℕ) → HasTold self.old setting items text
-            → HasTold self.new setting (Noted at what ∷ items) text }
+            → OnOk result (HasTold self.new setting (Noted at note ∷ items) text) }
     {
-        self.standing.take(Told { at, what });
+        tell(&mut self.standing, at, heard_of(note));
+        note_news(&mut self.alarms, at, news_of(note))?;
+        note_end(&mut self.endings, at, note)
+    }
+
+    /// A pair is put in whose line was added: its events follow.
+    pub fn note_pair(&mut self, when: When) -> Result<(), AllocError>
+        ensures { (setting : Setting) (items : List Item) (text line : List ℕ) (offset : ℕ) (r : Recovery) → HasTold self.old setting items text
+            → TellsRecovered offset r line → OnOk result (HasTold self.new setting (Pair when offset r ∷ items) (text ++ line)) }
+    {
+        self.alarms.note(when.at, News::PutsIn)
+    }
+
+    /// The alarms that are open.
+    pub fn alarms(&self) -> &Alarms
+        ensures { result.now ≡ self.now.alarms }
+    {
+        &self.alarms
+    }
+
+    /// How the game ends.
+    pub fn endings(&self) -> &Endings
+        ensures { result.now ≡ self.now.endings }
+    {
+        &self.endings
     }
 
     /// What makes the lines.

@@ -1,7 +1,12 @@
 pub mod Alike
+pub mod Ends
 pub mod Fed
+pub mod Filed
+pub mod History
 pub mod Later
 pub mod Lines
+pub mod Numbered
 pub mod Saids
+pub mod Says
 pub mod Sides
 pub mod TakeLemmas

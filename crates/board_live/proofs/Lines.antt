@@ -86,7 +86,7 @@ next e l = record {
 pub same_more : (e : Event) (a b : List Event) → line_of a ≡ line_of b → line_of (e ∷ a) ≡ line_of (e ∷ b)
 same_more e a b h = ap (λ l. next e l) h
 
-abbrev request_on : ℕ → Line → Option Request
+abbrev pub request_on : ℕ → Line → Option Request
 request_on at l =
     if l.opened && (is_past (if l.unanswered then 1000 else 200) at l.asked && (l.wanted || (has_lasted 200 at l.unfinished
     || ((has_lasted 1000 at l.dumped && is_past 500 at l.updated) || has_lasted 4000 at l.dumped))))

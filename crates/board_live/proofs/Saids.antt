@@ -25,16 +25,16 @@ use Rattle.board_live.proofs.Alike.{earlier, restarts}
 bits : (x y : ℕ) → x < 2 → y < 2 → (x == 1) ≡ (y == 1) → x ≡ y
 bits x y a b h = grind (arith, h)
 
-squares_once : (a b : ℕ) (test : ℕ → Bool) → a < 2 ^ 64 → b < 2 ^ 64 → Marks a test → Marks b test → a ≡ b
+pub squares_once : (a b : ℕ) (test : ℕ → Bool) → a < 2 ^ 64 → b < 2 ^ 64 → Marks a test → Marks b test → a ≡ b
 squares_once a b test fits within g h =
     same_from_bits_below 64 a b fits within (λ s low. bits (bit_at a s) (bit_at b s) (bit_at-lt a s) (bit_at-lt b s) (g s low ∙ sym (h s low)))
 
-state_same : (a b : State) → a.kind ≡ b.kind → a.since ≡ b.since → a.squares ≡ b.squares → a.hint ≡ b.hint → a ≡ b
+pub state_same : (a b : State) → a.kind ≡ b.kind → a.since ≡ b.since → a.squares ≡ b.squares → a.hint ≡ b.hint → a ≡ b
 state_same a b k s q h =
     ap (λ x. record a { kind = x }) k ∙ ap (λ x. record a { kind = b.kind; since = x }) s
     ∙ ap (λ x. record a { kind = b.kind; since = b.since; squares = x }) q ∙ ap (λ x. record b { hint = x }) h
 
-state_once : HearsOnce → (setting : Setting) (recovers : Bool) (has : List Came) (now : ℕ) (a b : State) → Valid setting.start
+pub state_once : HearsOnce → (setting : Setting) (recovers : Bool) (has : List Came) (now : ℕ) (a b : State) → Valid setting.start
     → a.squares < 2 ^ 64 → b.squares < 2 ^ 64 → IsStateOf setting recovers has now a → IsStateOf setting recovers has now b → a ≡ b
 state_once once setting recovers has now a b valid fits within g h =
     let same : g.heard ≡ h.heard = once setting recovers has g.heard h.heard valid g.is_heard h.is_heard in
@@ -54,7 +54,7 @@ says_once true before state said other g h = says_after_once before state said o
 says_once false before state said other g h = g ∙ sym h
 
 -- what is said at a moment at which the state is the same, after the same was said last
-said_step : (what : What) (live second : Bool) (state next : State) (before earlier said other last final : Option State) → live ≡ second → state ≡ next
+pub said_step : (what : What) (live second : Bool) (state next : State) (before earlier said other last final : Option State) → live ≡ second → state ≡ next
     → said_before what before ≡ said_before what earlier → Says live (said_before what before) state said → Says second (said_before what earlier) next other
     → last ≡ last_said said (said_before what before) → final ≡ last_said other (said_before what earlier) → (said ≡ other) × (last ≡ final)
 said_step what live second state next before earlier said other last final l s b g h p q =
@@ -72,11 +72,11 @@ said_once once setting recovers (m ∷ past) (turn ∷ turns) said other last fi
     let states : g.0 ≡ h.0 = state_once once setting recovers (came (m ∷ past) (turn ∷ turns)) m.at g.0 h.0 valid g.5 h.5 g.4 h.4 in
     said_step m.what (is_live (m ∷ past)) (is_live (m ∷ past)) g.0 h.0 g.2 h.2 said other last final refl states (ap (λ x. said_before m.what x) before.1) g.6 h.6 g.7 h.7
 
-live_alike : (call past other : List Moment) (m : Moment) → m.what ≡ Cable Begins → is_live (call ++ m ∷ past) ≡ is_live (call ++ m ∷ other)
+pub live_alike : (call past other : List Moment) (m : Moment) → m.what ≡ Cable Begins → is_live (call ++ m ∷ past) ≡ is_live (call ++ m ∷ other)
 live_alike [] past other m is = ap (λ w. live_by w (is_live past)) is ∙ sym (ap (λ w. live_by w (is_live other)) is)
 live_alike (one ∷ call) past other m is = ap (λ b. live_by one.what b) (live_alike call past other m is)
 
-first_said : (m : Moment) (before earlier : Option State) → m.what ≡ Cable Begins → said_before m.what before ≡ said_before m.what earlier
+pub first_said : (m : Moment) (before earlier : Option State) → m.what ≡ Cable Begins → said_before m.what before ≡ said_before m.what earlier
 first_said m before earlier is = ap (λ w. said_before w before) is ∙ sym (ap (λ w. said_before w earlier) is)
 
 said_alike : HearsOnce → (setting : Setting) (recovers : Bool) (call past : List Moment) (m : Moment) (before turns others : List Turn) (said other last final : Option State)
@@ -88,18 +88,18 @@ said_alike once setting recovers [] past m before [] others said other last fina
 said_alike once setting recovers [] past m before (t ∷ ts) [] said other last final valid is first g h p q = absurd h
 said_alike once setting recovers [] past m before (t ∷ ts) (u ∷ us) said other last final valid is first g h p q =
     let kept = with_number m.at (own_number (told before)) (as_kept past before) in
-    let same = (restarts [] past m before t u ts us is first g h).1 in
+    let same = restarts [] past m before t u ts us is first g h in
     let I : List Came → Type 0 = λ has. IsStateOf setting recovers has m.at p.0 in
-    let states : p.0 ≡ q.0 = state_once once setting recovers (came (m ∷ kept) (u ∷ us)) m.at p.0 q.0 valid p.5 q.5 (subst I same.has p.4) q.4 in
+    let states : p.0 ≡ q.0 = state_once once setting recovers (came (m ∷ kept) (u ∷ us)) m.at p.0 q.0 valid p.5 q.5 (subst I same.came p.4) q.4 in
     said_step m.what (is_live (m ∷ past)) (is_live (m ∷ kept)) p.0 q.0 p.2 q.2 said other last final (live_alike [] past kept m is) states (first_said m p.2 q.2 is) p.6 q.6 p.7 q.7
 said_alike once setting recovers (one ∷ call) past m before [] others said other last final valid is first g h p q = absurd g
 said_alike once setting recovers (one ∷ call) past m before (t ∷ ts) [] said other last final valid is first g h p q = absurd h
 said_alike once setting recovers (one ∷ call) past m before (t ∷ ts) (u ∷ us) said other last final valid is first g h p q =
     let kept = with_number m.at (own_number (told before)) (as_kept past before) in
-    let same = (restarts (one ∷ call) past m before t u ts us is first g h).1 in
+    let same = restarts (one ∷ call) past m before t u ts us is first g h in
     let sooner = said_alike once setting recovers call past m before ts us p.1 q.1 p.2 q.2 valid is first g.0 h.0 p.3 q.3 in
     let I : List Came → Type 0 = λ has. IsStateOf setting recovers has one.at p.0 in
-    let states : p.0 ≡ q.0 = state_once once setting recovers (came (one ∷ call ++ m ∷ kept) (u ∷ us)) one.at p.0 q.0 valid p.5 q.5 (subst I same.has p.4) q.4 in
+    let states : p.0 ≡ q.0 = state_once once setting recovers (came (one ∷ call ++ m ∷ kept) (u ∷ us)) one.at p.0 q.0 valid p.5 q.5 (subst I same.came p.4) q.4 in
     said_step one.what (is_live (one ∷ call ++ m ∷ past)) (is_live (one ∷ call ++ m ∷ kept)) p.0 q.0 p.2 q.2 said other last final (live_alike (one ∷ call) past kept m is) states
     (ap (λ x. said_before one.what x) sooner.1) p.6 q.6 p.7 q.7
 

@@ -1,5 +1,5 @@
 -- What holds of each history. Lists have the latest first, but the bytes.
-use Rattle.std.specs.Prelude.{◌≡◌, ℕ, Bool, List, [], ◌∷◌, ◌++◌, Option, Some, None}
+use Rattle.std.specs.Prelude.{◌≡◌, ℕ, Bool, true, false, List, [], ◌∷◌, ◌++◌, Option, Some, None}
 use Rattle.chess_rules.specs.Valid.{Valid}
 use Rattle.board_asking.specs.Silence.{is_silent}
 use Rattle.board_asking.specs.Whose.{own_number}
@@ -7,12 +7,15 @@ use Rattle.board_cable.specs.declared.happened.What.TheVariants.{Begins, Owns}
 use Rattle.board_cable.specs.Keeping.{kept}
 use Rattle.board_cable.specs.Turns.{Told, Turn, handling_of, request_of, told}
 use Rattle.board_events.specs.Settings.{Setting}
-use Rattle.board_standing.specs.declared.heard.Heard.{Heard}
+use Rattle.board_game.specs.declared.note.Note.{Note}
+use Rattle.board_game.specs.declared.note.Note.TheVariants.{Line, Looked, PutsBack, Suspects}
 use Rattle.board_standing.specs.declared.state.State.{State}
 use Rattle.board_live.specs.declared.happened.What.{What}
-use Rattle.board_live.specs.declared.happened.What.TheVariants.{Cable, Keeps, Tells}
-use Rattle.board_live.specs.Coming.{came, silence}
-use Rattle.board_live.specs.Moments.{Moment, already, cabled, news_of}
+use Rattle.board_live.specs.declared.happened.What.TheVariants.{Cable, Keeps, KeepsAdded, Tells, Notes}
+use Rattle.board_endings.specs.declared.news.End.{End}
+use Rattle.board_live.specs.Coming.{came, lined, silence}
+use Rattle.board_live.specs.Ending.{IsEndSaid}
+use Rattle.board_live.specs.Moments.{Moment, already, cabled, is_added, news_of}
 use Rattle.board_live.specs.Numbers.{number_news}
 use Rattle.board_live.specs.Saying.{IsSaid}
 
@@ -26,21 +29,32 @@ abbrev pub IsSaidOnce : Type 0
 IsSaidOnce = (setting : Setting) (recovers : Bool) (past : List Moment) (turns : List Turn) (said other last final : Option State) → Valid setting.start
     → IsSaid setting recovers past turns said last → IsSaid setting recovers past turns other final → (said ≡ other) × (last ≡ final)
 
--- What is kept of a call: bytes as the capture got them, if there are any; and news of the line.
-abbrev pub with_kept : ℕ → List ℕ → List Moment → List Moment
-with_kept at [] before = before
-with_kept at (byte ∷ bytes) before = record { at = at; what = Keeps; bytes = byte ∷ bytes } ∷ before
+-- What is kept of a call: bytes as the capture got them, if there are any, and whether they were added by hand; and what isn't in
+-- the bytes.
+abbrev pub kept_as : Bool → What
+kept_as true = KeepsAdded
+kept_as false = Keeps
 
-abbrev pub with_told : ℕ → Option Heard → List Moment → List Moment
+abbrev pub with_kept : ℕ → Bool → List ℕ → List Moment → List Moment
+with_kept at added [] before = before
+with_kept at added (byte ∷ bytes) before = record { at = at; what = kept_as added; bytes = byte ∷ bytes } ∷ before
+
+abbrev pub told_as : Note → What
+told_as (Line heard) = Tells heard
+told_as Looked = Notes Looked
+told_as PutsBack = Notes PutsBack
+told_as (Suspects n) = Notes (Suspects n)
+
+abbrev pub with_told : ℕ → Option Note → List Moment → List Moment
 with_told at None before = before
-with_told at (Some heard) before = record { at = at; what = Tells heard; bytes = [] } ∷ before
+with_told at (Some note) before = record { at = at; what = told_as note; bytes = [] } ∷ before
 
 -- what is kept of what happened, one thing after the other
 abbrev pub as_kept : List Moment → List Turn → List Moment
 as_kept [] turns = []
 as_kept (moment ∷ past) [] = []
-as_kept (moment ∷ past) (turn ∷ turns) = with_told moment.at (silence moment.what (is_silent (told turns)) (is_silent (told (turn ∷ turns))))
-    (with_kept moment.at (kept (turn ∷ turns)) (with_kept moment.at (already moment.what moment.bytes)
+as_kept (moment ∷ past) (turn ∷ turns) = with_told moment.at (lined (silence moment.what (is_silent (told turns)) (is_silent (told (turn ∷ turns)))))
+    (with_kept moment.at false (kept (turn ∷ turns)) (with_kept moment.at (is_added moment.what) (already moment.what moment.bytes)
     (with_told moment.at (news_of moment.what) (as_kept past turns))))
 
 -- and the number of the game's board, if it is known
@@ -74,3 +88,12 @@ SaysAlike = (setting : Setting) (recovers : Bool) (call past : List Moment) (beg
     Told (cabled (call ++ begins ∷ past)) turns → Told (cabled (call ++ begins ∷ kept)) others
     → IsSaid setting recovers (call ++ begins ∷ past) turns said last → IsSaid setting recovers (call ++ begins ∷ kept) others other final
     → said ≡ other
+
+-- And the same is said of the end of the game.
+abbrev pub EndsAlike : Type 0
+EndsAlike = (setting : Setting) (recovers : Bool) (call past : List Moment) (begins : Moment) (before turns others : List Turn) (said other : End)
+    → Valid setting.start → begins.what ≡ Cable Begins → Told (cabled past) before
+    → let kept : List Moment = with_number begins.at (own_number (told before)) (as_kept past before) in
+    Told (cabled (call ++ begins ∷ past)) turns → Told (cabled (call ++ begins ∷ kept)) others
+    → IsEndSaid setting recovers (call ++ begins ∷ past) turns said
+    → IsEndSaid setting recovers (call ++ begins ∷ kept) others other → said ≡ other

@@ -1,8 +1,10 @@
 pub mod Attending
 pub mod Coming
 pub mod Due
+pub mod Ending
 pub mod Laws
 pub mod Live
 pub mod Moments
 pub mod Numbers
+pub mod Restarts
 pub mod Saying

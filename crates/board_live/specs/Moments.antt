@@ -3,11 +3,12 @@ use Rattle.std.specs.Prelude.{ℕ, Bool, true, false, List, [], ◌∷◌, Optio
 use Rattle.board_cable.specs.declared.happened.What.{What as AtCable}
 use Rattle.board_cable.specs.declared.happened.What.TheVariants.{Begins, Opens, Closes, Interrupts, Wakes}
 use Rattle.board_cable.specs.Moments.{Moment as CableMoment}
-use Rattle.board_standing.specs.declared.heard.Heard.{Heard}
 use Rattle.board_standing.specs.declared.heard.Heard.TheVariants.{Begins as RecorderBegins, Plugs, Unplugs}
+use Rattle.board_game.specs.declared.note.Note.{Note}
+use Rattle.board_game.specs.declared.note.Note.TheVariants.{Line}
 use Rattle.board_live.specs.declared.happened.Happened.{Happened}
 use Rattle.board_live.specs.declared.happened.What.{What}
-use Rattle.board_live.specs.declared.happened.What.TheVariants.{Cable, Adds, Keeps, Tells}
+use Rattle.board_live.specs.declared.happened.What.TheVariants.{Cable, Adds, Keeps, KeepsAdded, Tells, Notes}
 
 -- what happens at a time, with its bytes
 pub record Moment : Type 0 where
@@ -23,7 +24,9 @@ abbrev pub at_cable : What → AtCable
 at_cable (Cable what) = what
 at_cable Adds = Interrupts
 at_cable Keeps = Wakes
+at_cable KeepsAdded = Wakes
 at_cable (Tells heard) = Wakes
+at_cable (Notes note) = Wakes
 
 abbrev pub cable_moment : Moment → CableMoment
 cable_moment moment = record { at = moment.at; what = at_cable moment.what; bytes = moment.bytes }
@@ -36,14 +39,22 @@ cabled (moment ∷ past) = cable_moment moment ∷ cabled past
 abbrev pub already : What → List ℕ → List ℕ
 already Adds bytes = bytes
 already Keeps bytes = bytes
+already KeepsAdded bytes = bytes
 already _ bytes = []
 
--- What it tells of the line. A serial server that is called again tells nothing: its line is opened anew.
-abbrev pub news_of : What → Option Heard
-news_of (Cable Begins) = Some RecorderBegins
-news_of (Cable Opens) = Some Plugs
-news_of (Cable Closes) = Some Unplugs
-news_of (Tells heard) = Some heard
+-- They were added by hand.
+abbrev pub is_added : What → Bool
+is_added Adds = true
+is_added KeepsAdded = true
+is_added _ = false
+
+-- What comes of the game beside its bytes, as news of the line. A serial server that is called again tells nothing: its line is opened anew.
+abbrev pub news_of : What → Option Note
+news_of (Cable Begins) = Some (Line RecorderBegins)
+news_of (Cable Opens) = Some (Line Plugs)
+news_of (Cable Closes) = Some (Line Unplugs)
+news_of (Tells heard) = Some (Line heard)
+news_of (Notes note) = Some note
 news_of _ = None
 
 -- A call begins.

@@ -7,7 +7,7 @@ use Rattle.board_game.specs.Games.{IsStateOf}
 use Rattle.board_standing.specs.declared.state.State.{State}
 use Rattle.board_standing.specs.States.{IsNews}
 use Rattle.board_live.specs.declared.happened.What.{What}
-use Rattle.board_live.specs.declared.happened.What.TheVariants.{Cable, Keeps, Tells}
+use Rattle.board_live.specs.declared.happened.What.TheVariants.{Cable, Keeps, KeepsAdded, Tells}
 use Rattle.board_live.specs.declared.saying.Saying.{Saying}
 use Rattle.board_live.specs.Coming.{came}
 use Rattle.board_live.specs.Moments.{Moment, begins}
@@ -16,6 +16,7 @@ use Rattle.board_live.specs.Moments.{Moment, begins}
 abbrev pub live_by : What → Bool → Bool
 live_by (Cable Begins) before = true
 live_by Keeps before = false
+live_by KeepsAdded before = false
 live_by (Tells heard) before = false
 live_by _ before = before
 

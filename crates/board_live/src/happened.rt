@@ -2,12 +2,13 @@
 ghost use Rattle.std.specs.Prelude.{◌≡◌};
 ghost use Rattle.std.specs.Str.{bytes_eq};
 ghost use Rattle.board_cable.specs.Moments.{sent};
-ghost use Rattle.board_live.specs.Coming.{silence};
-ghost use Rattle.board_live.specs.Moments.{already, at_cable, begins, cable_moment, moment_of, news_of};
+ghost use Rattle.board_live.specs.Coming.{lined, silence};
+ghost use Rattle.board_live.specs.Moments.{already, at_cable, begins, cable_moment, is_added, moment_of, news_of};
 ghost use Rattle.board_live.specs.Numbers.{is_number, is_told, number_news};
 ghost use Rattle.board_live.specs.Saying.{live_by};
 
 use board_cable::{Happened as Cabled, What as AtCable};
+use board_game::Note;
 use board_standing::Heard;
 
 /// What happens.
@@ -17,10 +18,14 @@ pub enum What {
     Cable(AtCable),
     /// Bytes were added by hand: they are in the capture already.
     Adds,
-    /// Of a call before this one: the capture got these bytes.
+    /// Of a call before this one: the capture got these bytes from the board.
     Keeps,
+    /// Of a call before this one: these bytes were added by hand.
+    KeepsAdded,
     /// Of a call before this one: this was told of the line.
     Tells(Heard),
+    /// This comes of the game beside its bytes.
+    Notes(Note),
 }
 
 /// What happens at a time, in milliseconds.
@@ -37,7 +42,7 @@ fn at_cable(what: What) -> AtCable
     match what {
         What::Cable(what) => what,
         What::Adds => AtCable::Interrupts,
-        What::Keeps | What::Tells(_) => AtCable::Wakes,
+        What::Keeps | What::KeepsAdded | What::Tells(_) | What::Notes(_) => AtCable::Wakes,
     }
 }
 
@@ -65,20 +70,38 @@ pub fn already(what: What, bytes: &[u8]) -> &[u8]
     ensures { result.now ≡ already what bytes.now }
 {
     match what {
-        What::Adds | What::Keeps => bytes,
+        What::Adds | What::Keeps | What::KeepsAdded => bytes,
         _ => &[],
     }
 }
 
+/// Whether they were added by hand.
+pub fn is_added(what: What) -> bool
+    ensures { result ≡ is_added what }
+{
+    matches!(what, What::Adds | What::KeepsAdded)
+}
+
 /// What this tells of the line.
-pub fn news_of(what: What) -> Option<Heard>
+pub fn lined(heard: Option<Heard>) -> Option<Note>
+    ensures { result ≡ lined heard }
+{
+    match heard {
+        None => None,
+        Some(heard) => Some(Note::Line(heard)),
+    }
+}
+
+/// What comes of the game beside its bytes.
+pub fn news_of(what: What) -> Option<Note>
     ensures { result ≡ news_of what }
 {
     match what {
-        What::Cable(AtCable::Begins) => Some(Heard::Begins),
-        What::Cable(AtCable::Opens) => Some(Heard::Plugs),
-        What::Cable(AtCable::Closes) => Some(Heard::Unplugs),
-        What::Tells(heard) => Some(heard),
+        What::Cable(AtCable::Begins) => Some(Note::Line(Heard::Begins)),
+        What::Cable(AtCable::Opens) => Some(Note::Line(Heard::Plugs)),
+        What::Cable(AtCable::Closes) => Some(Note::Line(Heard::Unplugs)),
+        What::Tells(heard) => Some(Note::Line(heard)),
+        What::Notes(note) => Some(note),
         _ => None,
     }
 }
@@ -96,7 +119,7 @@ pub fn live_after(what: What, before: bool) -> bool
 {
     match what {
         What::Cable(AtCable::Begins) => true,
-        What::Keeps | What::Tells(_) => false,
+        What::Keeps | What::KeepsAdded | What::Tells(_) => false,
         _ => before,
     }
 }

@@ -1,7 +1,8 @@
 //! What holds of each history. Each law is the contract of a function, which does nothing.
-ghost use Rattle.board_live.specs.Laws.{IsSaidOnce, LaterChangesNothing, RestartsAlike, SaysAlike};
+ghost use Rattle.board_live.specs.Laws.{EndsAlike, IsSaidOnce, LaterChangesNothing, RestartsAlike, SaysAlike};
+ghost use Rattle.board_live.specs.Restarts.{FilesSayTheSame, NumberMayFollow, RestartsSayTheSame, SaysOpenAlarms};
 
-use board_game::laws::hears_once;
+use board_game::laws::{ends_once, hears_once, opens_once, silence_is_forgotten};
 
 /// Whatever happens later, what was answered stays.
 pub fn later_changes_nothing()
@@ -25,6 +26,53 @@ pub fn restarts_alike()
 pub fn says_alike()
     ensures { SaysAlike }
 {
+    // For its clause: what came is heard in one way.
+    hears_once();
+}
+
+/// And the same is said of the end of the game.
+pub fn ends_alike()
+    ensures { EndsAlike }
+{
+    // For its clause: what came says how the game ends.
+    ends_once();
+}
+
+/// From when it begins, a recorder that was told what was kept says what one says that has lived through it: the same answers, with
+/// the same alarms.
+pub fn restarts_say_the_same()
+    ensures { RestartsSayTheSame }
+{
+    // For its clause: what came is heard in one way.
+    hears_once();
+    // For its clause: the alarms follow from what came.
+    opens_once();
+    // For its clause: what came says how the game ends.
+    ends_once();
+}
+
+/// When it begins, it says all alarms that were open before.
+pub fn says_open_alarms()
+    ensures { SaysOpenAlarms }
+{
+    // For its clause: the alarms follow from what came.
+    opens_once();
+}
+
+/// A recorder that was told what a host's two files have, which is all but the board's silence, says the same too.
+pub fn files_say_the_same()
+    ensures { FilesSayTheSame }
+{
+    // For its clause: a silence that is over changes nothing.
+    silence_is_forgotten();
+}
+
+/// The number of the game's board may also be told once the call has begun, before anything is told of the line.
+pub fn number_may_follow()
+    ensures { NumberMayFollow }
+{
+    // For its clause: a silence that is over changes nothing.
+    silence_is_forgotten();
     // For its clause: what came is heard in one way.
     hears_once();
 }

@@ -1,5 +1,5 @@
 //! The machine: it takes what happens at a board, and says what it comes to.
-ghost use Rattle.std.specs.Prelude.{◌≡◌, ◌<◌, ◌^◌, ◌∷◌, [], ◌++◌, ℕ, Bool, List, IfOk, OnOk};
+ghost use Rattle.std.specs.Prelude.{◌≡◌, ◌<◌, ◌^◌, ◌∷◌, [], ◌++◌, ℕ, Bool, List, IfOk, IfSome, OnOk};
 ghost use Rattle.board_asking.specs.Pace.{AsksAlike};
 ghost use Rattle.board_asking.specs.Silence.{is_silent};
 ghost use Rattle.board_asking.specs.Whose.{HandledAlike, own_number};
@@ -7,21 +7,28 @@ ghost use Rattle.board_cable.specs.Keeping.{aside, kept};
 ghost use Rattle.board_cable.specs.Turns.{Told, Turn, told};
 ghost use Rattle.board_captures.specs.Reading.{setting_of};
 ghost use Rattle.board_events.specs.Settings.{Setting};
+ghost use Rattle.board_game.specs.Ending.{IsEndOf};
 ghost use Rattle.board_game.specs.Games.{IsStateOf, StandsFor as GameStands};
 ghost use Rattle.board_game.specs.Report.{IsReport, first_line};
 ghost use Rattle.board_live.specs.Coming.{came};
 ghost use Rattle.square_runs.specs.Lasting.{earlier};
-ghost use Rattle.board_live.specs.Due.{StaysAlike};
-ghost use Rattle.board_live.specs.Live.{Answers, HasBegun, StandsFor};
+ghost use Rattle.board_live.specs.Due.{MayChange, StaysAlike};
+ghost use Rattle.board_live.specs.Ending.{EndStays};
+ghost use Rattle.board_game.specs.Alarming.{AlarmsAre};
+ghost use Rattle.board_live.specs.Live.{Answers, HasBegun, StandsFor, unsaid as unsaid_of};
 ghost use Rattle.board_live.specs.Moments.{Moment, cabled, moment_of};
 
 use crate::attending::Attending;
-use crate::happened::Happened;
+use crate::ending::end_said;
+use crate::happened::{Happened, begins};
 use crate::hearing::hear;
 use crate::saying::Saying;
 use board_asking::{Handling, Request};
 use board_captures::Method;
+use board_endings::End;
 use board_game::Game;
+use board_game::laws::end_stays_until_due;
+use board_looks::Look;
 use board_standing::State;
 use board_standing::laws::stays_until_due;
 use std::alloc::{AllocError, Global};
@@ -32,6 +39,8 @@ pub struct Live {
     attending: Attending,
     game: Game,
     saying: Saying,
+    /// When something happened last.
+    at: u64,
 }
 
 /// What is answered to what happens.
@@ -43,8 +52,13 @@ pub struct Answer {
     pub number: Option<[u8; 5]>,
     /// What the board is sent now. It counts as sent.
     pub request: Option<Request>,
+    /// So many of the open alarms, the first ones, aren't to be said now: they were said, or this call hasn't begun. Those behind
+    /// them are news; when a call begins all are.
+    pub unsaid: usize,
     /// How the board stands, if that is to be said: first when a call begins, and then whenever it is news.
     pub state: Option<State>,
+    /// What is to be said of the game's end: all when a call begins, and then what is news.
+    pub end: End,
     /// Whether the capture had room for all bytes.
     pub is_whole: bool,
 }
@@ -58,6 +72,16 @@ fn sooner(one: Option<u64>, other: Option<u64>) -> Option<u64>
         (Some(one), None) => Some(one),
         (Some(one), Some(other)) => Some(one.min(other)),
     }
+}
+
+/// How many of the open alarms aren't to be said.
+fn unsaid(is_live: bool, begins: bool, before: usize, now: usize) -> usize
+    ensures { result ≡ unsaid_of is_live begins before now }
+{
+    if !is_live {
+        return now;
+    }
+    if begins { 0 } else { before }
 }
 
 /// For its clause: a mask has 64 bits.
@@ -78,6 +102,7 @@ impl Live {
             attending,
             game,
             saying,
+            at: 0,
         }
     }
 
@@ -103,6 +128,8 @@ impl Live {
         ensures begun { OnOk result (HasBegun self.new) }
     {
         let comes = self.attending.take(happened, bytes)?;
+        let before = self.game.alarms().len();
+        let before_end = self.game.end(self.at);
         let is_whole = hear(
             &mut self.game,
             happened,
@@ -115,11 +142,27 @@ impl Live {
         // For its clause: a mask has 64 bits.
         count_bits(now.squares);
         let state = self.saying.say(happened.what, now);
+        let unsaid = unsaid(
+            self.saying.is_live,
+            begins(happened.what),
+            before,
+            self.game.alarms().len(),
+        );
+        let now_end = self.game.end(happened.at);
+        let end = end_said(
+            self.saying.is_live,
+            begins(happened.what),
+            before_end,
+            now_end,
+        );
+        self.at = happened.at;
         Ok(Answer {
             handling: comes.handling,
             number: comes.number,
             request: comes.request,
+            unsaid,
             state,
+            end,
             is_whole,
         })
     }
@@ -132,6 +175,14 @@ impl Live {
         self.attending.kept()
     }
 
+    /// The alarms that are open, in the order in which they came.
+    pub fn alarms(&self) -> &[Look]
+        ensures { (setting : Setting) (recovers : Bool) (past : List Moment) (text : List ℕ) (turns : List Turn)
+            → StandsFor self.now setting recovers past text → Told (cabled past) turns → AlarmsAre setting recovers (came past turns) result.now }
+    {
+        self.game.alarms()
+    }
+
     /// How the board stands at this time, which is none before the last at which something happened.
     pub fn state(&self, now: u64) -> State
         ensures { (setting : Setting) (recovers : Bool) (past : List Moment) (text : List ℕ) (turns : List Turn)
@@ -140,7 +191,7 @@ impl Live {
         self.game.state(now)
     }
 
-    /// When to wake, if nothing happens: none of what is said here changes before. None: never.
+    /// When to wake, if nothing happens: none of what is said here changes before, and then some of it may. None: never.
     pub fn due(&self, now: u64) -> Option<u64>
         ensures asks { (setting : Setting) (recovers : Bool) (past : List Moment) (text : List ℕ) (turns : List Turn)
             → StandsFor self.now setting recovers past text → Told (cabled past) turns → AsksAlike now (told turns) result }
@@ -148,12 +199,29 @@ impl Live {
             → StandsFor self.now setting recovers past text → Told (cabled past) turns → HandledAlike now (told turns) result }
         ensures state { (setting : Setting) (recovers : Bool) (past : List Moment) (text : List ℕ) (turns : List Turn)
             → StandsFor self.now setting recovers past text → Told (cabled past) turns → StaysAlike setting recovers (came past turns) now result }
+        ensures end { (setting : Setting) (recovers : Bool) (past : List Moment) (text : List ℕ) (turns : List Turn)
+            → StandsFor self.now setting recovers past text → Told (cabled past) turns → EndStays setting recovers (came past turns) now result }
+        ensures changes { (setting : Setting) (recovers : Bool) (past : List Moment) (text : List ℕ) (turns : List Turn)
+            → StandsFor self.now setting recovers past text → Told (cabled past) turns
+            → IfSome result (λ due. MayChange setting recovers (came past turns) (told turns) now due) }
     {
         // For its clause: if nothing is heard, the state stays until it is due.
         stays_until_due();
+        // For its clause: the game stands as it does until time is due to end it.
+        end_stays_until_due();
         let cable = self.attending.cable.due(now);
         let game = self.game.due(now);
-        sooner(cable, game)
+        let end = self.game.ends_at(now);
+        let known = sooner(cable, game);
+        sooner(known, end)
+    }
+
+    /// How the game stands with its end at this time, which is none before the last at which something happened.
+    pub fn end(&self, now: u64) -> End
+        ensures { (setting : Setting) (recovers : Bool) (past : List Moment) (text : List ℕ) (turns : List Turn)
+            → StandsFor self.now setting recovers past text → Told (cabled past) turns → IsEndOf setting recovers (came past turns) now result }
+    {
+        self.game.end(now)
     }
 
     /// Whether the board sends no dump, though it was asked for 5 s.

@@ -41,7 +41,7 @@ fn carry_on(runs: &mut Runs, is_left: bool, at: u64, squares: u64)
         → RunsStandFor runs.new (picture_of at squares ∷ (if is_left then [] else past)) }
 {
     if is_left {
-        *runs = Runs::new();
+        runs.clear();
     }
     runs.take(at, squares);
 }

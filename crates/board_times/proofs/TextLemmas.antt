@@ -9,7 +9,7 @@ use Rattle.std.proofs.lemmas.Bool.{and_parts, cases_eq, eq-eqb, ne_eqb}
 use Rattle.std.proofs.lemmas.Fmt.{decimal_injective, decimal_is_IsNumeral}
 use Rattle.std.proofs.lemmas.List.{append_assoc, append-nil}
 use Rattle.board_times.specs.declared.words.Word.{Word}
-use Rattle.board_times.specs.declared.words.Word.TheVariants.{Version, Digest, Begin, Away, Opened, Answered, Gone, Called, Heard, Added, Stopped, Asked, Took, Over, Wake, Lent, Number, Kept, Capture, Text}
+use Rattle.board_times.specs.declared.words.Word.TheVariants.{Version, Digest, Begin, Away, Opened, Answered, Gone, Called, Heard, Added, Stopped, Asked, Took, Over, Looked, Back, Suspect, Wake, Lent, Number, Kept, Capture, Text}
 use Rattle.board_times.specs.declared.lines.Tail.{Tail}
 use Rattle.board_times.specs.declared.lines.Line.{Line}
 use Rattle.board_times.specs.Words.{word_text}
@@ -107,6 +107,9 @@ word_back Stopped = refl
 word_back Asked = refl
 word_back Took = refl
 word_back Over = refl
+word_back Looked = refl
+word_back Back = refl
+word_back Suspect = refl
 word_back Wake = refl
 word_back Lent = refl
 word_back Number = refl
@@ -129,6 +132,9 @@ word_lacks_blank Stopped = refl
 word_lacks_blank Asked = refl
 word_lacks_blank Took = refl
 word_lacks_blank Over = refl
+word_lacks_blank Looked = refl
+word_lacks_blank Back = refl
+word_lacks_blank Suspect = refl
 word_lacks_blank Wake = refl
 word_lacks_blank Lent = refl
 word_lacks_blank Number = refl
@@ -151,6 +157,9 @@ word_lacks_feed Stopped = refl
 word_lacks_feed Asked = refl
 word_lacks_feed Took = refl
 word_lacks_feed Over = refl
+word_lacks_feed Looked = refl
+word_lacks_feed Back = refl
+word_lacks_feed Suspect = refl
 word_lacks_feed Wake = refl
 word_lacks_feed Lent = refl
 word_lacks_feed Number = refl
@@ -185,13 +194,16 @@ word_text_read text =
     text_step text (bytes_eq text (codes "asked")) Asked _ (bytes_eq-Decides text (codes "asked")).0 (
     text_step text (bytes_eq text (codes "took")) Took _ (bytes_eq-Decides text (codes "took")).0 (
     text_step text (bytes_eq text (codes "over")) Over _ (bytes_eq-Decides text (codes "over")).0 (
+    text_step text (bytes_eq text (codes "ok")) Looked _ (bytes_eq-Decides text (codes "ok")).0 (
+    text_step text (bytes_eq text (codes "back")) Back _ (bytes_eq-Decides text (codes "back")).0 (
+    text_step text (bytes_eq text (codes "suspect")) Suspect _ (bytes_eq-Decides text (codes "suspect")).0 (
     text_step text (bytes_eq text (codes "wake")) Wake _ (bytes_eq-Decides text (codes "wake")).0 (
     text_step text (bytes_eq text (codes "lent")) Lent _ (bytes_eq-Decides text (codes "lent")).0 (
     text_step text (bytes_eq text (codes "number")) Number _ (bytes_eq-Decides text (codes "number")).0 (
     text_step text (bytes_eq text (codes "kept")) Kept _ (bytes_eq-Decides text (codes "kept")).0 (
     text_step text (bytes_eq text (codes "capture")) Capture _ (bytes_eq-Decides text (codes "capture")).0 (
     text_step text (bytes_eq text (codes "text")) Text _ (bytes_eq-Decides text (codes "text")).0 (
-    refl))))))))))))))))))))
+    refl)))))))))))))))))))))))
 
 pub word_is : (text : List ℕ) (word : Word) → word_read text ≡ Some word → text ≡ word_text word
 unfolding text_or

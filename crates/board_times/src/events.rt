@@ -33,6 +33,12 @@ pub enum What {
     Takes,
     /// The game is over: it is the first so many bytes of the capture.
     Ends(u64),
+    /// Somebody has looked: no alarm is open any more.
+    Looks,
+    /// Plies were taken off, or the game is taken up: the pieces are to be put where they belong.
+    PutsBack,
+    /// The recorder suspects something that no board shows. By this number it knows what.
+    Suspects(u64),
 }
 
 /// What happens at a time, in milliseconds from the beginning of the call.
@@ -70,6 +76,9 @@ impl What {
             What::Asks(n) => with_number(Word::Asked, n),
             What::Takes => alone(Word::Took),
             What::Ends(n) => with_number(Word::Over, n),
+            What::Looks => alone(Word::Looked),
+            What::PutsBack => alone(Word::Back),
+            What::Suspects(n) => with_number(Word::Suspect, n),
         }
     }
 }
@@ -100,6 +109,7 @@ fn with(word: Word, n: u64) -> Option<What>
         Word::Stopped => Some(What::Stops(n)),
         Word::Asked => Some(What::Asks(n)),
         Word::Over => Some(What::Ends(n)),
+        Word::Suspect => Some(What::Suspects(n)),
         _ => None,
     }
 }
@@ -113,6 +123,8 @@ fn without(word: Word) -> Option<What>
         Word::Gone => Some(What::Goes),
         Word::Called => Some(What::Calls),
         Word::Took => Some(What::Takes),
+        Word::Looked => Some(What::Looks),
+        Word::Back => Some(What::PutsBack),
         _ => None,
     }
 }

@@ -21,6 +21,9 @@ pub enum Word {
     Asked,
     Took,
     Over,
+    Looked,
+    Back,
+    Suspect,
     // of a host alone
     Wake,
     Lent,
@@ -50,6 +53,9 @@ impl Word {
             Word::Asked => b"asked",
             Word::Took => b"took",
             Word::Over => b"over",
+            Word::Looked => b"ok",
+            Word::Back => b"back",
+            Word::Suspect => b"suspect",
             Word::Wake => b"wake",
             Word::Lent => b"lent",
             Word::Number => b"number",
@@ -111,6 +117,15 @@ pub(crate) fn word_of(text: &[u8]) -> Option<Word>
     }
     if are_same(text, b"over") {
         return Some(Word::Over);
+    }
+    if are_same(text, b"ok") {
+        return Some(Word::Looked);
+    }
+    if are_same(text, b"back") {
+        return Some(Word::Back);
+    }
+    if are_same(text, b"suspect") {
+        return Some(Word::Suspect);
     }
     if are_same(text, b"wake") {
         return Some(Word::Wake);

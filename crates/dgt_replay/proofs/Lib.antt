@@ -5,6 +5,7 @@ pub mod EditLemmas
 pub mod EndLemmas
 pub mod FaultLemmas
 pub mod LiveLemmas
+pub mod LiveTextLemmas
 pub mod RecordedLemmas
 pub mod RecoverLemmas
 pub mod RecoveredLemmas

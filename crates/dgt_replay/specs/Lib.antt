@@ -6,6 +6,7 @@ pub mod Does
 pub mod Edit
 pub mod Inside
 pub mod Laws
+pub mod LiveTexts
 pub mod Messages
 pub mod Recorded
 pub mod Refusals

@@ -2,13 +2,15 @@
 ghost use Rattle.dgt_replay.specs.Added.{AddedLinesAreRecorded, AddedLinesAreRecovered};
 ghost use Rattle.dgt_replay.specs.Agreement.{FollowTellsTheGame, RecordsRecovered, RecordsShownOrTold, WatchTellsTheGame};
 ghost use Rattle.dgt_replay.specs.Laws.{WrittenTextsAreWithin, WrittenTextsPass};
+ghost use Rattle.dgt_replay.specs.LiveTexts.{LiveTextsAreRecorded, LiveTextsAreRecovered};
 ghost use Rattle.dgt_replay.specs.WentBack.{WentBackIsRecorded, WentBackIsRecovered};
 
 use board_listing::laws::{lines_give_the_game, watch_lines_give_the_game};
 use board_session::laws::moves_take_ten_bytes;
 use dgt_frame::laws::shows_once;
 use going_back::laws::what_stays_is_recorded;
-use pgn_book::laws::texts_are_short;
+use live_lines::laws::{texts_are_recorded, texts_are_recovered};
+use pgn_book::laws::{one_text, texts_are_short};
 use recovery::laws::plies_are_shown_or_told;
 use settle_core::laws::folds_once;
 use unseen_pairs::laws::recovers_once;
@@ -86,4 +88,19 @@ pub fn went_back_is_recorded()
     folds_once();
     // For its clause: the pairs are recovered in one way.
     recovers_once();
+}
+
+/// The text that `live` gives of a game is the one that `record` writes of the game's bytes; with `--recover`, of what `recover` gives of
+/// them.
+pub fn live_texts_are_recorded()
+    ensures recorded { LiveTextsAreRecorded }
+    ensures recovered { LiveTextsAreRecovered }
+{
+    // For its clause: the text is that of a game of these events.
+    texts_are_recorded();
+    texts_are_recovered();
+    // For its clause: the entries fold to one score.
+    folds_once();
+    // For its clause: a game has one text.
+    one_text();
 }

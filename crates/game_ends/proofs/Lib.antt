@@ -1,2 +1,4 @@
 pub mod Going
+pub mod OneWay
+pub mod Sure
 pub mod Tails

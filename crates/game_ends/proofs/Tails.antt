@@ -4,7 +4,7 @@ use Rattle.std.specs.Prelude.{slice_get}
 use Rattle.std.proofs.lemmas.Bool.{cases_eq}
 use Rattle.std.proofs.lemmas.Option.{slice_get_cases, slice_get_within}
 use Rattle.game_ends.specs.declared.made.Made.{Made}
-use Rattle.game_ends.specs.Ends.{EndsBefore, IsLongest, IsSure, LosesTail, SetsUpFrom, stands, stood_for, time_of}
+use Rattle.game_ends.specs.Ends.{EndsBefore, IsFirst, IsLongest, LosesTail, SetsUpFrom, stands, stood_for, time_of}
 use Rattle.game_ends.proofs.Going.{may_go_all}
 
 -- from the first of the set-up on, and all at most; and one, where there is one
@@ -59,25 +59,12 @@ loses_tail first kept moves set ends =
       one = in_it.one;
     }
 
--- without a move
-pub sure_without : (first kept : ℕ) (moves : List Made) → SetsUpFrom first moves → EndsBefore first kept moves → kept ≡ 0 → IsSure kept moves
-sure_without first kept moves set ends none =
-    let in_it = within first kept moves set.within ends in
-    let empty : length moves ≡ 0 =
-    elim (cases_eq (length moves) 0) [
-      | inl e ↦ e
-      | inr some ↦ let more : 0 < kept = in_it.one (omega arith) in absurd (omega (arith, more, none))
-    ] in
-    record {
-      all = none ∙ sym empty;
-      last = λ made is. let there : kept - 1 < length moves = slice_get_within moves (kept - 1) made is in absurd (omega (arith, there, empty));
-    }
-
 -- the best of the moves so far
 abbrev pub Best : ℕ → ℕ → ℕ → ℕ → List Made → Type 0
 Best first n kept time moves = ((first < kept) × (kept ≤ length moves))
     × (((made : Made) → slice_get moves (kept - 1) ≡ Some made → time ≡ time_of made.stood)
-    × ((k : ℕ) (made : Made) → first ≤ k → k < n → slice_get moves k ≡ Some made → time_of made.stood ≤ time))
+    × ((k : ℕ) (made : Made) → first ≤ k → k < n → slice_get moves k ≡ Some made → time_of made.stood ≤ time)
+    × ((k : ℕ) (made : Made) → first ≤ k → k + 1 < kept → slice_get moves k ≡ Some made → time_of made.stood < time))
 
 pub better : (first i kept time other : ℕ) (moves : List Made) → Best first i kept time moves → first ≤ i → i < length moves
     → ((made : Made) → slice_get moves i ≡ Some made → other ≡ time_of made.stood) → time < other → Best first (i + 1) (i + 1) other moves
@@ -90,6 +77,7 @@ better first i kept time other moves best from low is more =
           | inl e ↦ let same : other ≡ time_of made.stood = is made (ap (λ j. slice_get moves j) (sym e) ∙ there) in omega (arith, same)
           | inr ne ↦ let old : time_of made.stood ≤ time = best.1.1 k made above (omega arith) there in omega (arith, old, more)
         ]),
+        (λ k made above below there. let old : time_of made.stood ≤ time = best.1.1 k made above (omega arith) there in omega (arith, old, more)),
       ),
     )
 
@@ -103,6 +91,7 @@ no_better first i kept time other moves best is less = (
       | inl e ↦ let same : other ≡ time_of made.stood = is made (ap (λ j. slice_get moves j) (sym e) ∙ there) in omega (arith, same, less)
       | inr ne ↦ best.1.1 k made above (omega arith) there
     ]),
+    best.1.2,
   ),
 )
 
@@ -111,4 +100,10 @@ is_longest first n kept time moves best ended k one last above there is =
     let low : k < length moves = slice_get_within moves k one there in
     let same : time ≡ time_of last.stood = best.1.0 last is in
     let less : time_of one.stood ≤ time = best.1.1 k one above (omega (arith, low, ended)) there in
+    omega (arith, same, less)
+
+pub is_first : (first n kept time : ℕ) (moves : List Made) → Best first n kept time moves → IsFirst first kept moves
+is_first first n kept time moves best k one last above below there is =
+    let same : time ≡ time_of last.stood = best.1.0 last is in
+    let less : time_of one.stood < time = best.1.2 k one above below there in
     omega (arith, same, less)

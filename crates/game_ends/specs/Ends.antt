@@ -1,5 +1,5 @@
 -- Where a game ended that has no result. Moves are listed in the order in which they were made.
-use Rattle.std.specs.Prelude.{◌≡◌, ◌<◌, ◌≤◌, ◌+◌, ◌-◌, ◌^◌, ℕ, ◌&&◌, ◌||◌, not, Bool, true, false, nat_le, List, length, Option, Some, None, slice_get, if◌then◌else◌}
+use Rattle.std.specs.Prelude.{◌≡◌, ◌↔◌, ◌<◌, ◌≤◌, ◌+◌, ◌-◌, ◌^◌, ℕ, ◌&&◌, ◌||◌, not, Bool, true, false, IsTrue, nat_le, List, length, Option, Some, None, slice_get, if◌then◌else◌}
 use Rattle.game_ends.specs.declared.made.Made.{Made}
 
 -- The last move of a game stays for this at least before somebody sets up, in milliseconds.
@@ -46,19 +46,20 @@ abbrev pub IsLongest : ℕ → ℕ → List Made → Type 0
 IsLongest first kept moves = (k : ℕ) (one last : Made) → first ≤ k → slice_get moves k ≡ Some one → slice_get moves (kept - 1) ≡ Some last
     → time_of one.stood ≤ time_of last.stood
 
+-- It is the first one that stood so long.
+abbrev pub IsFirst : ℕ → ℕ → List Made → Type 0
+IsFirst first kept moves = (k : ℕ) (one last : Made) → first ≤ k → k + 1 < kept → slice_get moves k ≡ Some one → slice_get moves (kept - 1) ≡ Some last
+    → time_of one.stood < time_of last.stood
+
 -- So many moves are the game's, if a set-up begins with this one: those before it, or all if there are none before it. But if the
--- last one before it stood for less than a second, the game ends with the move of the set-up that stood longest: nobody sets up so
--- soon.
+-- last one before it stood for less than a second, the game ends with the first move of the set-up that stood longest: nobody sets
+-- up so soon.
 pub record EndsBefore (first kept : ℕ) (moves : List Made) : Type 0 where
   pub alone : first ≡ 0 → kept ≡ length moves
   pub none : first ≡ length moves → kept ≡ length moves
   pub stood : 0 < first → (made : Made) → slice_get moves (first - 1) ≡ Some made → stood_for made.stood stands ≡ true → kept ≡ first
   pub soon : 0 < first → first < length moves → (made : Made) → slice_get moves (first - 1) ≡ Some made → stood_for made.stood stands ≡ false
-      → (first < kept) × (kept ≤ length moves) × IsLongest first kept moves
-
--- where a game ended
-abbrev pub IsEnd : ℕ → List Made → Type 0
-IsEnd kept moves = (first : ℕ) × SetsUpFrom first moves × EndsBefore first kept moves
+      → (first < kept) × (kept ≤ length moves) × IsLongest first kept moves × IsFirst first kept moves
 
 -- A move may go: nobody added it, and it stood for less than three seconds.
 abbrev pub may_go : Made → Bool
@@ -70,7 +71,13 @@ pub record LosesTail (kept : ℕ) (moves : List Made) : Type 0 where
   pub gone : (k : ℕ) (made : Made) → kept ≤ k → slice_get moves k ≡ Some made → may_go made ≡ true
   pub one : 0 < length moves → 0 < kept
 
--- Nobody need look at the last moves: all stay, and the last one brought no piece home.
-pub record IsSure (kept : ℕ) (moves : List Made) : Type 0 where
+-- Nobody need look at the last moves, if a set-up would begin with this one: all stay, though not since all look like a set-up, and
+-- the last one brought no piece home.
+pub record IsSure (first kept : ℕ) (moves : List Made) : Type 0 where
   pub all : kept ≡ length moves
+  pub some : first ≡ 0 → length moves ≡ 0
   pub last : (made : Made) → slice_get moves (kept - 1) ≡ Some made → made.goes_home ≡ false
+
+-- where a game ended, and whether that is sure
+abbrev pub IsEnd : ℕ → Bool → List Made → Type 0
+IsEnd kept is_sure moves = (first : ℕ) × SetsUpFrom first moves × EndsBefore first kept moves × (IsTrue is_sure ↔ IsSure first kept moves)

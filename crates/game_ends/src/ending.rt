@@ -1,7 +1,7 @@
 //! Where a game ended that has no result.
-ghost use Rattle.std.specs.Prelude.{◌≡◌, ◌<◌, ◌≤◌, ◌+◌, IsTrue, ℕ, length, slice_get};
+ghost use Rattle.std.specs.Prelude.{◌≡◌, ◌↔◌, ◌<◌, ◌≤◌, ◌+◌, IsTrue, ℕ, length, slice_get};
 ghost use Rattle.game_ends.specs.declared.made.Made.{Made as MadeOf};
-ghost use Rattle.game_ends.specs.Ends.{EndsBefore, IsEnd, IsLongest, IsSure, LosesTail, SetsUpFrom, sets_up as sets_up_of, stands, stood_for as stood_for_of, time_of as time_of_stood};
+ghost use Rattle.game_ends.specs.Ends.{EndsBefore, IsEnd, IsFirst, IsLongest, IsSure, LosesTail, SetsUpFrom, sets_up as sets_up_of, stands, stood_for as stood_for_of, time_of as time_of_stood};
 
 use crate::made::{Made, STANDS, sets_up, stood_for};
 
@@ -10,7 +10,7 @@ use crate::made::{Made, STANDS, sets_up, stood_for};
 pub struct End {
     /// So many of its moves stay.
     pub kept: usize,
-    /// Nobody need look at the last moves: all stay, and the last one brought no piece home.
+    /// Nobody need look at the last moves: all stay, though not since all look like a set-up, and the last one brought no piece home.
     pub is_sure: bool,
 }
 
@@ -68,12 +68,13 @@ fn set_up_from(moves: &[Made]) -> usize
     first
 }
 
-/// Which of the moves from this one on stood longest; so many are there with it.
+/// Which of the moves from this one on stood longest, the first one of these; so many are there with it.
 fn longest_from(moves: &[Made], first: usize) -> usize
     requires { first < length moves.now }
     ensures from { first < result }
     ensures within { result ≤ length moves.now }
     ensures longest { IsLongest first result moves.now }
+    ensures is_first { IsFirst first result moves.now }
 {
     let mut kept = first + 1;
     let mut time = time_at(moves, first);
@@ -90,7 +91,8 @@ fn longest_from(moves: &[Made], first: usize) -> usize
 /// How many moves are the game's, if a set-up begins with this one.
 fn kept_before(moves: &[Made], first: usize) -> usize
     requires { first ≤ length moves.now }
-    ensures { EndsBefore first result moves.now }
+    ensures ends { EndsBefore first result moves.now }
+    ensures within { result ≤ length moves.now }
 {
     if first == 0 || first == moves.len() {
         return moves.len();
@@ -102,22 +104,27 @@ fn kept_before(moves: &[Made], first: usize) -> usize
     }
 }
 
+/// Whether nobody need look at the last moves, if a set-up would begin with the first one named and so many moves stay.
+fn is_sure(moves: &[Made], first: usize, kept: usize) -> bool
+    requires { kept ≤ length moves.now }
+    ensures { IsTrue result ↔ IsSure first kept moves.now }
+{
+    if kept < moves.len() {
+        return false;
+    }
+    if kept == 0 {
+        return true;
+    }
+    first > 0 && !is_home_at(moves, kept - 1)
+}
+
 /// Where a game ended after which the start was shown again, by its moves and those of the set-up, in their order.
 pub fn end_of(moves: &[Made]) -> End
-    ensures end { IsEnd result.kept moves.now }
+    ensures end { IsEnd result.kept result.is_sure moves.now }
     ensures loses { LosesTail result.kept moves.now }
-    ensures sure { IsTrue result.is_sure → IsSure result.kept moves.now }
 {
     let first = set_up_from(moves);
     let kept = kept_before(moves, first);
-    if kept == 0 {
-        return End {
-            kept,
-            is_sure: true,
-        };
-    }
-    End {
-        kept,
-        is_sure: first > 0 && kept == moves.len() && !is_home_at(moves, kept - 1),
-    }
+    let is_sure = is_sure(moves, first, kept);
+    End { kept, is_sure }
 }

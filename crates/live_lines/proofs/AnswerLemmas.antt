@@ -13,7 +13,15 @@ use Rattle.board_standing.specs.declared.state.State.{State}
 use Rattle.answer_lines.specs.declared.said.Said.{Said}
 use Rattle.answer_lines.specs.Answers.{answer_text as said_text, handling_line, number_line, request_line, room_line, state_line}
 use Rattle.answer_lines.specs.Laws.{IsSaid, lacks}
-use Rattle.answer_lines.proofs.AnswerLemmas.{from_done, from_number, from_request, from_room, from_state, in_parts, said_once}
+use Rattle.answer_lines.specs.Ends.{EndFits, begins_line, end_text, goes_on_line, over_line}
+use Rattle.answer_lines.proofs.EndLemmas.{end_once, end_parts, rank, said_rank}
+use Rattle.board_endings.specs.declared.news.End.{End}
+use Rattle.game_over.specs.declared.said.Over.{Over}
+use Rattle.answer_lines.specs.Looks.{LooksFit, look_words, looks_text}
+use Rattle.answer_lines.proofs.LookLemmas.{looks_and_said_once}
+use Rattle.board_looks.specs.declared.look.Look.{Look}
+use Rattle.board_looks.specs.declared.look.Look.TheVariants.{Doubtful, Stopped, Suspected}
+use Rattle.answer_lines.proofs.AnswerLemmas.{from_done, from_number, from_request, from_room, from_state, in_parts}
 use Rattle.answer_lines.proofs.CutLemmas.{cut_once, decimal_lacks_feed, lacks_append}
 use Rattle.answer_lines.proofs.WordLemmas.{behind, first_of}
 use Rattle.watched_streams.specs.Lines.{line}
@@ -186,6 +194,80 @@ says said more =
     (says_request said.request (from_room said more)
     (says_room said.is_whole (from_state said more) (says_state said.state (from_done said more) (inl (omega arith)))))))
 
+opens_line : (look : Look) (text : List ℕ) → Opens (look_words look ++ text)
+opens_line (Doubtful plies doubt) text = (omega arith, omega arith)
+opens_line (Stopped plies moves) text = (omega arith, omega arith)
+opens_line (Suspected n) text = (omega arith, omega arith)
+
+says_line : (look : Look) (text : List ℕ) → Says (look_words look ++ text)
+says_line (Doubtful plies doubt) text = inr (omega arith)
+says_line (Stopped plies moves) text = inr (omega arith)
+says_line (Suspected n) text = inr (omega arith)
+
+look_first : (look : Look) (looks : List Look) (text : List ℕ)
+    → looks_text (look ∷ looks) ++ text ≡ look_words look ++ 10 ∷ (looks_text looks ++ text)
+look_first look looks text =
+    append_assoc (look_words look ++ 10 ∷ []) (looks_text looks) text ∙ append_assoc (look_words look) (10 ∷ []) (looks_text looks ++ text)
+
+opens_looks : (looks : List Look) (text : List ℕ) → Opens text → Opens (looks_text looks ++ text)
+opens_looks [] text h = h
+opens_looks (look ∷ looks) text h =
+    let O : List ℕ → Type 0 = λ t. Opens t in
+    subst O (sym (look_first look looks text)) (opens_line look (10 ∷ (looks_text looks ++ text)))
+
+says_looks : (looks : List Look) (text : List ℕ) → Says text → Says (looks_text looks ++ text)
+says_looks [] text h = h
+says_looks (look ∷ looks) text h =
+    let S : List ℕ → Type 0 = λ t. Says t in
+    subst S (sym (look_first look looks text)) (says_line look (10 ∷ (looks_text looks ++ text)))
+
+abbrev Opens_of : List ℕ → Type 0
+Opens_of text = Opens text
+
+abbrev Says_of : List ℕ → Type 0
+Says_of text = Says text
+
+opens_over : (over : Option Over) (text : List ℕ) → Opens text → Opens (over_line over ++ text)
+opens_over None text h = h
+opens_over (Some over) text h = (omega arith, omega arith)
+
+opens_played : (goes_on : Option ℕ) (text : List ℕ) → Opens text → Opens (goes_on_line goes_on ++ text)
+opens_played None text h = h
+opens_played (Some n) text h = (omega arith, omega arith)
+
+opens_begins : (begins : Option ℕ) (text : List ℕ) → Opens text → Opens (begins_line begins ++ text)
+opens_begins None text h = h
+opens_begins (Some n) text h = (omega arith, omega arith)
+
+says_over : (over : Option Over) (text : List ℕ) → Says text → Says (over_line over ++ text)
+says_over None text h = h
+says_over (Some over) text h = inr (omega arith)
+
+says_played : (goes_on : Option ℕ) (text : List ℕ) → Says text → Says (goes_on_line goes_on ++ text)
+says_played None text h = h
+says_played (Some n) text h = inr (omega arith)
+
+says_begins : (begins : Option ℕ) (text : List ℕ) → Says text → Says (begins_line begins ++ text)
+says_begins None text h = h
+says_begins (Some n) text h = inl (omega arith)
+
+opens_end : (end : End) (text : List ℕ) → Opens text → Opens (end_text end ++ text)
+opens_end end text h = subst Opens_of (sym (end_parts end text)) (opens_over end.over (goes_on_line end.goes_on ++ (begins_line end.begins ++ text)) (opens_played end.goes_on (begins_line end.begins ++ text) (opens_begins end.begins text h)))
+
+says_end : (end : End) (text : List ℕ) → Says text → Says (end_text end ++ text)
+says_end end text h = subst Says_of (sym (end_parts end text)) (says_over end.over (goes_on_line end.goes_on ++ (begins_line end.begins ++ text)) (says_played end.goes_on (begins_line end.begins ++ text) (says_begins end.begins text h)))
+
+line_rank : (look : Look) (text : List ℕ) → 4 ≤ rank (look_words look ++ text)
+line_rank (Doubtful plies doubt) text = omega arith
+line_rank (Stopped plies moves) text = omega arith
+line_rank (Suspected n) text = omega arith
+
+looks_rank : (looks : List Look) (text : List ℕ) → 4 ≤ rank text → 4 ≤ rank (looks_text looks ++ text)
+looks_rank [] text h = h
+looks_rank (look ∷ looks) text h =
+    let R : List ℕ → Type 0 = λ t. 4 ≤ rank t in
+    subst R (sym (look_first look looks text)) (line_rank look (10 ∷ (looks_text looks ++ text)))
+
 opens_game : (game text : List ℕ) → Opens text → Opens (game_text game ++ text)
 opens_game [] text h = h
 opens_game (byte ∷ game) text h = (omega arith, omega arith)
@@ -258,34 +340,52 @@ game_once (c ∷ a) (d ∷ b) x y f g p q e = some_once (codes "game ") (c ∷ a
 
 -- ---- all of it
 
-parts : (kept lines game : List ℕ) (said : Said) (more : List ℕ) → whole_text kept lines game said ++ more
-    ≡ kept_text kept ++ (lines ++ (game_text game ++ (said_text said ++ more)))
-parts kept lines game said more =
-    append_assoc (kept_text kept ++ lines ++ game_text game) (said_text said) more
-    ∙ append_assoc (kept_text kept ++ lines) (game_text game) (said_text said ++ more)
-    ∙ append_assoc (kept_text kept) lines (game_text game ++ (said_text said ++ more))
+-- alarms, what is said, and what stands behind that; how the game ends before it
+abbrev from_looks : List Look → Said → List ℕ → List ℕ
+from_looks looks said more = looks_text looks ++ (said_text said ++ more)
 
-by_lines : (kept others : List ℕ) (a b : List ReportLine) (game text more rest : List ℕ) (one two : Said) → length kept < 2 ^ 64 → length others < 2 ^ 64
-    → length game < 2 ^ 64 → length text < 2 ^ 64 → IsSaid one → IsSaid two
-    → whole_text kept (report_text a) game one ++ more ≡ whole_text others (report_text b) text two ++ rest
-    → (kept ≡ others) × (report_text a ≡ report_text b) × (game ≡ text) × (one ≡ two) × (more ≡ rest)
-by_lines kept others a b game text more rest one two f g u v s t e =
-    let x : List ℕ = game_text game ++ (said_text one ++ more) in
-    let y : List ℕ = game_text text ++ (said_text two ++ rest) in
-    let p : Opens x = opens_game game (said_text one ++ more) (opens one more) in
-    let q : Opens y = opens_game text (said_text two ++ rest) (opens two rest) in
+abbrev from_end : End → List Look → Said → List ℕ → List ℕ
+from_end end looks said more = end_text end ++ from_looks looks said more
+
+parts : (kept lines game : List ℕ) (end : End) (looks : List Look) (said : Said) (more : List ℕ) → whole_text kept lines game end looks said ++ more
+    ≡ kept_text kept ++ (lines ++ (game_text game ++ from_end end looks said more))
+parts kept lines game end looks said more =
+    append_assoc (kept_text kept ++ lines ++ game_text game ++ end_text end ++ looks_text looks) (said_text said) more
+    ∙ append_assoc (kept_text kept ++ lines ++ game_text game ++ end_text end) (looks_text looks) (said_text said ++ more)
+    ∙ append_assoc (kept_text kept ++ lines ++ game_text game) (end_text end) (from_looks looks said more)
+    ∙ append_assoc (kept_text kept ++ lines) (game_text game) (from_end end looks said more)
+    ∙ append_assoc (kept_text kept) lines (game_text game ++ from_end end looks said more)
+
+by_lines : (kept others : List ℕ) (a b : List ReportLine) (game text more rest : List ℕ) (end last : End) (looks alarms : List Look) (one two : Said)
+    → length kept < 2 ^ 64 → length others < 2 ^ 64 → length game < 2 ^ 64 → length text < 2 ^ 64 → EndFits end → EndFits last → LooksFit looks → LooksFit alarms
+    → IsSaid one → IsSaid two
+    → whole_text kept (report_text a) game end looks one ++ more ≡ whole_text others (report_text b) text last alarms two ++ rest
+    → (kept ≡ others) × (report_text a ≡ report_text b) × (game ≡ text) × (end ≡ last) × (looks ≡ alarms) × (one ≡ two) × (more ≡ rest)
+by_lines kept others a b game text more rest end last looks alarms one two f g u v i j l m s t e =
+    let looks_one : List ℕ = from_looks looks one more in
+    let looks_two : List ℕ = from_looks alarms two rest in
+    let behind_one : List ℕ = from_end end looks one more in
+    let behind_two : List ℕ = from_end last alarms two rest in
+    let x : List ℕ = game_text game ++ behind_one in
+    let y : List ℕ = game_text text ++ behind_two in
+    let p : Opens x = opens_game game behind_one (opens_end end looks_one (opens_looks looks (said_text one ++ more) (opens one more))) in
+    let q : Opens y = opens_game text behind_two (opens_end last looks_two (opens_looks alarms (said_text two ++ rest) (opens two rest))) in
     let first = kept_once kept others (report_text a ++ x) (report_text b ++ y) f g (other a x p) (other b y q)
-    (sym (parts kept (report_text a) game one more) ∙ e ∙ parts others (report_text b) text two rest) in
+    (sym (parts kept (report_text a) game end looks one more) ∙ e ∙ parts others (report_text b) text last alarms two rest) in
     let second = report_once a b x y p.0 q.0 first.1 in
-    let third = game_once game text (said_text one ++ more) (said_text two ++ rest) u v (says one more) (says two rest) second.1 in
-    let last = said_once one two more rest s t third.1 in
-    (first.0, second.0, third.0, last.0, last.1)
+    let third = game_once game text behind_one behind_two u v (says_end end looks_one (says_looks looks (said_text one ++ more) (says one more)))
+    (says_end last looks_two (says_looks alarms (said_text two ++ rest) (says two rest))) second.1 in
+    let fourth = end_once end last looks_one looks_two i j (looks_rank looks (said_text one ++ more) (said_rank one more))
+    (looks_rank alarms (said_text two ++ rest) (said_rank two rest)) third.1 in
+    let final = looks_and_said_once looks alarms one two more rest l m s t fourth.1 in
+    (first.0, second.0, third.0, fourth.0, final.0, final.1, final.2)
 
-pub answered_once : (kept others lines news game text more rest : List ℕ) (one two : Said) → length kept < 2 ^ 64 → length others < 2 ^ 64
-    → length game < 2 ^ 64 → length text < 2 ^ 64 → HasLines lines → HasLines news → IsSaid one → IsSaid two
-    → whole_text kept lines game one ++ more ≡ whole_text others news text two ++ rest
-    → (kept ≡ others) × (lines ≡ news) × (game ≡ text) × (one ≡ two) × (more ≡ rest)
-answered_once kept others lines news game text more rest one two f g u v h k s t e =
-    let once = by_lines kept others h.0 k.0 game text more rest one two f g u v s t
-    (ap (λ l. whole_text kept l game one ++ more) (sym h.1) ∙ e ∙ ap (λ l. whole_text others l text two ++ rest) k.1) in
-    (once.0, h.1 ∙ once.1 ∙ sym k.1, once.2, once.3, once.4)
+pub answered_once : (kept others lines news game text more rest : List ℕ) (end last : End) (looks alarms : List Look) (one two : Said)
+    → length kept < 2 ^ 64 → length others < 2 ^ 64 → length game < 2 ^ 64 → length text < 2 ^ 64 → HasLines lines → HasLines news
+    → EndFits end → EndFits last → LooksFit looks → LooksFit alarms → IsSaid one → IsSaid two
+    → whole_text kept lines game end looks one ++ more ≡ whole_text others news text last alarms two ++ rest
+    → (kept ≡ others) × (lines ≡ news) × (game ≡ text) × (end ≡ last) × (looks ≡ alarms) × (one ≡ two) × (more ≡ rest)
+answered_once kept others lines news game text more rest end last looks alarms one two f g u v h k i j l m s t e =
+    let once = by_lines kept others h.0 k.0 game text more rest end last looks alarms one two f g u v i j l m s t
+    (ap (λ r. whole_text kept r game end looks one ++ more) (sym h.1) ∙ e ∙ ap (λ r. whole_text others r text last alarms two ++ rest) k.1) in
+    (once.0, h.1 ∙ once.1 ∙ sym k.1, once.2, once.3, once.4, once.5, once.6)

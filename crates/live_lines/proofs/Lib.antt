@@ -4,7 +4,9 @@ mod EntryLemmas
 mod NewsLemmas
 mod NextLemmas
 mod RecorderLemmas
+mod RecoveredLemmas
 mod HistoryLemmas
+mod KeptLemmas
 mod ReportLemmas
 mod StreamLemmas
 mod TextLemmas

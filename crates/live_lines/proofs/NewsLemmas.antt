@@ -1,6 +1,5 @@
 -- Who wants the text tells no more than who wakes the recorder.
-use Rattle.std.proofs.Common.{◌≡◌, ℕ, Bool, true, false, List, [], ◌∷◌, refl, sym, ap, subst, ◌∙◌}
-use Rattle.std.specs.Prelude.{◌↔◌}
+use Rattle.std.proofs.Common.{◌≡◌, ℕ, Bool, true, false, List, [], ◌∷◌, IfSome, refl, sym, ap, subst, ◌∙◌}
 use Rattle.board_asking.specs.Pace.{AsksAlike}
 use Rattle.board_asking.specs.Whose.{HandledAlike}
 use Rattle.board_cable.specs.Keeping.{kept}
@@ -8,11 +7,10 @@ use Rattle.board_cable.specs.Turns.{Told, Turn, told}
 use Rattle.board_events.specs.declared.setup.Setup.{Setup}
 use Rattle.board_events.specs.Settings.{setting_of}
 use Rattle.board_live.specs.Coming.{came}
-use Rattle.board_live.specs.Due.{StaysAlike}
+use Rattle.board_live.specs.Due.{MayChange, StaysAlike}
 use Rattle.board_live.specs.Live.{Answers}
 use Rattle.board_live.specs.Moments.{Moment, cabled}
 use Rattle.live_lines.specs.declared.clock.Clock.{Clock}
-use Rattle.live_lines.specs.declared.entries.Entry.{Entry}
 use Rattle.live_lines.specs.declared.entries.What.{What}
 use Rattle.live_lines.specs.declared.entries.What.TheVariants.{Happens, Wakes, Lends, WantsText, Owns, KeepsTimes, KeepsBytes}
 use Rattle.live_lines.specs.Answers.{answer_text}
@@ -21,8 +19,8 @@ use Rattle.live_lines.specs.Entries.{brings_capture, wants_text}
 use Rattle.live_lines.specs.Heard.{HasEvents, Heard, IsHeard, waiting, waiting_by}
 use Rattle.live_lines.specs.History.{history_of}
 use Rattle.live_lines.specs.Laws.{TextsAreNoNews, as_wake, with_wakes}
-use Rattle.live_lines.specs.Meaning.{moment_by, moment_of, moments, moments_by, time_of}
-use Rattle.live_lines.specs.Recorder.{IsAnswered, IsAnsweredBy, IsSaidOf}
+use Rattle.live_lines.specs.Meaning.{moment_by, moments, moments_by, time_of}
+use Rattle.live_lines.specs.Recorder.{IsAnsweredBy, IsSaidOf, SaysAlarms}
 use Rattle.live_lines.specs.Text.{GivesText}
 
 as_before : {A : Type 0} (F : What → A) → F Wakes ≡ F WantsText → (what : What) → F (as_wake what) ≡ F what
@@ -97,19 +95,24 @@ said_like setup recovers heard past other turn turns more said e f s =
     let u = time_of heard other in
     let A : ℕ → List Moment → Type 0 = λ n ms. Answers (setting_of setup) recovers (moment_by n heard) ms turn turns s.answer in
     let G : ℕ → List Moment → Type 0 = λ n ms. GivesText (wants_text heard.entry.what) (setting_of setup) recovers setup.tags (came (moment_by n heard ∷ ms) (turn ∷ turns)) s.game in
+    let L : ℕ → List Moment → Type 0 = λ n ms. SaysAlarms (setting_of setup) recovers (came (moment_by n heard ∷ ms) (turn ∷ turns)) s.answer.unsaid s.looks in
     let Q : ℕ → Type 0 = λ n. AsksAlike n (told (turn ∷ turns)) s.due in
     let H : ℕ → Type 0 = λ n. HandledAlike n (told (turn ∷ turns)) s.due in
     let S : ℕ → List Moment → Type 0 = λ n ms. StaysAlike (setting_of setup) recovers (came (moment_by n heard ∷ ms) (turn ∷ turns)) n s.due in
+    let C : ℕ → List Moment → Type 0 = λ n ms. IfSome s.due (λ d. MayChange (setting_of setup) recovers (came (moment_by n heard ∷ ms) (turn ∷ turns)) (told (turn ∷ turns)) n d) in
     record {
       answer = s.answer;
       game = s.game;
+      looks = s.looks;
       due = s.due;
-      text = s.text ∙ ap (λ n. answer_text n s.answer (kept (turn ∷ turns)) more s.game s.due) e;
+      text = s.text ∙ ap (λ n. answer_text n s.answer (kept (turn ∷ turns)) more s.game s.looks s.due) e;
+      alarms = both L t u (moments past) (moments other) e f s.alarms;
       answers = both A t u (moments past) (moments other) e f s.answers;
       gives = both G t u (moments past) (moments other) e f s.gives;
       asks = subst Q e s.asks;
       handling = subst H e s.handling;
       state = both S t u (moments past) (moments other) e f s.state;
+      changes = both C t u (moments past) (moments other) e f s.changes;
     }
 
 answered_by : (brings : Bool) (setup : Setup) (recovers : Bool) (heard : Heard) (past other : List Heard) (more said : List ℕ)

@@ -1,5 +1,5 @@
 -- What is answered to an entry.
-use Rattle.std.proofs.Common.{◌≡◌, ℕ, Bool, true, false, List, [], ◌∷◌, Option, ap, ◌∙◌, subst, sym, refl}
+use Rattle.std.proofs.Common.{◌≡◌, ℕ, Bool, true, false, List, [], ◌∷◌, IfSome, Option, ap, ◌∙◌, subst, sym, refl}
 use Rattle.board_asking.specs.Pace.{AsksAlike}
 use Rattle.board_asking.specs.Whose.{HandledAlike}
 use Rattle.board_cable.specs.Keeping.{kept}
@@ -11,9 +11,10 @@ use Rattle.chess_game.specs.Values.{TagValues}
 use Rattle.board_live.specs.declared.happened.What.{What as ToBoard}
 use Rattle.board_live.specs.declared.live.Answer.{Answer}
 use Rattle.board_live.specs.Coming.{came}
-use Rattle.board_live.specs.Due.{StaysAlike}
+use Rattle.board_live.specs.Due.{MayChange, StaysAlike}
 use Rattle.board_live.specs.Live.{Answers}
 use Rattle.board_live.specs.Moments.{Moment, cabled}
+use Rattle.board_looks.specs.declared.look.Look.{Look}
 use Rattle.board_times.specs.declared.events.Event.{Event}
 use Rattle.board_times.specs.declared.reading.Found.{Found}
 use Rattle.board_times.specs.Times.{IsFound}
@@ -25,7 +26,7 @@ use Rattle.live_lines.specs.Entries.{brings_capture, wants_text}
 use Rattle.live_lines.specs.Heard.{AreEventsOf, HasEvents, Heard, IsHeard, events_for, waiting, waiting_by}
 use Rattle.live_lines.specs.History.{history_of}
 use Rattle.live_lines.specs.Meaning.{meaning_of, moment_by, moment_of, moments, moments_by, time_of}
-use Rattle.live_lines.specs.Recorder.{IsAnswered, IsAnsweredBy}
+use Rattle.live_lines.specs.Recorder.{IsAnswered, IsAnsweredBy, SaysAlarms}
 use Rattle.live_lines.specs.Text.{GivesText}
 
 not_so : false ≡ true → ⊥
@@ -48,38 +49,48 @@ given_text a b setting recovers t u past x y e f h g =
     subst X (sym h) (subst T f (subst A e g))
 
 pub answered : (setup : Setup) (recovers : Bool) (heard : Heard) (past : List Heard) (m : Moment) (at : ℕ) (answer : Answer) (due : Option ℕ)
-    (k ls more g : List ℕ) → m ≡ moment_by (time_of heard past) heard → at ≡ time_of heard past → ls ≡ more
+    (k ls more g : List ℕ) (looks : List Look) → m ≡ moment_by (time_of heard past) heard → at ≡ time_of heard past → ls ≡ more
+    → ((turns : List Turn) → Told (cabled (m ∷ moments past)) turns → SaysAlarms (setting_of setup) recovers (came (m ∷ moments past) turns) answer.unsaid looks)
     → ((turns : List Turn) → Told (cabled (m ∷ moments past)) turns → k ≡ kept turns)
     → ((turn : Turn) (turns : List Turn) → Told (cabled (m ∷ moments past)) (turn ∷ turns) → Answers (setting_of setup) recovers m (moments past) turn turns answer)
     → ((turns : List Turn) → Told (cabled (m ∷ moments past)) turns → GivesText (wants_text heard.entry.what) (setting_of setup) recovers setup.tags (came (m ∷ moments past) turns) g)
     → ((turns : List Turn) → Told (cabled (m ∷ moments past)) turns → AsksAlike at (told turns) due)
     → ((turns : List Turn) → Told (cabled (m ∷ moments past)) turns → HandledAlike at (told turns) due)
     → ((turns : List Turn) → Told (cabled (m ∷ moments past)) turns → StaysAlike (setting_of setup) recovers (came (m ∷ moments past) turns) at due)
-    → IsAnsweredBy false setup recovers heard past more (answer_text at answer k ls g due)
-answered setup recovers heard past m at answer due k ls more g em ea el keeps answers gives asks handles stays turn turns h =
+    → ((turns : List Turn) → Told (cabled (m ∷ moments past)) turns → IfSome due (λ d. MayChange (setting_of setup) recovers (came (m ∷ moments past) turns) (told turns) at d))
+    → IsAnsweredBy false setup recovers heard past more (answer_text at answer k ls g looks due)
+answered setup recovers heard past m at answer due k ls more g looks em ea el says keeps answers gives asks handles stays changes turn turns h =
     let now : ℕ = time_of heard past in
     let ps : List Moment = moments past in
     let K : Moment → Type 0 = λ x. Told (cabled (x ∷ ps)) (turn ∷ turns) → k ≡ kept (turn ∷ turns) in
     let A : Moment → Type 0 = λ x. Told (cabled (x ∷ ps)) (turn ∷ turns) → Answers (setting_of setup) recovers x ps turn turns answer in
     let G : Moment → Type 0 = λ x. Told (cabled (x ∷ ps)) (turn ∷ turns)
     → GivesText (wants_text heard.entry.what) (setting_of setup) recovers setup.tags (came (x ∷ ps) (turn ∷ turns)) g in
+    let L : Moment → Type 0 = λ x. Told (cabled (x ∷ ps)) (turn ∷ turns)
+    → SaysAlarms (setting_of setup) recovers (came (x ∷ ps) (turn ∷ turns)) answer.unsaid looks in
     let Q : Moment → Type 0 = λ x. Told (cabled (x ∷ ps)) (turn ∷ turns) → AsksAlike at (told (turn ∷ turns)) due in
     let H : Moment → Type 0 = λ x. Told (cabled (x ∷ ps)) (turn ∷ turns) → HandledAlike at (told (turn ∷ turns)) due in
     let S : Moment → Type 0 = λ x. Told (cabled (x ∷ ps)) (turn ∷ turns) → StaysAlike (setting_of setup) recovers (came (x ∷ ps) (turn ∷ turns)) at due in
+    let C : Moment → Type 0 = λ x. Told (cabled (x ∷ ps)) (turn ∷ turns)
+    → IfSome due (λ d. MayChange (setting_of setup) recovers (came (x ∷ ps) (turn ∷ turns)) (told (turn ∷ turns)) at d) in
     let Qn : ℕ → Type 0 = λ n. AsksAlike n (told (turn ∷ turns)) due in
     let Hn : ℕ → Type 0 = λ n. HandledAlike n (told (turn ∷ turns)) due in
     let Sn : ℕ → Type 0 = λ n. StaysAlike (setting_of setup) recovers (came (moment_of heard past ∷ moments past) (turn ∷ turns)) n due in
+    let Cn : ℕ → Type 0 = λ n. IfSome due (λ d. MayChange (setting_of setup) recovers (came (moment_of heard past ∷ moments past) (turn ∷ turns)) (told (turn ∷ turns)) n d) in
     record {
       answer = answer;
       game = g;
+      looks = looks;
       due = due;
-      text = ap (λ n. answer_text n answer k ls g due) ea ∙ ap (λ x. answer_text now answer x ls g due) (subst K em (keeps (turn ∷ turns)) h)
-          ∙ ap (λ x. answer_text now answer (kept (turn ∷ turns)) x g due) el;
+      text = ap (λ n. answer_text n answer k ls g looks due) ea ∙ ap (λ x. answer_text now answer x ls g looks due) (subst K em (keeps (turn ∷ turns)) h)
+          ∙ ap (λ x. answer_text now answer (kept (turn ∷ turns)) x g looks due) el;
+      alarms = subst L em (says (turn ∷ turns)) h;
       answers = subst A em (answers turn turns) h;
       gives = subst G em (gives (turn ∷ turns)) h;
       asks = subst Qn ea (subst Q em (asks (turn ∷ turns)) h);
       handling = subst Hn ea (subst H em (handles (turn ∷ turns)) h);
       state = subst Sn ea (subst S em (stays (turn ∷ turns)) h);
+      changes = subst Cn ea (subst C em (changes (turn ∷ turns)) h);
     }
 
 -- ---- an entry that is no capture

@@ -7,13 +7,14 @@ use Rattle.dgt_frame.specs.Streams.{Timed}
 use Rattle.board_events.specs.Commands.{past_of}
 use Rattle.board_events.specs.Game.{IsGameOf}
 use Rattle.board_events.specs.Settings.{Setting}
+use Rattle.board_alarms.specs.declared.event_heard.When.{When}
 use Rattle.board_game.specs.History.{Adds, AreShown, Bytes, Came, Item, Makes, News, bytes_of, events_of, with_found}
 use Rattle.board_game.proofs.PlainLemmas.{ShowsOnce, same_shown}
 use Rattle.chess_game.specs.Games.{Content}
 use Rattle.chess_game.specs.Values.{TagValues}
 use Rattle.pgn_book.specs.Pgn.{Pgn}
 use Rattle.live_lines.specs.Laws.{TextsAreRecorded}
-use Rattle.live_lines.specs.Text.{GivesText, IsTextOf}
+use Rattle.live_lines.specs.Text.{GivesText}
 
 pub map_ok : {A E : Type 0} (r : Result A E) (P Q : A → Type 0) → IfOk r P → ((a : A) → P a → Q a) → IfOk r Q
 map_ok (Ok a) P Q h f = f a h
@@ -31,7 +32,7 @@ gives wanted setting recovers tags past items game text e makes is pgn =
 abbrev event_in : Timed → Event
 event_in t = t.event
 
-adds_events : (setting : Setting) (time : ℕ) (past : List Event) (more : List Timed) (before items : List Item) → Adds setting false time past more before items
+adds_events : (setting : Setting) (time : When) (past : List Event) (more : List Timed) (before items : List Item) → Adds setting false time past more before items
     → events_of items ≡ map event_in more ++ events_of before
 adds_events setting time past [] before items adds = ap (λ (is : List Item). events_of is) adds
 adds_events setting time past (x ∷ more) before items adds =

@@ -1,9 +1,14 @@
--- What a recorder answers to an entry: the bytes that the capture gets, the new lines of the report, the text of the game, and then
--- what is said.
+-- What a recorder answers to an entry: the bytes that the capture gets, the new lines of the report, the text of the game, how it
+-- ends, alarms, and then what is said.
 use Rattle.std.specs.Prelude.{◌-◌, ℕ, true, List, [], ◌∷◌, ◌++◌, codes, decimal, length, Option, Some, None}
 use Rattle.answer_lines.specs.declared.said.Said.{Said}
 use Rattle.answer_lines.specs.Answers.{answer_text as said_text}
+use Rattle.answer_lines.specs.Ends.{end_text}
+use Rattle.answer_lines.specs.Looks.{looks_text}
+use Rattle.board_endings.specs.declared.news.End.{End}
+use Rattle.board_endings.specs.Saying.{no_end}
 use Rattle.board_live.specs.declared.live.Answer.{Answer}
+use Rattle.board_looks.specs.declared.look.Look.{Look}
 use Rattle.board_standing.specs.declared.state.State.{State}
 
 -- the bytes that the capture gets, if there are any, behind a line that says how many
@@ -16,9 +21,9 @@ abbrev pub game_text : List ℕ → List ℕ
 game_text [] = []
 game_text (byte ∷ bytes) = codes "game " ++ decimal (length (byte ∷ bytes)) ++ codes "\n" ++ (byte ∷ bytes)
 
--- these bytes, these lines of the report, this text of the game, and what is said
-abbrev pub whole_text : List ℕ → List ℕ → List ℕ → Said → List ℕ
-whole_text kept lines game said = kept_text kept ++ lines ++ game_text game ++ said_text said
+-- these bytes, these lines of the report, this text of the game, how it ends, these alarms, and what is said
+abbrev pub whole_text : List ℕ → List ℕ → List ℕ → End → List Look → Said → List ℕ
+whole_text kept lines game end looks said = kept_text kept ++ lines ++ game_text game ++ end_text end ++ looks_text looks ++ said_text said
 
 -- for how long it has been so since a time, and in how long a time comes
 abbrev pub lasting : ℕ → Option ℕ → Option ℕ
@@ -39,12 +44,12 @@ abbrev pub said_of : ℕ → Answer → Option ℕ → Said
 said_of now answer due =
     record { handling = Some answer.handling; number = answer.number; request = answer.request; is_whole = answer.is_whole; state = state_for now answer.state; due = wake_in now due }
 
-abbrev pub answer_text : ℕ → Answer → List ℕ → List ℕ → List ℕ → Option ℕ → List ℕ
-answer_text now answer kept lines game due = whole_text kept lines game (said_of now answer due)
+abbrev pub answer_text : ℕ → Answer → List ℕ → List ℕ → List ℕ → List Look → Option ℕ → List ℕ
+answer_text now answer kept lines game looks due = whole_text kept lines game answer.end looks (said_of now answer due)
 
 -- A capture of the calls before is answered by its report alone.
 abbrev pub nothing_said : Said
 nothing_said = record { handling = None; number = None; request = None; is_whole = true; state = None; due = None }
 
 abbrev pub capture_text : List ℕ → List ℕ
-capture_text lines = whole_text [] lines [] nothing_said
+capture_text lines = whole_text [] lines [] no_end [] nothing_said

@@ -3,6 +3,9 @@ use Rattle.std.specs.Prelude.{◌≡◌, ◌↔◌, ◌<◌, ◌≤◌, ◌^◌,
 use Rattle.std.specs.List.{AllByRecursion}
 use Rattle.answer_lines.specs.declared.said.Said.{Said}
 use Rattle.answer_lines.specs.Laws.{IsSaid}
+use Rattle.answer_lines.specs.Ends.{EndFits}
+use Rattle.board_endings.specs.declared.news.End.{End}
+use Rattle.answer_lines.specs.Looks.{LooksFit}
 use Rattle.board_events.specs.declared.setup.Setup.{Setup}
 use Rattle.board_events.specs.Settings.{Setting}
 use Rattle.board_events.specs.Commands.{past_of}
@@ -10,6 +13,7 @@ use Rattle.board_events.specs.Game.{IsGameOf}
 use Rattle.board_game.specs.History.{AreShown, Came, bytes_of}
 use Rattle.board_game.specs.Report.{IsReport}
 use Rattle.board_live.specs.Moments.{Moment}
+use Rattle.board_looks.specs.declared.look.Look.{Look}
 use Rattle.board_times.specs.declared.events.Event.{Event}
 use Rattle.chess_game.specs.Games.{Content}
 use Rattle.chess_game.specs.Values.{TagValues}
@@ -75,12 +79,13 @@ abbrev pub HasLines : List ℕ → Type 0
 HasLines text = (lines : List ReportLine) × (text ≡ report_text lines)
 
 -- Answers that stand one behind the other are read in one way: which bytes the capture gets, which lines are the report's, what the
--- text of the game is, and what is said.
+-- text of the game is, how it ends, which alarms there are, and what is said.
 abbrev pub IsAnsweredInOneWay : Type 0
-IsAnsweredInOneWay = (kept others lines news game text more rest : List ℕ) (one other : Said) → length kept < 2 ^ 64 → length others < 2 ^ 64
-    → length game < 2 ^ 64 → length text < 2 ^ 64 → HasLines lines → HasLines news → IsSaid one → IsSaid other
-    → whole_text kept lines game one ++ more ≡ whole_text others news text other ++ rest
-    → (kept ≡ others) × (lines ≡ news) × (game ≡ text) × (one ≡ other) × (more ≡ rest)
+IsAnsweredInOneWay = (kept others lines news game text more rest : List ℕ) (end last : End) (looks alarms : List Look) (one other : Said)
+    → length kept < 2 ^ 64 → length others < 2 ^ 64 → length game < 2 ^ 64 → length text < 2 ^ 64 → HasLines lines → HasLines news
+    → EndFits end → EndFits last → LooksFit looks → LooksFit alarms → IsSaid one → IsSaid other
+    → whole_text kept lines game end looks one ++ more ≡ whole_text others news text last alarms other ++ rest
+    → (kept ≡ others) × (lines ≡ news) × (game ≡ text) × (end ≡ last) × (looks ≡ alarms) × (one ≡ other) × (more ≡ rest)
 
 -- From a valid start, what a report has more after more has come has such lines.
 abbrev pub ReportsHaveLines : Type 0

@@ -3,11 +3,13 @@ pub mod Clock
 pub mod Entries
 pub mod Heard
 pub mod History
+pub mod Kept
 pub mod Inside
 pub mod Laws
 pub mod Meaning
 pub mod Next
 pub mod Recorder
+pub mod Recovered
 pub mod Status
 pub mod Streams
 pub mod Text

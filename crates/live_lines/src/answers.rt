@@ -1,10 +1,11 @@
-//! What a recorder answers: the bytes that the capture gets, the new lines of the report, the text of the
-//! game, and the lines of `answer_lines`.
-ghost use Rattle.std.specs.Prelude.{◌≡◌, ◌++◌, IfOk};
+//! What a recorder answers: the bytes that the capture gets, the new lines of the report, the text of the game, and the lines of
+//! `answer_lines`.
+ghost use Rattle.std.specs.Prelude.{◌≡◌, ◌++◌, ℕ, List, IfOk, OnOk};
 ghost use Rattle.live_lines.specs.Answers.{answer_text, capture_text, game_text, kept_text, lasting, said_of, state_for, wake_in};
 
-use answer_lines::{Said, add_answer as add_said};
+use answer_lines::{Said, add_answer as add_said, add_end, add_looks};
 use board_live::Answer;
+use board_looks::Look;
 use board_standing::State;
 use itoa::Buffer;
 use std::alloc::{AllocError, Global};
@@ -87,7 +88,7 @@ fn said_of(now: u64, answer: &Answer, due: Option<u64>) -> Said
 }
 
 /// Adds what is answered at this time, with the bytes that the capture gets, the new lines of the report, the text of the game if it is
-/// wanted, and when to wake.
+/// wanted, alarms, and when to wake.
 pub fn add_answer(
     alloc: Global,
     now: u64,
@@ -95,22 +96,24 @@ pub fn add_answer(
     kept: &[u8],
     lines: &[u8],
     game: &[u8],
+    looks: &[Look],
     due: Option<u64>,
     out: &mut Vec<u8>,
 ) -> Result<(), AllocError>
-    ensures { IfOk result (λ _. out.new.items ≡ out.old.items ++ answer_text now answer.now kept.now lines.now game.now due) }
+    ensures { IfOk result (λ _. out.new.items ≡ out.old.items ++ answer_text now answer.now kept.now lines.now game.now looks.now due) }
 {
     add_kept(kept, out)?;
     out.extend_from_slice(lines)?;
     add_game(game, out)?;
+    add_end(answer.end, out)?;
+    add_looks(looks, out)?;
     add_said(alloc, said_of(now, answer, due), out)
 }
 
-/// Adds what is answered to a capture of the calls before: the report of it.
-pub fn add_report(alloc: Global, report: &[u8], out: &mut Vec<u8>) -> Result<(), AllocError>
-    ensures { IfOk result (λ _. out.new.items ≡ out.old.items ++ capture_text report.now) }
+/// Ends what is answered to a capture of the calls before, behind the report of it.
+pub fn end_report(alloc: Global, out: &mut Vec<u8>) -> Result<(), AllocError>
+    ensures { (before report : List ℕ) → out.old.items ≡ before ++ report → OnOk result (out.new.items ≡ before ++ capture_text report) }
 {
-    out.extend_from_slice(report)?;
     let said = Said {
         handling: None,
         number: None,
@@ -119,5 +122,6 @@ pub fn add_report(alloc: Global, report: &[u8], out: &mut Vec<u8>) -> Result<(),
         state: None,
         due: None,
     };
-    add_said(alloc, said, out)
+    add_said(alloc, said, out)?;
+    Ok(())
 }

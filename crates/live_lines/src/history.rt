@@ -3,28 +3,40 @@ ghost use Rattle.std.specs.Prelude.{◌≡◌, ◌↔◌, ◌++◌, [], ℕ, Boo
 ghost use Rattle.live_lines.specs.Clock.{clock_over};
 ghost use Rattle.live_lines.specs.Heard.{events_by, events_for};
 ghost use Rattle.board_events.specs.Settings.{Setting};
-ghost use Rattle.board_live.specs.Laws.{with_kept, with_told};
+ghost use Rattle.board_live.specs.Laws.{kept_as, told_as, with_kept, with_told};
 ghost use Rattle.board_live.specs.Live.{HasBegun, StandsFor};
 ghost use Rattle.board_live.specs.Moments.{Moment};
 ghost use Rattle.board_times.specs.Fitting.{covered_after};
-ghost use Rattle.live_lines.specs.History.{coming, history_of, news_of};
+ghost use Rattle.live_lines.specs.History.{coming, history_of, is_added, news_of};
 
 use crate::clock::Clock;
 use crate::entries::{Entry, What};
+use board_game::Note;
 use board_live::{Happened, Live, What as ToBoard};
 use board_standing::Heard;
 use board_times::{Event, Fit, Found, What as Happening, fit_of};
 use std::alloc::AllocError;
 
-fn news_of(what: Happening) -> Option<Heard>
+/// What an event tells beside bytes.
+fn news_of(what: Happening) -> Option<Note>
     ensures { result ≡ news_of what }
 {
     match what {
-        Happening::Begins(_) => Some(Heard::Begins),
-        Happening::Opens => Some(Heard::Plugs),
-        Happening::Goes => Some(Heard::Unplugs),
+        Happening::Begins(_) => Some(Note::Line(Heard::Begins)),
+        Happening::Opens => Some(Note::Line(Heard::Plugs)),
+        Happening::Goes => Some(Note::Line(Heard::Unplugs)),
+        Happening::Looks => Some(Note::Looked),
+        Happening::PutsBack => Some(Note::PutsBack),
+        Happening::Suspects(n) => Some(Note::Suspects(n)),
         _ => None,
     }
+}
+
+/// Whether its bytes were added by hand.
+fn is_added(what: Happening) -> bool
+    ensures { result ≡ is_added what }
+{
+    matches!(what, Happening::Adds(_))
 }
 
 fn coming(what: Happening, covered: u64) -> u64
@@ -67,39 +79,61 @@ fn is_nothing(bytes: &[u8]) -> bool
     bytes.is_empty()
 }
 
-/// Tells a board that its capture got these bytes, if there are any.
-fn keep(live: &mut Live, at: u64, bytes: &[u8], lines: &mut Vec<u8>) -> Result<(), AllocError>
+/// What was kept of bytes that were added by hand, or of others.
+fn kept_as(added: bool) -> ToBoard
+    ensures { result ≡ kept_as added }
+{
+    if added {
+        ToBoard::KeepsAdded
+    } else {
+        ToBoard::Keeps
+    }
+}
+
+/// What was kept of what isn't in the bytes.
+fn told_as(note: Note) -> ToBoard
+    ensures { result ≡ told_as note }
+{
+    match note {
+        Note::Line(heard) => ToBoard::Tells(heard),
+        Note::Looked | Note::PutsBack | Note::Suspects(_) => ToBoard::Notes(note),
+    }
+}
+
+/// Tells a board that its capture got these bytes, if there are any, and whether they were added by hand.
+fn keep(
+    live: &mut Live,
+    at: u64,
+    added: bool,
+    bytes: &[u8],
+    lines: &mut Vec<u8>,
+) -> Result<(), AllocError>
     requires begun { HasBegun live.old }
     ensures told { (setting : Setting) (recovers : Bool) (past : List Moment) (text : List ℕ) → StandsFor live.old setting recovers past text
         → OnOk result ((more : List ℕ) × (lines.new.items ≡ lines.old.items ++ more)
-        × StandsFor live.new setting recovers (with_kept at bytes.now past) (text ++ more)) }
+        × StandsFor live.new setting recovers (with_kept at added bytes.now past) (text ++ more)) }
     ensures begun { OnOk result (HasBegun live.new) }
 {
     if is_nothing(bytes) {
         return Ok(());
     }
-    let what = ToBoard::Keeps;
+    let what = kept_as(added);
     live.take(Happened { at, what }, bytes, lines)?;
     Ok(())
 }
 
-/// Tells a board news of its line, if there are any.
-fn tell(
-    live: &mut Live,
-    at: u64,
-    news: Option<Heard>,
-    lines: &mut Vec<u8>,
-) -> Result<(), AllocError>
+/// Tells a board what isn't in the bytes, if there is anything.
+fn tell(live: &mut Live, at: u64, news: Option<Note>, lines: &mut Vec<u8>) -> Result<(), AllocError>
     requires begun { HasBegun live.old }
     ensures told { (setting : Setting) (recovers : Bool) (past : List Moment) (text : List ℕ) → StandsFor live.old setting recovers past text
         → OnOk result ((more : List ℕ) × (lines.new.items ≡ lines.old.items ++ more)
         × StandsFor live.new setting recovers (with_told at news past) (text ++ more)) }
     ensures begun { OnOk result (HasBegun live.new) }
 {
-    let Some(heard) = news else {
+    let Some(note) = news else {
         return Ok(());
     };
-    let what = ToBoard::Tells(heard);
+    let what = told_as(note);
     live.take(Happened { at, what }, &[], lines)?;
     Ok(())
 }
@@ -155,11 +189,11 @@ pub fn tell_history(
         };
         let at = clock.take(entry);
         let (now, later) = cut(rest, coming(happened.what, covered));
-        keep(live, at, now, lines)?;
+        keep(live, at, is_added(happened.what), now, lines)?;
         tell(live, at, news_of(happened.what), lines)?;
         covered = covered_after(happened.what, covered);
         rest = later;
     }
-    keep(live, clock.last(), rest, lines)?;
+    keep(live, clock.last(), false, rest, lines)?;
     Ok(())
 }

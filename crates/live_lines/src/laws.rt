@@ -1,8 +1,12 @@
 //! What holds of each text.
 ghost use Rattle.live_lines.specs.Laws.{EachByteComesOnce, IsAnsweredInOneWay, IsToldOnce, LaterChangesNothing, ReportsHaveLines, TextsAreNoNews, TextsAreRecorded, TimesGoOn, WaitsForIt, WrittenIsTold};
+ghost use Rattle.live_lines.specs.Kept.{FilesAreAsFiled};
+ghost use Rattle.live_lines.specs.Recovered.{TextsAreRecovered};
 
 use chess_text::laws::{fens_are_plain, texts_are_plain};
 use dgt_frame::laws::shows_once;
+use recovery::laws::woven_bytes_show_what_is_put_in;
+use unseen_pairs::laws::recovers_once;
 
 /// A text begins with one entry at most.
 pub fn is_told_once()
@@ -61,3 +65,20 @@ pub fn texts_are_recorded()
     // For its clause: bytes show one list of events.
     shows_once();
 }
+
+/// Where pairs are recovered, the text is that of the game that `record` writes of what `recover` gives.
+pub fn texts_are_recovered()
+    ensures { TextsAreRecovered }
+{
+    // For its clause: bytes show one list of events.
+    shows_once();
+    // For its clause: at an event one pair is recovered, or none.
+    recovers_once();
+    // For its clause: the bytes with what is put in show the events with those that are put in.
+    woven_bytes_show_what_is_put_in();
+}
+
+/// A host's two files, merged, are what the law on restarts speaks of.
+pub fn files_are_as_filed()
+    ensures { FilesAreAsFiled }
+{}

@@ -5,6 +5,7 @@ ghost use Rattle.live_lines.specs.Meaning.{happening_of, meaning_of, owned};
 use crate::entries::What;
 use board_asking::serial_in;
 use board_cable::What as AtCable;
+use board_game::Note;
 use board_live::What as ToBoard;
 use board_times::What as Happening;
 
@@ -21,6 +22,9 @@ fn happening_of(what: Happening) -> ToBoard
         Happening::Adds(_) => ToBoard::Adds,
         Happening::Stops(_) => ToBoard::Cable(AtCable::Interrupts),
         Happening::Takes => ToBoard::Cable(AtCable::Takes),
+        Happening::Looks => ToBoard::Notes(Note::Looked),
+        Happening::PutsBack => ToBoard::Notes(Note::PutsBack),
+        Happening::Suspects(n) => ToBoard::Notes(Note::Suspects(n)),
         _ => ToBoard::Cable(AtCable::Wakes),
     }
 }

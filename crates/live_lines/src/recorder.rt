@@ -1,5 +1,5 @@
 //! A recorder that a host tells entries.
-ghost use Rattle.std.specs.Prelude.{◌≡◌, ◌∷◌, [], ◌++◌, ℕ, Bool, List, OnOk, false, true};
+ghost use Rattle.std.specs.Prelude.{◌≡◌, ◌∷◌, [], ◌++◌, ℕ, Bool, List, OnOk, drop, false, true};
 ghost use Rattle.board_events.specs.declared.setup.Setup.{Setup as SetupOf};
 ghost use Rattle.board_events.specs.Settings.{setting_of};
 ghost use Rattle.board_game.specs.Report.{first_line};
@@ -8,7 +8,7 @@ ghost use Rattle.live_lines.specs.Entries.{brings_capture};
 ghost use Rattle.live_lines.specs.Heard.{Heard, IsHeard, waiting_by};
 ghost use Rattle.live_lines.specs.Recorder.{HasBegun, IsAnswered, Reports, StandsFor};
 
-use crate::answers::{add_answer, add_report};
+use crate::answers::{add_answer, end_report};
 use crate::clock::Clock;
 use crate::entries::{Entry, What};
 use crate::history::{events_for, tell_history};
@@ -17,6 +17,7 @@ use crate::text::text_if;
 use board_captures::Method;
 use board_events::Setup;
 use board_live::{Happened, Live};
+use board_looks::Look;
 use board_times::read_times;
 use chess_game::Tags;
 use std::alloc::{AllocError, Global};
@@ -33,6 +34,17 @@ pub struct Recorder {
     times: Vec<u8>,
     /// The tags of the game's text.
     tags: Tags,
+}
+
+/// The open alarms behind so many that aren't said.
+fn said(alarms: &[Look], unsaid: usize) -> &[Look]
+    ensures { result.now ≡ drop unsaid alarms.now }
+{
+    if alarms.len() <= unsaid {
+        &[]
+    } else {
+        &alarms[unsaid..]
+    }
 }
 
 /// Remembers a file of times, if this is one.
@@ -112,16 +124,9 @@ impl Recorder {
     {
         let found = read_times(self.alloc, self.times.as_slice())?;
         let events = events_for(&found, capture);
-        self.lines.clear();
-        tell_history(
-            &mut self.live,
-            &mut self.clock,
-            events,
-            capture,
-            &mut self.lines,
-        )?;
+        tell_history(&mut self.live, &mut self.clock, events, capture, out)?;
         self.times = Vec::new(self.alloc);
-        add_report(self.alloc, self.lines.as_slice(), out)?;
+        end_report(self.alloc, out)?;
         Ok(())
     }
 
@@ -152,6 +157,7 @@ impl Recorder {
         let is_wanted = entry.what.wants_text();
         let board = self.live.game();
         let game = text_if(self.alloc, is_wanted, board, &self.tags)?;
+        let looks = said(self.live.alarms(), answer.unsaid);
         add_answer(
             self.alloc,
             at,
@@ -159,6 +165,7 @@ impl Recorder {
             kept,
             self.lines.as_slice(),
             game.as_slice(),
+            looks,
             due,
             out,
         )?;

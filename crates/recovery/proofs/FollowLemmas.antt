@@ -17,7 +17,7 @@ ends_at (a ∷ []) x end m at = (m, at)
 ends_at (a ∷ b ∷ more) x end m at = ends_at (b ∷ more) x end m at
 
 -- a message takes all its bytes
-opened : (event : Event) (front more : List ℕ) (index : ℕ) → IsMessage event → Opens event front more index → index + 1 ≡ length front
+pub opened : (event : Event) (front more : List ℕ) (index : ℕ) → IsMessage event → Opens event front more index → index + 1 ≡ length front
 opened (MessageEvent message) front more index m opens = opens.1
 opened (Fault kind) front more index m opens = absurd m
 
@@ -48,7 +48,7 @@ reaches start bytes (x ∷ []) later rest end h ends = omega (arith, h.5, ends.1
 reaches start bytes (x ∷ y ∷ more) later rest end h ends =
     let behind : start + length h.0 < end = reaches (start + length h.0) h.1 (y ∷ more) later rest end h.6 ends in omega (arith, behind)
 
-fronts_are : (bytes more front back : List ℕ) → bytes ++ more ≡ front ++ back → length front ≤ length bytes
+pub fronts_are : (bytes more front back : List ℕ) → bytes ++ more ≡ front ++ back → length front ≤ length bytes
     → (bytes ≡ front ++ drop (length front) bytes) × (back ≡ drop (length front) bytes ++ more)
 fronts_are bytes more front back same low =
     let n = length front in

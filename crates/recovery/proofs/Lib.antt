@@ -10,3 +10,4 @@ pub mod StreamLemmas
 pub mod LawLemmas
 pub mod InventedLemmas
 pub mod RangeLemmas
+pub mod WovenLemmas

@@ -53,11 +53,11 @@ puts_more setting events x found before puts all finds put =
     let both = subst F same (finds, put) in
     subst (λ (es : List Timed). PutsAll setting es puts) (sym (reverse_more events x)) (before, found, all, both.0, both.1)
 
-is_message : (event : Event) (past : List Event) → is_entry event past ≡ true → IsMessage event
+pub is_message : (event : Event) (past : List Event) → is_entry event past ≡ true → IsMessage event
 is_message (MessageEvent message) past entered = tt
 is_message (Fault kind) past entered = let n : ⊥ = cc in absurd n
 
-ends_message : (event : Event) (past : List Event) → IsMessage event → EndsWhole (event ∷ past)
+pub ends_message : (event : Event) (past : List Event) → IsMessage event → EndsWhole (event ∷ past)
 ends_message (MessageEvent message) past m = tt
 ends_message (Fault kind) past m = absurd m
 

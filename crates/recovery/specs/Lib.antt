@@ -4,3 +4,4 @@ pub mod Keeping
 pub mod Laws
 pub mod Streams
 pub mod Weaving
+pub mod Woven

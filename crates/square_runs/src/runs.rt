@@ -1,5 +1,5 @@
 //! Since when each square has been in the masks that came.
-ghost use Rattle.std.specs.Prelude.{◌≡◌, ◌<◌, ◌==◌, ◌∷◌, [], if◌then◌else◌, ℕ, Bool, List, None, slice_index};
+ghost use Rattle.std.specs.Prelude.{◌≡◌, ◌<◌, ◌==◌, ◌∷◌, [], if◌then◌else◌, ℕ, Bool, IsTrue, List, None, slice_index};
 ghost use Rattle.std.specs.Int.{bit_at};
 ghost use Rattle.square_runs.specs.Keeping.{StandsFor, time_of};
 ghost use Rattle.square_runs.specs.Lasting.{has_lasted, will_have_lasted};
@@ -82,6 +82,20 @@ impl Runs {
             last: 0,
             since: [0; 64],
         }
+    }
+
+    /// Begins anew, as if no mask had come.
+    pub fn clear(&mut self)
+        ensures { StandsFor self.new [] }
+    {
+        self.last = 0;
+    }
+
+    /// Whether the last mask has no square.
+    pub fn is_empty(&self) -> bool
+        ensures { (past : List Shown) → StandsFor self.now past → IsTrue result → (s : ℕ) → s < 64 → since_when (has s) past ≡ None }
+    {
+        self.last == 0
     }
 
     /// Takes the mask that holds from `at` on, a time in milliseconds, until the next one comes.

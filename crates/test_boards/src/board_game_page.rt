@@ -1,5 +1,6 @@
 //! The example on the page of `board_game`.
 
+use board_alarms::When;
 use board_captures::Method;
 use board_game::Game;
 use board_standing::Kind;
@@ -9,6 +10,10 @@ use std::alloc::{AllocError, Global};
 fn is_wrong(alloc: Global, method: &Method, bytes: &[u8]) -> Result<bool, AllocError> {
     let mut game = Game::new(alloc, method);
     let mut lines = Vec::new(alloc);
-    game.take(0, bytes, &mut lines)?;
+    let when = When {
+        at: 0,
+        is_added: false,
+    };
+    game.take(when, bytes, &mut lines)?;
     Ok(game.state(10_000).kind == Kind::Wrong)
 }

@@ -4,8 +4,10 @@
 
 use crate::coded_frames::{expect_none, first_false};
 use board_doubts::Place::{AfterLast, AtLast};
-use board_doubts::Why::{AfterGap, BothElsewhere, Elsewhere, Late};
-use board_doubts::{Doubt, Doubts, Event, Gap, Heard, Place, Played, Why, seen};
+use board_doubts::Why::{
+    AfterGap, BothElsewhere, Elsewhere, Late, OtherTime, TakenBack, Unpressed,
+};
+use board_doubts::{Doubt, Doubts, Event, Gap, Heard, Place, Played, Ply, Why, seen};
 
 /// What is shown or heard.
 #[derive(Clone, Copy)]
@@ -17,6 +19,14 @@ enum Step<'a> {
     /// A move to a position that was there before.
     Repeats,
     Corrects,
+    /// The move before goes from one square to another.
+    Goes(u8, u8),
+    /// So does the correction before.
+    GoesInstead(u8, u8),
+    Runs,
+    Presses,
+    /// Black's time goes down, or White's.
+    Counts(bool),
     Agrees,
     Ends,
     Reopens,
@@ -29,9 +39,10 @@ enum Step<'a> {
     Restart(u64),
 }
 
-use Front::{Kings, Paced, Queen};
+use Front::{Beside, Clocked, Kings, Knight, Paced, PutBack, Queen, Twice, Unclocked};
 use Step::{
-    Agrees, Away, Back, Corrects, Ends, Moves, Picture, Position, Reopens, Repeats, Restart, Stands,
+    Agrees, Away, Back, Corrects, Counts, Ends, Goes, GoesInstead, Moves, Picture, Position,
+    Presses, Reopens, Repeats, Restart, Runs, Stands,
 };
 
 /// How many plies were made, and what is doubted then.
@@ -42,8 +53,15 @@ type Expected = (u8, Place, Why);
 enum Front {
     Nothing,
     Queen,
+    /// What comes behind that of the queen.
+    PutBack,
+    Twice,
+    Beside,
+    Knight,
     Kings,
     Paced,
+    Clocked,
+    Unclocked,
 }
 
 struct Case<'a> {
@@ -86,7 +104,7 @@ fn code_of(letter: u8) -> u8 {
 }
 
 /// The codes of a placement.
-fn codes_of(placement: &str) -> [u8; 64] {
+pub fn codes_of(placement: &str) -> [u8; 64] {
     let mut codes = [0u8; 64];
     let mut square = 0usize;
     for byte in placement.as_bytes() {
@@ -153,6 +171,15 @@ impl Game {
         Heard::Moves { repeats }
     }
 
+    /// The last ply goes from one square to another.
+    fn ply(&self, from: u8, to: u8) -> Ply {
+        Ply {
+            from,
+            to,
+            black: self.plies % 2 == 0,
+        }
+    }
+
     /// What is heard of a step, if anything.
     fn heard(&mut self, step: Step<'_>) -> Option<Heard> {
         match step {
@@ -167,6 +194,11 @@ impl Game {
             Moves => Some(self.moves(false)),
             Repeats => Some(self.moves(true)),
             Corrects => Some(Heard::Corrects { repeats: false }),
+            Goes(from, to) => Some(Heard::Plays(self.ply(from, to))),
+            GoesInstead(from, to) => Some(Heard::Replaces(self.ply(from, to))),
+            Runs => Some(Heard::Clock { runs: true }),
+            Presses => Some(Heard::Presses),
+            Counts(black) => Some(Heard::Counts { black }),
             Agrees => Some(Heard::Agrees),
             Ends => Some(Heard::Ends),
             Reopens => Some(Heard::Reopens),
@@ -228,15 +260,32 @@ fn steps_of(front: Front) -> &'static [(u64, Step<'static>)] {
     match front {
         Front::Nothing => &[],
         Queen => &BEGUN,
+        PutBack => &BACK_IN_PLACE,
+        Twice => &HIDDEN_TWICE,
+        Beside => &KING_AND_QUEEN,
+        Knight => &KNIGHT,
         Kings => &REPEATED,
         Paced => &PLIES,
+        Clocked => &PRESSED,
+        Unclocked => &UNPRESSED,
+    }
+}
+
+/// What comes before that.
+fn before(front: Front) -> Front {
+    match front {
+        PutBack | Twice | Beside => Queen,
+        _ => Front::Nothing,
     }
 }
 
 /// Whether just these doubts come.
 fn is_right(case: &Case<'_>) -> bool {
     let mut game = Game::new();
-    let Some(found) = game.play(steps_of(case.front), case.doubts, 0) else {
+    let Some(found) = game.play(steps_of(before(case.front)), case.doubts, 0) else {
+        return false;
+    };
+    let Some(found) = game.play(steps_of(case.front), case.doubts, found) else {
         return false;
     };
     game.play(case.steps, case.doubts, found) == Some(case.doubts.len())
@@ -260,6 +309,36 @@ static BEGUN: [(u64, Step<'static>); 6] = [
     (5_000, Picture("k7/8/8/8/8/5q2/8/7K")),
     (5_000, Moves),
     (5_000, Position("k7/8/8/8/8/5q2/8/7K", false)),
+];
+
+/// The game goes on while its pieces stand elsewhere: a slow hand puts them where they belong.
+static BACK_IN_PLACE: [(u64, Step<'static>); 7] = [
+    (5_000, Back("k7/8/8/8/6q1/8/8/6K1")),
+    (5_000, Restart(300)),
+    (30_000, Picture("k7/8/8/8/6q1/8/8/8")),
+    (31_000, Picture("k7/8/8/8/6q1/8/8/7K")),
+    (32_000, Picture("k7/8/8/8/8/8/8/7K")),
+    (33_000, Picture("k7/8/8/8/8/5q2/8/7K")),
+    (33_000, Agrees),
+];
+
+/// Two plies are hidden.
+static HIDDEN_TWICE: [(u64, Step<'static>); 7] = [
+    (8_000, Picture("k7/8/8/8/8/5q2/8/8")),
+    (8_200, Picture("k7/8/8/8/8/8/8/8")),
+    (8_500, Picture("k7/8/8/8/8/8/8/6K1")),
+    (8_700, Picture("k7/8/8/8/6q1/8/8/6K1")),
+    (10_000, Picture("k7/8/8/8/6q1/8/8/8")),
+    (10_300, Picture("k7/8/8/8/6q1/8/8/7K")),
+    (12_000, Picture("k7/8/8/8/8/8/8/7K")),
+];
+
+/// The queen is in hand while the king is set down, and shows beside its square.
+static KING_AND_QUEEN: [(u64, Step<'static>); 4] = [
+    (6_000, Picture("k7/8/8/8/8/5q2/8/8")),
+    (6_100, Picture("k7/8/8/8/8/8/8/8")),
+    (6_300, Picture("k7/8/8/8/8/8/8/6K1")),
+    (6_500, Picture("k7/8/8/8/8/6q1/8/6K1")),
 ];
 
 /// A game that is played, ends, or is taken up.
@@ -307,29 +386,14 @@ static PLAYED: [Case<'static>; 6] = [
     },
     // the game goes on while its pieces stand elsewhere: a slow hand puts them where they belong
     Case {
-        front: Queen,
-        steps: &[
-            (5_000, Back("k7/8/8/8/6q1/8/8/6K1")),
-            (5_000, Restart(300)),
-            (30_000, Picture("k7/8/8/8/6q1/8/8/8")),
-            (31_000, Picture("k7/8/8/8/6q1/8/8/7K")),
-            (32_000, Picture("k7/8/8/8/8/8/8/7K")),
-            (33_000, Picture("k7/8/8/8/8/5q2/8/7K")),
-            (33_000, Agrees),
-        ],
+        front: PutBack,
+        steps: &[],
         doubts: &[],
     },
     // the same, and later once more
     Case {
-        front: Queen,
+        front: PutBack,
         steps: &[
-            (5_000, Back("k7/8/8/8/6q1/8/8/6K1")),
-            (5_000, Restart(300)),
-            (30_000, Picture("k7/8/8/8/6q1/8/8/8")),
-            (31_000, Picture("k7/8/8/8/6q1/8/8/7K")),
-            (32_000, Picture("k7/8/8/8/8/8/8/7K")),
-            (33_000, Picture("k7/8/8/8/8/5q2/8/7K")),
-            (33_000, Agrees),
             (40_000, Picture("k7/8/8/8/6q1/8/8/7K")),
             (41_000, Picture("k7/8/8/8/6q1/8/8/6K1")),
             (42_000, Picture("k7/8/8/8/6q1/8/8/7K")),
@@ -451,34 +515,14 @@ fn corrected() -> bool {
 static HIDDEN: [Case<'static>; 5] = [
     // two plies are hidden, and what comes then looks like a correction
     Case {
-        front: Queen,
-        steps: &[
-            (8_000, Picture("k7/8/8/8/8/5q2/8/8")),
-            (8_200, Picture("k7/8/8/8/8/8/8/8")),
-            (8_500, Picture("k7/8/8/8/8/8/8/6K1")),
-            (8_700, Picture("k7/8/8/8/6q1/8/8/6K1")),
-            (10_000, Picture("k7/8/8/8/6q1/8/8/8")),
-            (10_300, Picture("k7/8/8/8/6q1/8/8/7K")),
-            (12_000, Picture("k7/8/8/8/8/8/8/7K")),
-            (12_400, Picture("k7/8/8/8/8/8/4q3/7K")),
-            (12_400, Corrects),
-        ],
+        front: Twice,
+        steps: &[(12_400, Picture("k7/8/8/8/8/8/4q3/7K")), (12_400, Corrects)],
         doubts: &[(1, AtLast, Elsewhere)],
     },
     // two plies are hidden, and the next two lead back
     Case {
-        front: Queen,
-        steps: &[
-            (8_000, Picture("k7/8/8/8/8/5q2/8/8")),
-            (8_200, Picture("k7/8/8/8/8/8/8/8")),
-            (8_500, Picture("k7/8/8/8/8/8/8/6K1")),
-            (8_700, Picture("k7/8/8/8/6q1/8/8/6K1")),
-            (10_000, Picture("k7/8/8/8/6q1/8/8/8")),
-            (10_300, Picture("k7/8/8/8/6q1/8/8/7K")),
-            (12_000, Picture("k7/8/8/8/8/8/8/7K")),
-            (12_400, Picture("k7/8/8/8/8/5q2/8/7K")),
-            (12_400, Agrees),
-        ],
+        front: Twice,
+        steps: &[(12_400, Picture("k7/8/8/8/8/5q2/8/7K")), (12_400, Agrees)],
         doubts: &[(1, AfterLast, BothElsewhere)],
     },
     // the king stands on g1 for 0.1 s while the queen is in hand, and goes back
@@ -530,12 +574,8 @@ fn hidden() -> bool {
 static STRAIGHTENED: [Case<'static>; 4] = [
     // the queen is straightened while the king is set down, and shows beside f3 for a moment
     Case {
-        front: Queen,
+        front: Beside,
         steps: &[
-            (6_000, Picture("k7/8/8/8/8/5q2/8/8")),
-            (6_100, Picture("k7/8/8/8/8/8/8/8")),
-            (6_300, Picture("k7/8/8/8/8/8/8/6K1")),
-            (6_500, Picture("k7/8/8/8/8/6q1/8/6K1")),
             (7_400, Picture("k7/8/8/8/8/8/8/6K1")),
             (7_500, Picture("k7/8/8/8/8/5q2/8/6K1")),
             (7_500, Moves),
@@ -544,12 +584,8 @@ static STRAIGHTENED: [Case<'static>; 4] = [
     },
     // it stands on g3 for a second, and comes back to f3: that is another move of Black's
     Case {
-        front: Queen,
+        front: Beside,
         steps: &[
-            (6_000, Picture("k7/8/8/8/8/5q2/8/8")),
-            (6_100, Picture("k7/8/8/8/8/8/8/8")),
-            (6_300, Picture("k7/8/8/8/8/8/8/6K1")),
-            (6_500, Picture("k7/8/8/8/8/6q1/8/6K1")),
             (7_500, Picture("k7/8/8/8/8/8/8/6K1")),
             (8_500, Picture("k7/8/8/8/8/5q2/8/6K1")),
             (8_500, Moves),
@@ -619,12 +655,8 @@ static DRAWN: [Case<'static>; 3] = [
     },
     // the queen stands on g3 for 0.2 s, and is drawn over f3 as the king stands on g1
     Case {
-        front: Queen,
+        front: Beside,
         steps: &[
-            (6_000, Picture("k7/8/8/8/8/5q2/8/8")),
-            (6_100, Picture("k7/8/8/8/8/8/8/8")),
-            (6_300, Picture("k7/8/8/8/8/8/8/6K1")),
-            (6_500, Picture("k7/8/8/8/8/6q1/8/6K1")),
             (6_700, Picture("k7/8/8/8/8/8/8/6K1")),
             (7_000, Picture("k7/8/8/8/8/5q2/8/6K1")),
             (7_000, Moves),
@@ -635,12 +667,8 @@ static DRAWN: [Case<'static>; 3] = [
     },
     // and it stays there
     Case {
-        front: Queen,
+        front: Beside,
         steps: &[
-            (6_000, Picture("k7/8/8/8/8/5q2/8/8")),
-            (6_100, Picture("k7/8/8/8/8/8/8/8")),
-            (6_300, Picture("k7/8/8/8/8/8/8/6K1")),
-            (6_500, Picture("k7/8/8/8/8/6q1/8/6K1")),
             (6_700, Picture("k7/8/8/8/8/8/8/6K1")),
             (7_000, Picture("k7/8/8/8/8/5q2/8/6K1")),
             (7_000, Moves),
@@ -655,8 +683,82 @@ fn drawn() -> bool {
     are_right(&DRAWN)
 }
 
+/// Black's knight has gone to f6. It stands elsewhere, and so does a piece of White's, which goes back.
+static KNIGHT: [(u64, Step<'static>); 6] = [
+    (0, Position("k5n1/8/8/8/8/8/6P1/R6K", true)),
+    (0, Picture("k5n1/8/8/8/8/8/6P1/R6K")),
+    (0, Agrees),
+    (5_000, Picture("k7/8/5n2/8/8/8/6P1/R6K")),
+    (5_000, Moves),
+    (5_000, Position("k7/8/5n2/8/8/8/6P1/R6K", false)),
+];
+
+/// Pieces that may have gone where they stand, or may not.
+static GOING: [Case<'static>; 4] = [
+    // the knight may have gone to e4, and the rook to a5
+    Case {
+        front: Knight,
+        steps: &[
+            (6_000, Picture("k7/8/8/8/8/8/6P1/R6K")),
+            (6_200, Picture("k7/8/8/8/4n3/8/6P1/R6K")),
+            (6_400, Picture("k7/8/8/R7/4n3/8/6P1/7K")),
+            (6_800, Picture("k7/8/8/8/4n3/8/6P1/R6K")),
+            (7_500, Picture("k7/8/8/8/8/8/6P1/R6K")),
+            (7_600, Picture("k7/8/5n2/8/8/8/6P1/R6K")),
+            (7_600, Agrees),
+        ],
+        doubts: &[(1, AfterLast, BothElsewhere)],
+    },
+    // the rook is beside its square, to which it can't have gone
+    Case {
+        front: Knight,
+        steps: &[
+            (6_000, Picture("k7/8/8/8/8/8/6P1/R6K")),
+            (6_200, Picture("k7/8/8/8/4n3/8/6P1/R6K")),
+            (6_400, Picture("k7/8/8/8/4n3/8/1R4P1/7K")),
+            (6_800, Picture("k7/8/8/8/4n3/8/6P1/R6K")),
+            (7_500, Picture("k7/8/8/8/8/8/6P1/R6K")),
+            (7_600, Picture("k7/8/5n2/8/8/8/6P1/R6K")),
+            (7_600, Agrees),
+        ],
+        doubts: &[],
+    },
+    // so is the knight
+    Case {
+        front: Knight,
+        steps: &[
+            (6_000, Picture("k7/8/8/8/8/8/6P1/R6K")),
+            (6_200, Picture("k7/8/8/5n2/8/8/6P1/R6K")),
+            (6_400, Picture("k7/8/8/R4n2/8/8/6P1/7K")),
+            (6_800, Picture("k7/8/8/5n2/8/8/6P1/R6K")),
+            (7_500, Picture("k7/8/8/8/8/8/6P1/R6K")),
+            (7_600, Picture("k7/8/5n2/8/8/8/6P1/R6K")),
+            (7_600, Agrees),
+        ],
+        doubts: &[],
+    },
+    // a pawn has gone to g4, and never comes back
+    Case {
+        front: Knight,
+        steps: &[
+            (6_000, Picture("k7/8/8/8/8/8/6P1/R6K")),
+            (6_200, Picture("k7/8/8/8/4n3/8/6P1/R6K")),
+            (6_400, Picture("k7/8/8/8/4n1P1/8/8/R6K")),
+            (6_800, Picture("k7/8/8/8/4n3/8/6P1/R6K")),
+            (7_500, Picture("k7/8/8/8/8/8/6P1/R6K")),
+            (7_600, Picture("k7/8/5n2/8/8/8/6P1/R6K")),
+            (7_600, Agrees),
+        ],
+        doubts: &[],
+    },
+];
+
+fn going() -> bool {
+    are_right(&GOING)
+}
+
 /// Times in which the board wasn't heard.
-static AWAY: [Case<'static>; 6] = [
+static AWAY: [Case<'static>; 8] = [
     // a move that comes first after a gap of three seconds, and the pace isn't known
     Case {
         front: Queen,
@@ -679,6 +781,31 @@ static AWAY: [Case<'static>; 6] = [
             (61_000, Moves),
         ],
         doubts: &[],
+    },
+    // nor does one after which the start stands as before
+    Case {
+        front: Front::Nothing,
+        steps: &[
+            (0, Position("k7/8/8/8/6q1/8/8/7K", true)),
+            (0, Picture("k7/8/8/8/6q1/8/8/7K")),
+            (0, Agrees),
+            (0, Away(60_000)),
+            (60_000, Stands),
+        ],
+        doubts: &[],
+    },
+    // but while the clock runs, four plies may have led back to it
+    Case {
+        front: Front::Nothing,
+        steps: &[
+            (0, Position("k7/8/8/8/6q1/8/8/7K", true)),
+            (0, Picture("k7/8/8/8/6q1/8/8/7K")),
+            (0, Agrees),
+            (0, Runs),
+            (0, Away(60_000)),
+            (60_000, Stands),
+        ],
+        doubts: &[(0, AfterLast, AfterGap)],
     },
     // it stands as before after a gap of 6 s, and three are a ply
     Case {
@@ -733,6 +860,55 @@ static AWAY: [Case<'static>; 6] = [
 
 fn away_for_long() -> bool {
     are_right(&AWAY)
+}
+
+/// Pieces that moved more than once meanwhile.
+static ASTRAY: [Case<'static>; 3] = [
+    // the board isn't heard while Re1 Rf5 Re8 Rf4 are played, and then Re1 looks like a move from d1
+    Case {
+        front: Front::Nothing,
+        steps: &[
+            (0, Position("8/8/8/8/5r2/k7/6K1/3R4", false)),
+            (0, Agrees),
+            (1_000, Restart(9_000)),
+            (10_000, Picture("4R3/8/8/8/5r2/k7/6K1/8")),
+            (11_000, Picture("8/8/8/8/5r2/k7/6K1/8")),
+            (11_400, Picture("8/8/8/8/5r2/k7/6K1/4R3")),
+            (11_400, Moves),
+        ],
+        doubts: &[(1, AtLast, BothElsewhere)],
+    },
+    // a pawn stands on e3 as it is heard again, and goes on
+    Case {
+        front: Front::Nothing,
+        steps: &[
+            (0, Position("8/8/8/8/5r2/k7/4P1K1/8", false)),
+            (0, Agrees),
+            (1_000, Away(9_000)),
+            (10_000, Picture("8/8/8/8/5r2/k3P3/6K1/8")),
+            (11_000, Picture("8/8/8/8/5r2/k7/6K1/8")),
+            (11_400, Picture("8/8/8/8/4Pr2/k7/6K1/8")),
+            (11_400, Moves),
+        ],
+        doubts: &[(1, AtLast, BothElsewhere)],
+    },
+    // the same while the board is heard
+    Case {
+        front: Front::Nothing,
+        steps: &[
+            (0, Position("8/8/8/8/5r2/k7/4P1K1/8", false)),
+            (0, Agrees),
+            (10_000, Picture("8/8/8/8/5r2/k3P3/6K1/8")),
+            (11_000, Picture("8/8/8/8/5r2/k7/6K1/8")),
+            (11_400, Picture("8/8/8/8/4Pr2/k7/6K1/8")),
+            (11_400, Moves),
+        ],
+        doubts: &[],
+    },
+];
+
+fn stray() -> bool {
+    are_right(&ASTRAY)
 }
 
 /// Pieces in a hand as it is heard again.
@@ -897,6 +1073,190 @@ fn paced() -> bool {
     are_right(&PACES)
 }
 
+/// Both sides move a knight, ten seconds a ply, and press the clock.
+static PRESSED: [(u64, Step<'static>); 7] = [
+    (0, Runs),
+    (10_000, Moves),
+    (10_000, Goes(62, 45)),
+    (10_500, Presses),
+    (20_000, Moves),
+    (20_000, Goes(6, 21)),
+    (20_500, Presses),
+];
+
+/// They do so without a clock.
+static UNPRESSED: [(u64, Step<'static>); 4] = [
+    (10_000, Moves),
+    (10_000, Goes(62, 45)),
+    (20_000, Moves),
+    (20_000, Goes(6, 21)),
+];
+
+/// Knights go back.
+static TAKEN_BACK: [Case<'static>; 6] = [
+    // both, and nobody presses the clock
+    Case {
+        front: Clocked,
+        steps: &[
+            (23_000, Moves),
+            (23_000, Goes(45, 62)),
+            (25_000, Moves),
+            (25_000, Goes(21, 6)),
+        ],
+        doubts: &[(4, AtLast, TakenBack)],
+    },
+    // the clock is pressed between them: both are moves
+    Case {
+        front: Clocked,
+        steps: &[
+            (23_000, Moves),
+            (23_000, Goes(45, 62)),
+            (24_000, Presses),
+            (25_000, Moves),
+            (25_000, Goes(21, 6)),
+        ],
+        doubts: &[],
+    },
+    // Black's goes elsewhere
+    Case {
+        front: Clocked,
+        steps: &[
+            (23_000, Moves),
+            (23_000, Goes(45, 62)),
+            (25_000, Moves),
+            (25_000, Goes(21, 4)),
+        ],
+        doubts: &[],
+    },
+    // without a clock three seconds later, drawn over e8
+    Case {
+        front: Unclocked,
+        steps: &[
+            (30_000, Moves),
+            (30_000, Goes(45, 62)),
+            (33_000, Moves),
+            (33_000, Goes(21, 4)),
+            (33_100, Corrects),
+            (33_100, GoesInstead(21, 6)),
+        ],
+        doubts: &[(4, AtLast, TakenBack)],
+    },
+    // a bit later: it was thought about
+    Case {
+        front: Unclocked,
+        steps: &[
+            (30_000, Moves),
+            (30_000, Goes(45, 62)),
+            (33_100, Moves),
+            (33_100, Goes(21, 6)),
+        ],
+        doubts: &[],
+    },
+    // players who need six seconds for two of three plies
+    Case {
+        front: Unclocked,
+        steps: &[
+            (26_000, Moves),
+            (26_000, Goes(45, 62)),
+            (29_000, Moves),
+            (29_000, Goes(21, 6)),
+        ],
+        doubts: &[],
+    },
+];
+
+fn taken_back() -> bool {
+    are_right(&TAKEN_BACK)
+}
+
+/// Where plies go that nobody takes back.
+static WAYS: [(u8, u8); 8] = [
+    (0, 40),
+    (9, 39),
+    (2, 38),
+    (11, 37),
+    (4, 36),
+    (13, 35),
+    (6, 34),
+    (15, 33),
+];
+
+/// After how many of six plies the clock is pressed, if it is, and whether the sixth is doubted.
+static LEFT: [(Option<usize>, bool); 3] = [(None, true), (Some(1), false), (Some(5), false)];
+
+fn is_left(pressed: Option<usize>, expected: bool) -> bool {
+    let mut game = Game::new();
+    game.play(&PRESSED, &[], 0);
+    let mut now = 30_000u64;
+    for ply in 0..6usize {
+        let (from, to) = WAYS[ply];
+        let last: &[Expected] = if expected && ply == 5 {
+            &[(8, AtLast, Unpressed)]
+        } else {
+            &[]
+        };
+        if pressed == Some(ply) {
+            game.doubt(now, Presses);
+        }
+        if game.play(&[(now, Moves), (now, Goes(from, to))], last, 0) != Some(last.len()) {
+            return false;
+        }
+        now = now.saturating_add(5_000);
+    }
+    true
+}
+
+fn left() -> bool {
+    for (pressed, expected) in LEFT {
+        if !is_left(pressed, expected) {
+            return false;
+        }
+    }
+    true
+}
+
+/// Whether it is Black's time that runs before each of eight plies, and whether the last ply is doubted.
+static LENT: [([bool; 8], bool); 3] = [
+    // each is thought about on its own side's
+    ([false, true, false, true, false, true, false, true], false),
+    // only the second one is
+    ([true, true, true, false, true, false, true, false], true),
+    // the second one and the fifth
+    ([true, true, true, false, false, false, true, false], false),
+];
+
+fn is_lent(counting: [bool; 8], expected: bool) -> bool {
+    let mut game = Game::new();
+    let mut now = 9_000u64;
+    for ply in 0..8usize {
+        let (from, to) = WAYS[ply];
+        let last: &[Expected] = if expected && ply == 7 {
+            &[(8, AtLast, OtherTime)]
+        } else {
+            &[]
+        };
+        let steps = [
+            (now, Counts(counting[ply])),
+            (now, Moves),
+            (now, Goes(from, to)),
+        ];
+        if game.play(&steps, last, 0) != Some(last.len()) {
+            return false;
+        }
+        now = now.saturating_add(10_000);
+    }
+    true
+}
+
+fn lent() -> bool {
+    for (counting, expected) in LENT {
+        if !is_lent(counting, expected) {
+            return false;
+        }
+    }
+    true
+}
+
 /// Milliseconds from a move to its correction, and whether that is late.
 static CORRECTIONS: [(u64, bool); 4] = [
     (0, false),
@@ -968,17 +1328,52 @@ fn are_limits() -> bool {
     true
 }
 
-/// White's king also stands on a1, and Black's queen on g4.
-fn are_elsewhere() -> bool {
-    let position = codes_of("k7/8/8/8/8/5q2/8/7K");
+/// Pictures after this position, in which White is to move, and to which squares pieces of White's and of Black's may have gone.
+static FROM: &str = "3qk3/5p2/8/8/8/8/6P1/RNB1K2R";
+
+static GONE: [(&str, u64, u64); 10] = [
+    // each piece where it belongs
+    ("3qk3/5p2/8/8/8/8/6P1/RNB1K2R", 0, 0),
+    // the king goes to d1, the queen to a5
+    ("4k3/5p2/8/q7/8/8/6P1/RNBK3R", 1 << 59, 1 << 24),
+    // the king to g1, the queen to a4: there's no such way
+    ("4k3/5p2/8/8/q7/8/6P1/RNB3KR", 0, 0),
+    // knight and bishop to c3 and e3
+    ("3qk3/5p2/8/8/8/2N1B3/6P1/R3K2R", 1 << 42 | 1 << 44, 0),
+    // to b3 and e2
+    ("3qk3/5p2/8/8/8/1N6/4B1P1/R3K2R", 0, 0),
+    // a pawn of each side goes on
+    ("3qk3/8/5p2/8/6P1/8/8/RNB1K2R", 0, 0),
+    // a rook to b2, which neither rook reaches
+    ("3qk3/5p2/8/8/8/8/1R4P1/1NB1K2R", 0, 0),
+    // to h2, beside h1
+    ("3qk3/5p2/8/8/8/8/6PR/RNB1K3", 1 << 55, 0),
+    // over a knight and a bishop, which may have been away meanwhile
+    ("3qk3/5p2/8/8/8/8/6P1/1NBRK2R", 1 << 59, 0),
+    // a third rook on a4: no rook is missing
+    ("3qk3/5p2/8/8/R7/8/6P1/RNB1K2R", 0, 0),
+];
+
+/// Whether just these pieces have gone, from this position.
+fn have_gone(position: &[u8; 64], picture: &str, own: u64, others: u64) -> bool {
     let played = Played {
         black: false,
-        position: &position,
-        before: &position,
-        earlier: &position,
+        position,
+        before: position,
+        earlier: position,
     };
-    let shown = seen(&played, &codes_of("k7/8/8/8/6q1/8/8/K6K"));
-    shown.own == 1 << 56 && shown.others == 1 << 38
+    let shown = seen(&played, &codes_of(picture));
+    shown.own == own && shown.others == others
+}
+
+fn are_elsewhere() -> bool {
+    let position = codes_of(FROM);
+    for (picture, own, others) in GONE {
+        if !have_gone(&position, picture, own, others) {
+            return false;
+        }
+    }
+    true
 }
 
 #[test]
@@ -989,10 +1384,15 @@ fn news_is_doubted(rt: HostRuntime) {
         hidden(),
         straightened(),
         drawn(),
+        going(),
         away_for_long(),
+        stray(),
         touched(),
         restarted(),
         paced(),
+        taken_back(),
+        left(),
+        lent(),
         are_limits(),
         are_elsewhere(),
     ];

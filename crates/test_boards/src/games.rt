@@ -4,8 +4,9 @@ ghost use Rattle.std.specs.Prelude.{OnOk};
 ghost use Rattle.board_game.specs.Games.{HasBegun};
 
 use crate::coded_frames::{expect_none, first_false};
+use board_alarms::When;
 use board_captures::Method;
-use board_game::Game;
+use board_game::{Game, Note};
 use board_standing::Heard::{Begins, Plugs, Unplugs};
 use board_standing::{Heard, Hint, Kind, State};
 use chess_rules::Position;
@@ -101,13 +102,14 @@ fn come(game: &mut Game, at: u64, one: &Came<'_>, lines: &mut Vec<u8>) -> Result
 {
     match one {
         Came::Sent(signal) => {
-            game.take(at, bytes_of(&[*signal]).get(), lines)?;
+            let when = When {
+                at,
+                is_added: false,
+            };
+            game.take(when, bytes_of(&[*signal]).get(), lines)?;
             Ok(())
         }
-        Came::Line(heard) => {
-            game.tell(at, *heard);
-            Ok(())
-        }
+        Came::Line(heard) => { game.tell(at, Note::Line(*heard)) }
     }
 }
 

@@ -2,9 +2,9 @@
 //! times; of `board_captures` and `going_back`, captures that go back; of `board_asking`, what a board is sent when, and what is
 //! done with what it sends; of `board_cable`, the same with its bytes; of `board_times`, files of times; of `square_runs`, since
 //! when squares are in masks; of `board_standing`, how a board stands; of `board_doubts`, which news of a game is doubtful;
-//! of `game_ends`, where a game ended; of `board_game`, one game while its capture grows; of `board_live`, a board that is
-//! recorded; of `answer_lines`, the lines of an answer; of `live_lines`, what a host tells a recorder, and what it is
-//! answered.
+//! of `board_looks` and `board_alarms`, which alarms are open; of `game_ends`, where a game ended; of `game_over` and
+//! `board_endings`, whether it is over; of `board_game`, one game while its capture grows; of `board_live`, a board that is recorded; of `answer_lines`, the lines of an
+//! answer; of `live_lines`, what a host tells a recorder, and what it is answered.
 //!
 //! The files `NAME_page.rt` have the examples on the crates' pages, as they stand there: `tests/pages` compares them. They are here
 //! since they load the same libraries.
@@ -13,9 +13,13 @@
 #[cfg(test)]
 mod adding_page;
 #[cfg(test)]
+mod alarmed;
+#[cfg(test)]
 mod answer_lines_page;
 #[cfg(test)]
 mod backs;
+#[cfg(test)]
+mod board_alarms_page;
 #[cfg(test)]
 mod board_asking_page;
 #[cfg(test)]
@@ -25,6 +29,8 @@ mod board_captures_page;
 #[cfg(test)]
 mod board_doubts_page;
 #[cfg(test)]
+mod board_endings_page;
+#[cfg(test)]
 mod board_events_page;
 #[cfg(test)]
 mod board_game_page;
@@ -32,6 +38,9 @@ mod board_game_page;
 mod board_listing_page;
 #[cfg(test)]
 mod board_live_page;
+mod board_looks_page;
+#[cfg(test)]
+mod board_over;
 #[cfg(test)]
 mod board_session_page;
 #[cfg(test)]
@@ -61,6 +70,8 @@ mod ended;
 #[cfg(test)]
 mod game_ends_page;
 #[cfg(test)]
+mod game_over_page;
+#[cfg(test)]
 mod games;
 #[cfg(test)]
 mod going_back_page;
@@ -69,7 +80,11 @@ mod hints;
 #[cfg(test)]
 mod histories;
 #[cfg(test)]
+mod live_alarms;
+#[cfg(test)]
 mod nearest;
+#[cfg(test)]
+mod over;
 #[cfg(test)]
 mod pair_frames_page;
 #[cfg(test)]

@@ -101,7 +101,7 @@ static FIRST_CALL: [Row<'static>; 16] = [
 74 agrees
 ",
         says: Some((Kind::Agrees, Some(120), 0)),
-        due: Some(205),
+        due: Some(1_005),
         ..QUIET
     },
     Row {
@@ -116,7 +116,7 @@ static FIRST_CALL: [Row<'static>; 16] = [
         what: Cable(Hears),
         bytes: &[START],
         kept: &[START],
-        due: Some(1_205),
+        due: Some(2_005),
         ..QUIET
     },
     Row {
@@ -128,7 +128,7 @@ static FIRST_CALL: [Row<'static>; 16] = [
 146 differs e2
 ",
         says: Some((Kind::InHand, Some(1_100), E2)),
-        due: Some(1_205),
+        due: Some(2_005),
         ..QUIET
     },
     Row {
@@ -141,7 +141,7 @@ static FIRST_CALL: [Row<'static>; 16] = [
 151 position rnbqkbnr/pppppppp/8/8/4P3/8/PPPP1PPP/RNBQKBNR b KQkq e3 0 1
 ",
         says: Some((Kind::Agrees, Some(1_300), 0)),
-        due: Some(1_800),
+        due: Some(2_005),
         ..QUIET
     },
     Row {
@@ -178,7 +178,7 @@ static FIRST_CALL: [Row<'static>; 16] = [
         what: Cable(Closes),
         handling: "hold",
         says: Some((Kind::Unplugged, Some(7_000), 0)),
-        due: Some(7_100),
+        due: Some(8_005),
         ..QUIET
     },
     Row {
@@ -195,7 +195,7 @@ static FIRST_CALL: [Row<'static>; 16] = [
         what: Cable(Hears),
         bytes: &[E4],
         handling: "hold",
-        due: Some(20_200),
+        due: Some(21_000),
         ..QUIET
     },
     Row {
@@ -203,7 +203,7 @@ static FIRST_CALL: [Row<'static>; 16] = [
         what: Cable(Hears),
         bytes: &[NUMBER],
         kept: &[E4, NUMBER],
-        due: Some(20_200),
+        due: Some(21_000),
         ..QUIET
     },
 ];
@@ -322,7 +322,7 @@ static NEXT_CALL: [Row<'static>; 6] = [
         bytes: &[NUMBER, E4],
         kept: &[NUMBER, E4],
         says: Some((Kind::Agrees, Some(1_300), 0)),
-        due: Some(30_210),
+        due: Some(31_010),
         ..QUIET
     },
     Row {
@@ -336,7 +336,7 @@ static NEXT_CALL: [Row<'static>; 6] = [
 311 move 1... e5
 311 position rnbqkbnr/pppp1ppp/8/4p3/4P3/8/PPPP1PPP/RNBQKBNR w KQkq e6 0 2
 ",
-        due: Some(30_210),
+        due: Some(31_010),
         ..QUIET
     },
     Row {
@@ -349,7 +349,7 @@ static NEXT_CALL: [Row<'static>; 6] = [
 378 position rnbqkbnr/pppp1ppp/8/4p3/4P3/8/PPPP1PPP/RNBQKBNR w KQkq e6 0 2
 ",
         says: Some((Kind::Ended, Some(31_000), 0)),
-        due: Some(31_010),
+        due: Some(32_000),
         ..QUIET
     },
     Row {
@@ -386,7 +386,7 @@ static TAKEN: [Row<'static>; 6] = [
         what: Cable(Hears),
         bytes: &[START],
         handling: "hold",
-        due: Some(205),
+        due: Some(1_005),
         ..QUIET
     },
     Row {
@@ -394,7 +394,7 @@ static TAKEN: [Row<'static>; 6] = [
         what: Cable(Hears),
         bytes: &[OTHERS_NUMBER],
         handling: "other",
-        due: Some(205),
+        due: Some(1_005),
         ..QUIET
     },
     Row {
@@ -435,7 +435,7 @@ static LONG: [Row<'static>; 5] = [
 66 agrees
 ",
         says: Some((Kind::Agrees, Some(100), 0)),
-        due: Some(200),
+        due: Some(1_000),
         ..QUIET
     },
     Row {
@@ -447,7 +447,7 @@ static LONG: [Row<'static>; 5] = [
 71 differs e2
 ",
         says: Some((Kind::InHand, Some(210), E2)),
-        due: Some(710),
+        due: Some(1_000),
         ..QUIET
     },
     Row {

@@ -12,7 +12,7 @@ static DIGESTS: [(&str, u64); 3] = [
 ];
 
 /// A file, and what stands in it: `missing`, `unreadable`, `newer` or `times`; how many events, and how many bytes behind them.
-static FILES: [(&str, &str, usize, usize); 15] = [
+static FILES: [(&str, &str, usize, usize); 17] = [
     ("", "missing", 0, 0),
     ("1", "unreadable", 0, 0),
     ("1 times 0", "unreadable", 0, 0),
@@ -31,6 +31,18 @@ static FILES: [(&str, &str, usize, usize); 15] = [
         "times",
         3,
         0,
+    ),
+    (
+        "1 times 0\n1 digest 12638187200555641996\n0 begin 1\n5 ok\n6 back\n7 suspect 3\n",
+        "times",
+        4,
+        0,
+    ),
+    (
+        "1 times 0\n1 digest 12638187200555641996\n0 begin 1\n5 ok\n6 suspect\n",
+        "times",
+        2,
+        10,
     ),
     (
         "1 times 0\n1 digest 12638187200555641996\n0 begin 1\n5 opened\n12 heard 6",
@@ -208,7 +220,7 @@ fn first_other_digest() -> Option<usize> {
 fn files_are_read_and_fit_their_captures(rt: HostRuntime) {
     let holds = [
         first_unlike(rt.alloc()).is_none(),
-        is_written_again(rt.alloc(), FILES[14].0),
+        is_written_again(rt.alloc(), FILES[16].0),
         first_misfit(rt.alloc()).is_none(),
         first_other_digest().is_none(),
     ];

@@ -40,7 +40,7 @@ static ROWS: [Row<'static>; 15] = [
         &[Dump(INITIAL)],
         "kept 67\n",
         &[Dump(INITIAL)],
-        "74 picture rnbqkbnr/pppppppp/8/8/8/8/PPPPPPPP/RNBQKBNR\n74 agrees\nkeep\nstate AGREES 0\ndone 85\n",
+        "74 picture rnbqkbnr/pppppppp/8/8/8/8/PPPPPPPP/RNBQKBNR\n74 agrees\nkeep\nstate AGREES 0\ndone 885\n",
     ),
     ("1005 wake\n", &[], "", &[], "keep\nask B\ndone 1000\n"),
     (
@@ -48,14 +48,14 @@ static ROWS: [Row<'static>; 15] = [
         &[Raw(b"\x8E\x00\x05\x34\x00")],
         "kept 5\n",
         &[Raw(b"\x8E\x00\x05\x34\x00")],
-        "79 picture rnbqkbnr/pppppppp/8/8/8/8/PPPP1PPP/RNBQKBNR\n79 differs e2\nkeep\nstate IN-HAND 0 e2\ndone 500\n",
+        "79 picture rnbqkbnr/pppppppp/8/8/8/8/PPPP1PPP/RNBQKBNR\n79 differs e2\nkeep\nstate IN-HAND 0 e2\ndone 905\n",
     ),
     (
         "1500 gone\n",
         &[],
         "",
         &[],
-        "keep\nstate UNPLUGGED 0\ndone 100\n",
+        "keep\nstate UNPLUGGED 0\ndone -\n",
     ),
     // a second call, on the same clock: the first one ended at 1500, without a line
     (

@@ -40,7 +40,7 @@ static MESSAGES: [([u8; 7], Option<bool>); 9] = [
     ([0x11, 0x30, 0x00, 0x21, 0x00, 0x00, 0x01], Some(true)),
 ];
 
-static CASES: [Case<'static>; 24] = [
+static CASES: [Case<'static>; 25] = [
     Case {
         name: "no clock",
         steps: &[
@@ -116,7 +116,7 @@ static CASES: [Case<'static>; 24] = [
         tried: &[(2, 2), (3, 3)],
     },
     Case {
-        name: "two are tried at once",
+        name: "two are tried at once: only one may be seen late",
         steps: &[
             (1_000, RUNS),
             (9_000, Moves),
@@ -127,7 +127,7 @@ static CASES: [Case<'static>; 24] = [
             (42_500, Moves),
             (50_000, Moves),
         ],
-        tried: &[(3, 3)],
+        tried: &[(2, 2), (3, 3)],
     },
     Case {
         name: "a move that is seen late, and then it goes on",
@@ -142,6 +142,19 @@ static CASES: [Case<'static>; 24] = [
             (70_000, Moves),
         ],
         tried: &[(1, 1)],
+    },
+    Case {
+        name: "a move is seen late after each of two stops",
+        steps: &[
+            (1_000, RUNS),
+            (9_000, Moves),
+            (40_000, STOPS),
+            (41_000, Moves),
+            (50_000, RUNS),
+            (60_000, STOPS),
+            (62_000, Moves),
+        ],
+        tried: &[],
     },
     Case {
         name: "the last move is put right after the stop",

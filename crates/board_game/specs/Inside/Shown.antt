@@ -1,5 +1,5 @@
 -- What is known of the pictures of a list of events, which has the latest first.
-use Rattle.std.specs.Prelude.{◌≡◌, ℕ, true, false, List, ◌∷◌, reverse, Some, is_some}
+use Rattle.std.specs.Prelude.{◌≡◌, ℕ, Bool, true, false, List, ◌∷◌, reverse, Some, is_some}
 use Rattle.chess_rules.specs.Picture.{picture}
 use Rattle.dgt_frame.specs.declared.events.Event.{Event}
 use Rattle.settle_core.specs.Entries.{last_picture, repeats}
@@ -28,3 +28,8 @@ IsShown setting past event Again = (is_entry event past ≡ true) × (repeats (p
 IsShown setting past event (Another changed turned) = IsNew setting past event
     × Changes (last_picture (entries_in setting past)) (picture_of setting.rotated (event ∷ past)) changed
     × IsMask turned (reverse (picture setting.start)) (picture_of setting.rotated (event ∷ past))
+
+abbrev pub is_another : Shown → Bool
+is_another Nothing = false
+is_another Again = false
+is_another (Another changed turned) = true

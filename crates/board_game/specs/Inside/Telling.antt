@@ -7,6 +7,9 @@ use Rattle.dgt_frame.specs.Streams.{Timed}
 use Rattle.unseen_pairs.specs.declared.pair.Recovery.{Recovery}
 use Rattle.board_events.specs.Commands.{past_of}
 use Rattle.board_events.specs.Settings.{Setting}
+use Rattle.board_alarms.specs.declared.event_heard.When.{When}
+use Rattle.board_alarms.specs.Keeping.{StandsFor as AlarmsStand}
+use Rattle.board_endings.specs.Keeping.{StandsFor as EndingsStand}
 use Rattle.board_listing.specs.Inside.Watchers.{HasWatched}
 use Rattle.board_standing.specs.declared.heard.Event.{Event as Told}
 use Rattle.board_standing.specs.Keeping.{StandsFor as StandingStands}
@@ -14,6 +17,8 @@ use Rattle.recovery.specs.declared.keeper.Keeper.{Keeper}
 use Rattle.recovery.specs.Inside.Passing.{Adds as AddsPair, KeepsWithPutIn, added}
 use Rattle.board_game.specs.declared.following.Following.{Following}
 use Rattle.board_game.specs.declared.telling.Teller.{Teller}
+use Rattle.board_game.specs.Alarming.{alarm_items}
+use Rattle.board_game.specs.Ending.{end_items}
 use Rattle.board_game.specs.Hearing.{Hears}
 use Rattle.board_game.specs.History.{Adds, AreShown, Came, Finds, Item, Makes, bytes_of, events_of}
 use Rattle.board_game.specs.Inside.Shown.{HasSeen}
@@ -26,6 +31,8 @@ pub record HasTold (teller : Teller) (setting : Setting) (items : List Item) (te
   pub heard : List Told
   pub hears : Hears setting items heard
   pub standing : StandingStands teller.standing heard
+  pub alarms : AlarmsStand teller.alarms setting (alarm_items items)
+  pub endings : EndingsStand teller.endings setting (end_items items)
   pub reports : Reports setting items text
 
 -- Where pairs are recovered, the keeper was given the first events, and the second ones are those with what was put in;
@@ -49,7 +56,7 @@ pub record HasFollowed (following : Following) (setting : Setting) (recovers : B
 
 -- Behind what came before, these bytes came at this time, and the second lines are the first ones with what was told of
 -- them.
-pub record IsWithin (decoder : Decoder) (following : Following) (setting : Setting) (recovers : Bool) (past : List Came) (before text : List ℕ) (time : ℕ)
+pub record IsWithin (decoder : Decoder) (following : Following) (setting : Setting) (recovers : Bool) (past : List Came) (before text : List ℕ) (time : When)
     (bytes lines lines' : List ℕ) : Type 0 where
   pub events : List Timed
   pub later : List Timed

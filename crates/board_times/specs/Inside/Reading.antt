@@ -3,10 +3,10 @@ use Rattle.std.specs.Prelude.{ℕ, ◌==◌, not, Bool, List, Option, Some, None
 use Rattle.std.specs.List.{list_all}
 use Rattle.std.specs.Str.{bytes_eq}
 use Rattle.board_times.specs.declared.words.Word.{Word}
-use Rattle.board_times.specs.declared.words.Word.TheVariants.{Version, Digest, Begin, Away, Opened, Answered, Gone, Called, Heard, Added, Stopped, Asked, Took, Over, Wake, Lent, Number, Kept, Capture, Text}
+use Rattle.board_times.specs.declared.words.Word.TheVariants.{Version, Digest, Begin, Away, Opened, Answered, Gone, Called, Heard, Added, Stopped, Asked, Took, Over, Looked, Back, Suspect, Wake, Lent, Number, Kept, Capture, Text}
 use Rattle.board_times.specs.declared.lines.Line.{Line}
 use Rattle.board_times.specs.declared.events.What.{What}
-use Rattle.board_times.specs.declared.events.What.TheVariants.{Begins, IsAway, Opens, Answers, Goes, Calls, Hears, Adds, Stops, Asks, Takes, Ends}
+use Rattle.board_times.specs.declared.events.What.TheVariants.{Begins, IsAway, Opens, Answers, Goes, Calls, Hears, Adds, Stops, Asks, Takes, Ends, Looks, PutsBack, Suspects}
 use Rattle.board_times.specs.declared.events.Event.{Event}
 
 -- the text has no byte like this
@@ -30,13 +30,16 @@ word_read text =
     else (if bytes_eq text (codes "asked") then Some Asked
     else (if bytes_eq text (codes "took") then Some Took
     else (if bytes_eq text (codes "over") then Some Over
+    else (if bytes_eq text (codes "ok") then Some Looked
+    else (if bytes_eq text (codes "back") then Some Back
+    else (if bytes_eq text (codes "suspect") then Some Suspect
     else (if bytes_eq text (codes "wake") then Some Wake
     else (if bytes_eq text (codes "lent") then Some Lent
     else (if bytes_eq text (codes "number") then Some Number
     else (if bytes_eq text (codes "kept") then Some Kept
     else (if bytes_eq text (codes "capture") then Some Capture
     else (if bytes_eq text (codes "text") then Some Text
-    else None)))))))))))))))))))
+    else None))))))))))))))))))))))
 
 -- what happens with a word and a number, if anything does
 abbrev pub what_of : Word → Option ℕ → Option What
@@ -52,6 +55,9 @@ what_of Stopped (Some n) = Some (Stops n)
 what_of Asked (Some n) = Some (Asks n)
 what_of Took None = Some Takes
 what_of Over (Some n) = Some (Ends n)
+what_of Looked None = Some Looks
+what_of Back None = Some PutsBack
+what_of Suspect (Some n) = Some (Suspects n)
 what_of _ _ = None
 
 -- the event of a line, if it has one

@@ -1,7 +1,10 @@
-use Rattle.std.proofs.Common.{◌≡◌, ◌==◌, ◌&&◌, slice_index}
-use Rattle.square_runs.specs.Squares.{any_below}
+use Rattle.std.proofs.Common.{◌==◌, ◌&&◌, slice_index}
 use Rattle.board_doubts.specs.Elsewhere.{is_of}
+use Rattle.board_doubts.proofs.Walking.{NoneMeets}
 use Rattle.board_doubts.proofs.elsewhere.is_lifted.Given as goal
 
-abbrev pub invariant-loop-s : goal.invariant-loop-s
-invariant-loop-s l = l.found ≡ any_below l.s (λ s. is_of l.black (slice_index l.position s) && (slice_index l.picture s == 0))
+abbrev pub invariant-left : goal.invariant-left
+invariant-left l = NoneMeets l.left (λ s. is_of l.black (slice_index l.position s) && (slice_index l.picture s == 0))
+
+abbrev pub decreases-left : goal.decreases-left
+decreases-left l = l.left

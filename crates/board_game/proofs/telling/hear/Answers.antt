@@ -9,13 +9,12 @@ use Rattle.board_game.proofs.PlyLemmas.{grows}
 use Rattle.board_game.proofs.telling.hear.Goals as goal
 
 pub returns : goal.returns
-returns c = λ setting past event before heard watched stage shown stands.
-    let new = c.stage_of-new.ensures setting (event ∷ past) watched in
+returns c = λ setting past event before heard watched stage new shown stands.
     let settler = c.args.watcher.now.follower.session.settler in
     let after = settler.score in
     let same : c.settler-settler.result.now ≡ settler = c.settler-settler.ensures.same ∙ ap (λ (s : State). s.settler) c.session.ensures in
     let H : SettlerState → Type 0 = λ s. HasSettled s setting.start (entries_in setting (event ∷ past)) → IsStage c.args.old.now setting past before
-    → IsStage c.stage_of-new.result setting (event ∷ past) s.score → Grows before.plies s.score.plies → IsShown setting past event c.args.shown
+    → IsStage c.args.new.now setting (event ∷ past) s.score → Grows before.plies s.score.plies → IsShown setting past event c.args.shown
     → HearsPicture setting past event before s.score c.picture_heard-picture.result in
     let picture = subst H same (c.picture_heard-picture.ensures setting past event before) in (
       c.picture_heard-picture.result,
@@ -24,7 +23,7 @@ returns c = λ setting past event before heard watched stage shown stands.
         before = before;
         after = after;
         old = c.args.old.now.result;
-        new = c.stage_of-new.result.result;
+        new = c.args.new.now.result;
         folds_before = stage.folds;
         folds = new.folds;
         old_is = stage.result_is;

@@ -35,3 +35,12 @@ returns-in-Takes c = rw c.in-Takes.is c.add_text-in-Takes.ensures
 
 pub returns-in-Ends : goal.returns-in-Ends
 returns-in-Ends c = rw c.in-Ends.is c.add_with_decimal-in-Ends.ensures
+
+pub returns-in-Looks : goal.returns-in-Looks
+returns-in-Looks c = rw c.in-Looks.is c.add_text-in-Looks.ensures
+
+pub returns-in-PutsBack : goal.returns-in-PutsBack
+returns-in-PutsBack c = rw c.in-PutsBack.is c.add_text-in-PutsBack.ensures
+
+pub returns-in-Suspects : goal.returns-in-Suspects
+returns-in-Suspects c = rw c.in-Suspects.is c.add_with_decimal-in-Suspects.ensures

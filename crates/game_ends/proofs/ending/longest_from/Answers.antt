@@ -1,4 +1,4 @@
-use Rattle.game_ends.proofs.Tails.{better, is_longest, no_better}
+use Rattle.game_ends.proofs.Tails.{better, is_first, is_longest, no_better}
 use Rattle.game_ends.proofs.ending.longest_from.Goals as goal
 use Rattle.game_ends.proofs.ending.longest_from.Goals.{else-time-other, then-time-other}
 
@@ -13,3 +13,6 @@ loop-i-preserved c =
 
 pub returns-clause-longest : goal.returns-clause-longest
 returns-clause-longest c = is_longest c.args.first c.loop-i.i c.loop-i.kept c.loop-i.time c.args.moves.now c.loop-i.invariant c.loop-i-test.false
+
+pub returns-clause-is_first : goal.returns-clause-is_first
+returns-clause-is_first c = is_first c.args.first c.loop-i.i c.loop-i.kept c.loop-i.time c.args.moves.now c.loop-i.invariant

@@ -7,7 +7,7 @@ pub returns-then-is_nothing-clause-told : goal.returns-then-is_nothing-clause-to
 returns-then-is_nothing-clause-told c = λ setting recovers past text s. (
   [],
   sym (append-nil c.args.lines.now.items),
-  stays_so c.args.live.now setting recovers past _ text (none_kept c.args.at c.args.bytes.now past (c.is_nothing.ensures.0 (search rules))) s,
+  stays_so c.args.live.now setting recovers past _ text (none_kept c.args.at c.args.added c.args.bytes.now past (c.is_nothing.ensures.0 (search rules))) s,
 )
 
 pub returns-clause-told : goal.returns-clause-told
@@ -15,5 +15,5 @@ returns-clause-told c = λ setting recovers past text s.
     let took = c.in_ok-take.ensures.stands setting recovers past text s in (
       took.0,
       took.1,
-      stands_by c.take.new.self setting recovers _ _ _ (some_kept c.args.at c.args.bytes.now past (search rules)) took.2,
+      stands_by c.take.new.self setting recovers _ _ _ (some_kept c.args.at c.args.added c.args.bytes.now past c.kept_as-what.result c.kept_as-what.ensures (search rules)) took.2,
     )

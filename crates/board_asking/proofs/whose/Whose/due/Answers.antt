@@ -11,5 +11,6 @@ awaited_alike now later (Some since) dumps h = ap (λ b. not b && nat_lt dumps 3
 pub returns-clause-waits : goal.returns-clause-waits
 returns-clause-waits c past stands later fits from before =
     let now : ℕ = c.args.now in
-    let h = ap (has_lasted 5000 later) (sym stands.awaited_is) ∙ c.sooner.ensures.same later fits from before ∙ ap (has_lasted 5000 now) stands.awaited_is in
+    let same = sym (c.after.ensures later fits) ∙ c.to_come.ensures.same later from before ∙ c.after.ensures now c.ranges.now.fits in
+    let h = ap (has_lasted 5000 later) (sym stands.awaited_is) ∙ same ∙ ap (has_lasted 5000 now) stands.awaited_is in
     ap (λ b. handling_by b (own_number past) (shown_number past)) (awaited_alike now later (awaited_at past) (dumps_since past) h)

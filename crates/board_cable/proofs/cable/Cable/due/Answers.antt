@@ -7,3 +7,6 @@ returns-clause-asks c past turns stands h = c.due.ensures.asks (told turns) (ask
 
 pub returns-clause-handling : goal.returns-clause-handling
 returns-clause-handling c past turns stands h = c.due.ensures.handling (told turns) (asking_after c.args.self.now past turns stands h)
+
+pub returns-clause-changes : goal.returns-clause-changes
+returns-clause-changes c past turns stands h = c.due.ensures.changes (told turns) (asking_after c.args.self.now past turns stands h)

@@ -8,5 +8,7 @@ returns c = record {
   heard = [];
   hears = refl;
   standing = c.new-standing.ensures;
+  alarms = c.new-alarms.ensures _ refl;
+  endings = c.new-endings.ensures _ refl;
   reports = refl;
 }

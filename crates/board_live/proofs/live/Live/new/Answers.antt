@@ -11,4 +11,5 @@ returns-clause-stands c = record {
     said = None;
     is_said = (refl, ap (λ (s : Saying). s.last) c.new-saying.ensures);
   };
+  at_is = refl;
 }

@@ -1,11 +1,13 @@
-use Rattle.std.proofs.Common.{◌≡◌, ℕ, List, ◌∷◌, ◌++◌, sym, subst, ◌∙◌}
+use Rattle.std.proofs.Common.{◌≡◌, ℕ, Bool, List, ◌∷◌, ◌++◌, refl, sym, subst, ◌∙◌}
 use Rattle.board_cable.specs.Keeping.{kept}
 use Rattle.board_cable.specs.Turns.{Told, Turn}
 use Rattle.board_game.specs.Games.{StandsFor as GameStands}
 use Rattle.board_game.specs.History.{Came}
+use Rattle.board_game.specs.Ending.{IsEndOf}
+use Rattle.board_live.specs.Ending.{SaysNews}
 use Rattle.board_live.specs.Coming.{HasRoom, came}
-use Rattle.board_live.specs.Moments.{Moment, already, cabled, moment_of, news_of}
-use Rattle.board_live.specs.Saying.{HasSaid}
+use Rattle.board_live.specs.Moments.{Moment, already, cabled, is_added, moment_of, news_of}
+use Rattle.board_live.specs.Saying.{HasSaid, is_live}
 use Rattle.board_live.proofs.TakeLemmas.{came_is, game_at, kept_at, said_more, saying_at, turns_are}
 use Rattle.board_live.proofs.live.Live.take.Goals as goal
 
@@ -39,6 +41,7 @@ returns-clause-stands c = λ setting recovers past text s.
         attends = attends;
         game = subst A (sym split.1) game;
         saying = subst S (sym split.1) saying;
+        at_is = refl;
       },
     )
 
@@ -57,12 +60,29 @@ returns-clause-answers c = λ setting recovers past text turn turns s h.
     (saying_at c.args.self.now setting recovers past text turns s h.0) c.say-state.ensures.live c.say-state.ensures.says
     c.say-state.ensures.last (c.state-now.ensures setting recovers (came (m ∷ past) (turn ∷ turns)) (text ++ more.0) game) c.count_bits.ensures in
     let room = c.in_ok-is_whole.ensures.whole setting recovers (came past turns) text before in
-    let R : List ℕ → Type 0 = λ x. HasRoom m.at (news_of m.what) (already m.what m.bytes) x (came past turns) in
+    let R : List ℕ → Type 0 = λ x. HasRoom m.at (news_of m.what) (is_added m.what) (already m.what m.bytes) x (came past turns) in
+    let E : ℕ → Type 0 = λ at. IsEndOf setting recovers (came past turns) at c.end-before_end.result in
+    let L : Bool → Type 0 = λ live. SaysNews live c.begins-2.result c.end-before_end.result c.end-now_end.result c.end_said-end.result in
+    let B : Bool → Type 0 = λ first. SaysNews (is_live (m ∷ past)) first c.end-before_end.result c.end-now_end.result c.end_said-end.result in
     record {
       request = tells.request;
       handling = tells.handling;
       number = tells.number;
+      alarms = record {
+        before = c.alarms-before.result.now;
+        now = c.alarms.result.now;
+        before_are = c.alarms-before.ensures setting recovers (came past turns) text before;
+        now_are = c.alarms.ensures setting recovers (came (m ∷ past) (turn ∷ turns)) (text ++ more.0) game;
+        count_is = c.unsaid-unsaid.ensures ∙ rw c.begins.ensures (rw said.0 refl);
+      };
       last = c.say-state.new.self.last;
       said = said.1;
+      end = record {
+        before = c.end-before_end.result;
+        now = c.end-now_end.result;
+        before_is = subst E s.at_is (c.end-before_end.ensures setting recovers (came past turns) text before);
+        now_is = c.end-now_end.ensures setting recovers (came (m ∷ past) (turn ∷ turns)) (text ++ more.0) game;
+        said_is = subst B c.begins-2.ensures (subst L said.0 c.end_said-end.ensures);
+      };
       whole = (λ t. subst R keeps (room.0 t), λ r. room.1 (subst R (sym keeps) r));
     }

@@ -1,4 +1,4 @@
-use Rattle.std.proofs.Common.{◌≡◌, ◌++◌, ℕ, List, ap, ◌∙◌, subst, sym, refl}
+use Rattle.std.proofs.Common.{◌++◌, ℕ, List, ap, ◌∙◌, subst, sym, refl}
 use Rattle.board_events.specs.Settings.{setting_of}
 use Rattle.board_live.specs.Live.{StandsFor as LiveStands}
 use Rattle.board_live.specs.Moments.{Moment}
@@ -21,17 +21,16 @@ returns-clause-stands c = λ setup recovers entry past text brings s.
     are_events c.as_slice.result.now (waiting past) capture c.in_ok-found.found events (c.as_slice.ensures.value ∙ s.times) c.in_ok-found.ensures c.events_for-events.ensures in
     let took = c.in_ok-tell_history.ensures.told (setting_of setup) recovers (moments past) text s.live in
     let more : List ℕ = took.0 in
-    let lines : c.as_slice-2.result.now ≡ more = c.as_slice-2.ensures.value ∙ took.1 ∙ ap (λ t. t ++ more) c.clear.ensures.items in
     let L : List Moment → Type 0 = λ x. LiveStands c.tell_history.new.live (setting_of setup) recovers x (text ++ more) in
     let H : Clock → List Moment = λ k. history_of k events capture (moments past) in (
       heard,
       more,
-      capture_text c.as_slice-2.result.now,
+      capture_text more,
       refl,
       refl,
       capture_heard heard past brings found,
-      c.in_ok-add_report.ensures,
-      capture_answered setup recovers heard past more _ brings (ap (λ t. capture_text t) lines),
+      c.in_ok-end_report.ensures c.args.out.now.items more took.1,
+      capture_answered setup recovers heard past more _ brings refl,
       record {
         clock = c.in_ok-tell_history.ensures.clock ∙ ap (λ (k : Clock). clock_over k events) s.clock ∙ sym (capture_clock heard past brings);
         times = c.new.ensures.items ∙ sym (capture_waits heard past brings);

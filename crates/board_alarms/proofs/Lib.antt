@@ -1,0 +1,3 @@
+mod OnceLemmas
+mod PlyLemmas
+mod TakeLemmas

@@ -1,0 +1,30 @@
+use Rattle.std.proofs.Common.{◌≢◌, Bool, List, Some, None, inl, refl, ap, subst, sym, ◌∙◌}
+use Rattle.std.specs.Prelude.{if◌then◌else◌}
+use Rattle.std.proofs.lemmas.Result.{on_ok_weaker}
+use Rattle.settle_core.specs.declared.plies.Ply.{Ply}
+use Rattle.board_doubts.specs.declared.heard.Heard.TheVariants.{Agrees}
+use Rattle.board_alarms.specs.Hearing.{agrees, shown_at}
+use Rattle.board_alarms.specs.Keeping.{KeepsCourse}
+use Rattle.board_alarms.proofs.event_heard.tell_plies.Goals as goal
+
+pub returns-then-is_at : goal.returns-then-is_at
+returns-then-is_at c = λ start old told keeps same grows looks.
+    let shown = shown_at c.args.sight c.args.picture.now in
+    let stay = (c.is_at.ensures start old keeps grows).0 c.if-is_at.true in
+    let agree = c.agrees-agrees.ensures start old keeps ∙ ap (λ (plies : List Ply). agrees start plies shown) (sym stay) in
+    let C : List Ply → Type 0 = λ plies. KeepsCourse c.args.course.now start plies in
+    on_ok_weaker c.tell_agreement.result (λ looks. (
+      (if c.agrees-agrees.result then Some Agrees else None),
+      None,
+      inl (record { plies = stay; news_is = ap (λ (b : Bool). if b then Some Agrees else None) agree; ply_is = refl }),
+      subst C (sym stay) keeps,
+      looks,
+    )) (c.tell_agreement.ensures told looks)
+
+pub returns : goal.returns
+returns c = λ start old told keeps same grows looks.
+    let plies = c.args.settler.now.score.plies in
+    let other : plies ≢ old = λ e. let no = c.if-is_at.false in let t = (c.is_at.ensures start old keeps grows).1 e in absurd cc in
+    let hears = c.go_on-heard.ensures.heard start (agrees start plies (shown_at c.args.sight c.args.picture.now)) old keeps same grows other in
+    on_ok_weaker c.tell-2.result (λ looks. (c.go_on-heard.result.news, c.go_on-heard.result.ply, hears, c.go_on-heard.ensures.keeps start old keeps same grows, looks))
+    (c.tell-2.ensures _ (c.in_ok-tell.ensures told looks))

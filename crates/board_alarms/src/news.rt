@@ -1,0 +1,29 @@
+//! What comes of a game.
+
+/// What an event shows.
+#[derive(Clone, Copy)]
+pub enum Sight {
+    /// No picture.
+    Nothing,
+    /// The last picture again.
+    Again,
+    /// Another picture, or the first.
+    Another,
+}
+
+/// What comes beside the events of a board.
+#[derive(Clone, Copy)]
+pub enum News {
+    /// The board's line is gone.
+    Gone,
+    /// A recorder begins. It may take up a game whose events came before.
+    Begins,
+    /// Plies that no picture showed are put in: their events follow.
+    PutsIn,
+    /// Somebody has looked: no alarm is open any more.
+    Looked,
+    /// Plies were taken off, or the game is taken up: the pieces are to be put where they belong, if they don't stand there.
+    PutsBack,
+    /// Something is suspected that no board shows. Who tells it knows by this number what it is.
+    Suspects(u64),
+}

@@ -1,0 +1,4 @@
+mod CourseLemmas
+mod DueLemmas
+mod OnceLemmas
+mod TakeLemmas

@@ -1,0 +1,23 @@
+-- What holds of each history. Items are listed with the latest first.
+use Rattle.std.specs.Prelude.{◌≡◌, ◌<◌, ◌≤◌, ◌^◌, ℕ, List, Option}
+use Rattle.chess_rules.specs.Valid.{Valid}
+use Rattle.board_events.specs.Settings.{Setting}
+use Rattle.square_runs.specs.Lasting.{IsBefore}
+use Rattle.game_over.specs.declared.happened.Event.{Event}
+use Rattle.board_endings.specs.declared.news.End.{End}
+use Rattle.board_endings.specs.Items.{Item}
+use Rattle.board_endings.specs.Saying.{IsDueAt, IsEndAt}
+use Rattle.board_endings.specs.Telling.{Tells}
+
+-- From a valid start, one thing is told of what came.
+abbrev pub TellsOnce : Type 0
+TellsOnce = (setting : Setting) (items : List Item) (a b : List Event) → Valid setting.start → Tells setting items a → Tells setting items b → a ≡ b
+
+-- So the end of the game follows from it.
+abbrev pub EndsOnce : Type 0
+EndsOnce = (setting : Setting) (items : List Item) (now : ℕ) (a b : End) → Valid setting.start → IsEndAt setting items now a → IsEndAt setting items now b → a ≡ b
+
+-- Until time is due to end the game, it stands as it does now.
+abbrev pub SameUntilDue : Type 0
+SameUntilDue = (setting : Setting) (items : List Item) (now later : ℕ) (due : Option ℕ) (end : End) → Valid setting.start → now ≤ later → later < 2 ^ 64
+    → IsBefore later due → IsDueAt setting items now due → IsEndAt setting items now end → IsEndAt setting items later end

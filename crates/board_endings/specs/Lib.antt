@@ -1,0 +1,6 @@
+pub mod Items
+pub mod Keeping
+pub mod Laws
+pub mod Moves
+pub mod Saying
+pub mod Telling

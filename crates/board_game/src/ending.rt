@@ -1,0 +1,83 @@
+//! What is told of how a game ends.
+ghost use Rattle.std.specs.Prelude.{◌≡◌, ◌+◌, ◌∷◌, List, OnOk};
+ghost use Rattle.dgt_frame.specs.declared.events.Event.{Event as EventOf};
+ghost use Rattle.board_alarms.specs.Hearing.{HasResult};
+ghost use Rattle.board_events.specs.Session.{HasTakenEvents};
+ghost use Rattle.board_events.specs.Settings.{Setting};
+ghost use Rattle.board_endings.specs.Items.{Item as EndItem, Sent as Comes, events_of as end_events};
+ghost use Rattle.board_endings.specs.Keeping.{StandsFor as EndingsStand};
+ghost use Rattle.board_game.specs.Ending.{end_news, end_of_line, with_end_news};
+ghost use Rattle.board_game.specs.Inside.Shown.{HasSeen, IsShown, is_another as is_another_of};
+
+use crate::note::Note;
+use crate::pictures::{Pictures, Shown};
+use board_alarms::When;
+use board_endings::{Endings, News};
+use board_events::Session;
+use board_standing::Heard;
+use settle_core::Outcome;
+use std::alloc::AllocError;
+
+/// What news of the line are to the end of a game.
+fn of_line(heard: Heard) -> Option<News>
+    ensures { result ≡ end_of_line heard }
+{
+    match heard {
+        Heard::Begins => Some(News::Begins),
+        _ => None,
+    }
+}
+
+/// What a note is to it.
+fn news_of(note: Note) -> Option<News>
+    ensures { result ≡ end_news note }
+{
+    match note {
+        Note::Line(heard) => of_line(heard),
+        Note::PutsBack => Some(News::GoesBack),
+        Note::Looked | Note::Suspects(_) => None,
+    }
+}
+
+/// Tells a note, if it is news.
+pub fn note_end(endings: &mut Endings, at: u64, note: Note) -> Result<(), AllocError>
+    ensures { (setting : Setting) (items : List EndItem) → EndingsStand endings.old setting items
+        → OnOk result (EndingsStand endings.new setting (with_end_news at (end_news note) items)) }
+{
+    match news_of(note) {
+        None => Ok(()),
+        Some(news) => endings.note(at, news),
+    }
+}
+
+fn is_another(shown: Shown) -> bool
+    ensures { result ≡ is_another_of shown }
+{
+    matches!(shown, Shown::Another { .. })
+}
+
+/// Tells an event, which the session and the pictures have taken. It ends at this offset, and the game has this result with it.
+pub fn tell_end(
+    endings: &mut Endings,
+    when: When,
+    offset: u32,
+    shown: Shown,
+    pictures: &Pictures,
+    session: &Session,
+    outcome: Option<Outcome>,
+) -> Result<(), AllocError>
+    ensures { (setting : Setting) (items : List EndItem) (event : EventOf) → EndingsStand endings.old setting items
+        → HasSeen pictures.now setting (event ∷ end_events items) → IsShown setting (end_events items) event shown
+        → HasTakenEvents session.now setting (event ∷ end_events items) → HasResult setting.start session.now.settler.score outcome
+        → OnOk result (EndingsStand endings.new setting (Comes when.at when.is_added (offset + 1) event ∷ items)) }
+{
+    let bytes = offset as u64 + 1;
+    endings.take(
+        when,
+        bytes,
+        is_another(shown),
+        pictures.last(),
+        session,
+        outcome,
+    )
+}

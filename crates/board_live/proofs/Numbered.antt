@@ -1,0 +1,436 @@
+-- The number of the game's board, told once a call has begun.
+use Rattle.std.proofs.Common.{◌≡◌, inl, inr, ℕ, Bool, true, false, List, [], ◌∷◌, ◌++◌, length, Option, Some, None, refl, sym, ap, subst, ◌∙◌}
+use Rattle.chess_rules.specs.Valid.{Valid}
+use Rattle.board_asking.specs.declared.line.Event.{Event}
+use Rattle.board_asking.specs.declared.line.Happening.TheVariants.{Begins as LineBegins, Interrupts as LineInterrupts, Owns as LineOwns}
+use Rattle.board_asking.specs.declared.whose.Handling.TheVariants.{Keep}
+use Rattle.board_asking.specs.Asking.{request_at}
+use Rattle.board_asking.specs.Line.{is_open}
+use Rattle.board_asking.specs.Silence.{is_silent}
+use Rattle.board_asking.specs.Whose.{awaited_at, dumps_since, handling_by, is_awaited, own_number, shown_number}
+use Rattle.board_cable.specs.declared.happened.What.{What as AtCable}
+use Rattle.board_cable.specs.declared.happened.What.TheVariants.{Begins, Interrupts, Owns, Wakes}
+use Rattle.board_cable.specs.Keeping.{aside, ends_aside, ends_held, held, kept}
+use Rattle.board_cable.specs.Moments.{Moment as CableMoment, is_heard, stream}
+use Rattle.board_cable.specs.Turns.{Tells, Told, Turn, handling_of, told}
+use Rattle.board_cable.proofs.Once.{turns_once}
+use Rattle.board_events.specs.Settings.{Setting}
+use Rattle.board_looks.specs.declared.look.Look.{Look}
+use Rattle.board_game.specs.Ending.{IsEndOf}
+use Rattle.board_game.specs.Games.{IsStateOf}
+use Rattle.board_game.specs.declared.note.Note.TheVariants.{Line as LineNews}
+use Rattle.board_game.specs.History.{Came, News}
+use Rattle.board_game.specs.Laws.{HearsOnce}
+use Rattle.board_game.specs.Silences.{SilenceIsForgotten, but_silence}
+use Rattle.board_standing.specs.declared.heard.Heard.TheVariants.{Begins as RecorderBegins}
+use Rattle.board_standing.specs.declared.state.State.{State}
+use Rattle.board_standing.specs.States.{IsNews}
+use Rattle.board_live.specs.declared.happened.What.TheVariants.{Cable}
+use Rattle.board_live.specs.declared.live.Answer.{Answer}
+use Rattle.board_live.specs.Coming.{came, came_with, silence}
+use Rattle.board_live.specs.Ending.{last_at}
+use Rattle.board_live.specs.Laws.{with_number}
+use Rattle.board_live.specs.Live.{unsaid}
+use Rattle.board_live.specs.Moments.{Moment, already, at_cable, begins, cable_moment, cabled, is_added, news_of}
+use Rattle.board_live.specs.Restarts.{AreOffLine, IsAnswered, IsOffLine, NumberMayFollow, as_filed}
+use Rattle.board_live.specs.Saying.{IsSaid, Says, SaysAfter, is_live, last_said, live_by, said_before}
+use Rattle.board_live.proofs.Alike.{Likewise, begun, keeps_begun, step, stream_begun, stream_more}
+use Rattle.board_live.proofs.Ends.{end_step}
+use Rattle.board_live.proofs.Fed.{none_aside, turn_asked, unheard}
+use Rattle.board_live.proofs.Filed.{Since, alarms_since, answers_begun, end_since, fed_filed, filed_alike, filed_answer, looks_same, since_alike, since_came, since_turn, state_since}
+use Rattle.board_live.proofs.Lines.{Line, line_of, request_on}
+use Rattle.board_live.proofs.Saids.{first_said, live_alike, said_step, state_once}
+use Rattle.board_live.proofs.Sides.{Side, keeps_unseen, nothing, nothing_kept, side_kept, side_of}
+
+-- ---- after the same
+
+-- Both have alike what later answers depend on, but the silence before this call.
+record Joined (past other : List Moment) (ts us : List Turn) : Type 0 where
+  lines : line_of (told ts) ≡ line_of (told us)
+  sides : side_of ts ≡ side_of us
+  streams : stream (cabled past) ≡ stream (cabled other)
+  since : Since (came past ts) (came other us)
+
+joined_more : (m : Moment) (past other : List Moment) (t u : Turn) (ts us : List Turn) → Joined past other ts us → Told (cabled (m ∷ past)) (t ∷ ts)
+    → Told (cabled (m ∷ other)) (u ∷ us) → Likewise (m ∷ past) (m ∷ other) t u ts us × Joined (m ∷ past) (m ∷ other) (t ∷ ts) (u ∷ us)
+joined_more m past other t u ts us j g h =
+    let same = step m past other t u ts us j.lines j.sides j.streams g h in
+    (same, record { lines = same.lines; sides = same.sides; streams = same.streams; since = since_turn m past other t u ts us same j.since })
+
+-- Whatever the turns are.
+abbrev AreJoined : List Moment → List Moment → Type 0
+AreJoined past other = (ts us : List Turn) → Told (cabled past) ts → Told (cabled other) us → Joined past other ts us
+
+joined_call : (call past other : List Moment) → AreJoined past other → AreJoined (call ++ past) (call ++ other)
+joined_call [] past other all ts us g h = all ts us g h
+joined_call (m ∷ call) past other all [] us g h = absurd g
+joined_call (m ∷ call) past other all (t ∷ ts) [] g h = absurd h
+joined_call (m ∷ call) past other all (t ∷ ts) (u ∷ us) g h =
+    (joined_more m (call ++ past) (call ++ other) t u ts us (joined_call call past other all ts us g.0 h.0) g h).1
+
+-- The same was said last after both.
+abbrev SaidAlike : Setting → Bool → List Moment → List Moment → Type 0
+SaidAlike setting recovers past other = (ts us : List Turn) (said answer last final : Option State) → Told (cabled past) ts → Told (cabled other) us
+    → IsSaid setting recovers past ts said last → IsSaid setting recovers other us answer final → last ≡ final
+
+said_at : SilenceIsForgotten → (setting : Setting) (recovers : Bool) (m : Moment) (past other : List Moment) (t u : Turn) (ts us : List Turn) (said answer last final : Option State)
+    → Valid setting.start → Since (came (m ∷ past) (t ∷ ts)) (came (m ∷ other) (u ∷ us)) → SaidAlike setting recovers past other → is_live past ≡ is_live other
+    → Told (cabled (m ∷ past)) (t ∷ ts) → Told (cabled (m ∷ other)) (u ∷ us) → IsSaid setting recovers (m ∷ past) (t ∷ ts) said last
+    → IsSaid setting recovers (m ∷ other) (u ∷ us) answer final → (said ≡ answer) × (last ≡ final)
+said_at forgotten setting recovers m past other t u ts us said answer last final valid since before live g h p q =
+    let states : p.0 ≡ q.0 = state_since forgotten setting recovers (came (m ∷ past) (t ∷ ts)) (came (m ∷ other) (u ∷ us)) m.at p.0 q.0 valid p.5 q.5 since p.4 q.4 in
+    said_step m.what (is_live (m ∷ past)) (is_live (m ∷ other)) p.0 q.0 p.2 q.2 said answer last final (ap (λ b. live_by m.what b) live) states
+    (ap (λ x. said_before m.what x) (before ts us p.1 q.1 p.2 q.2 g.0 h.0 p.3 q.3)) p.6 q.6 p.7 q.7
+
+said_more : SilenceIsForgotten → (setting : Setting) (recovers : Bool) (m : Moment) (past other : List Moment) (t u : Turn) (ts us : List Turn) (said answer last final : Option State)
+    → Valid setting.start → AreJoined past other → SaidAlike setting recovers past other → is_live past ≡ is_live other → Told (cabled (m ∷ past)) (t ∷ ts)
+    → Told (cabled (m ∷ other)) (u ∷ us) → IsSaid setting recovers (m ∷ past) (t ∷ ts) said last → IsSaid setting recovers (m ∷ other) (u ∷ us) answer final
+    → (said ≡ answer) × (last ≡ final)
+said_more forgotten setting recovers m past other t u ts us said answer last final valid all before live g h p q =
+    let j = (joined_more m past other t u ts us (all ts us g.0 h.0) g h).1 in
+    said_at forgotten setting recovers m past other t u ts us said answer last final valid j.since before live g h p q
+
+live_call : (call past other : List Moment) → is_live past ≡ is_live other → is_live (call ++ past) ≡ is_live (call ++ other)
+live_call [] past other live = live
+live_call (m ∷ call) past other live = ap (λ b. live_by m.what b) (live_call call past other live)
+
+said_call : SilenceIsForgotten → (setting : Setting) (recovers : Bool) (call past other : List Moment) → Valid setting.start → AreJoined past other
+    → SaidAlike setting recovers past other → is_live past ≡ is_live other → SaidAlike setting recovers (call ++ past) (call ++ other)
+said_call forgotten setting recovers [] past other valid all before live ts us said answer last final g h p q = before ts us said answer last final g h p q
+said_call forgotten setting recovers (m ∷ call) past other valid all before live [] us said answer last final g h p q = absurd g
+said_call forgotten setting recovers (m ∷ call) past other valid all before live (t ∷ ts) [] said answer last final g h p q = absurd h
+said_call forgotten setting recovers (m ∷ call) past other valid all before live (t ∷ ts) (u ∷ us) said answer last final g h p q =
+    (said_more forgotten setting recovers m (call ++ past) (call ++ other) t u ts us said answer last final valid (joined_call call past other all)
+    (said_call forgotten setting recovers call past other valid all before live) (live_call call past other live) g h p q).1
+
+last_call : (call past other : List Moment) → last_at past ≡ last_at other → last_at (call ++ past) ≡ last_at (call ++ other)
+last_call [] past other same = same
+last_call (m ∷ call) past other same = refl
+
+-- So the same is said at each moment that follows.
+says_on : SilenceIsForgotten → (setting : Setting) (recovers : Bool) (m : Moment) (past other : List Moment) (ts us : List Turn) (a b : Answer) (looks alarms : List Look)
+    → Valid setting.start → AreJoined past other → SaidAlike setting recovers past other → is_live past ≡ is_live other → last_at past ≡ last_at other → Told (cabled (m ∷ past)) ts
+    → Told (cabled (m ∷ other)) us → IsAnswered setting recovers (m ∷ past) ts a looks → IsAnswered setting recovers (m ∷ other) us b alarms → (a ≡ b) × (looks ≡ alarms)
+says_on forgotten setting recovers m past other [] us a b looks alarms valid all before live at g h p q = absurd g
+says_on forgotten setting recovers m past other (t ∷ ts) [] a b looks alarms valid all before live at g h p q = absurd h
+says_on forgotten setting recovers m past other (t ∷ ts) (u ∷ us) a b looks alarms valid all before live at g h p q =
+    let had = all ts us g.0 h.0 in
+    let both = joined_more m past other t u ts us had g h in
+    let state = (said_more forgotten setting recovers m past other t u ts us a.state b.state p.0.last q.0.last valid all before live g h p.0.said q.0.said).0 in
+    let sooner = alarms_since forgotten setting recovers (came past ts) (came other us) p.0.alarms.before q.0.alarms.before valid had.since p.0.alarms.before_are q.0.alarms.before_are in
+    let now = alarms_since forgotten setting recovers (came (m ∷ past) (t ∷ ts)) (came (m ∷ other) (u ∷ us)) p.0.alarms.now q.0.alarms.now valid both.1.since p.0.alarms.now_are q.0.alarms.now_are in
+    let count : a.unsaid ≡ b.unsaid = p.0.alarms.count_is
+    ∙ ap (λ x. unsaid x (begins m.what) (length p.0.alarms.before) (length p.0.alarms.now)) (ap (λ x. live_by m.what x) live)
+    ∙ ap (λ (x : List Look). unsaid (is_live (m ∷ other)) (begins m.what) (length x) (length p.0.alarms.now)) sooner
+    ∙ ap (λ (x : List Look). unsaid (is_live (m ∷ other)) (begins m.what) (length q.0.alarms.before) (length x)) now ∙ sym q.0.alarms.count_is in
+    let E : ℕ → Type 0 = λ x. IsEndOf setting recovers (came past ts) x p.0.end.before in
+    let was = end_since forgotten setting recovers (came past ts) (came other us) (last_at other) p.0.end.before q.0.end.before valid had.since (subst E at p.0.end.before_is) q.0.end.before_is in
+    let ends = end_since forgotten setting recovers (came (m ∷ past) (t ∷ ts)) (came (m ∷ other) (u ∷ us)) m.at p.0.end.now q.0.end.now valid both.1.since p.0.end.now_is q.0.end.now_is in
+    let end : a.end ≡ b.end = end_step setting recovers m past other t u ts us a.end b.end (ap (λ x. live_by m.what x) live) p.0.end q.0.end was ends in
+    let answer = filed_answer setting recovers m past other t u ts us a b both.0 (since_alike (came past ts) (came other us) had.since) count state end p.0 q.0 in
+    (answer, looks_same forgotten setting recovers (came (m ∷ past) (t ∷ ts)) (came (m ∷ other) (u ∷ us)) a b looks alarms p.1.0 q.1.0 valid both.1.since answer p.1.1 q.1.1 p.1.2 q.1.2)
+
+-- ---- before anything is told of the line
+
+-- the line, but the number of the game's board
+abbrev but_own : Line → Line
+but_own l = record l { own = None }
+
+-- The line isn't open, and nothing is kept back; both differ in the number alone, and in the silence before this call.
+record Ready (own : Option (List ℕ)) (past other : List Moment) (ts us : List Turn) : Type 0 where
+  lines : but_own (line_of (told ts)) ≡ but_own (line_of (told us))
+  closed : is_open (told us) ≡ false
+  awaited : awaited_at (told us) ≡ None
+  shown : shown_number (told us) ≡ None
+  silent : is_silent (told us) ≡ false
+  side : side_of ts ≡ nothing
+  other_side : side_of us ≡ nothing
+  streams : stream (cabled past) ≡ stream (cabled other)
+  since : Since (came past ts) (came other us)
+  owns : own_number (told ts) ≡ own
+  none : own_number (told us) ≡ None
+
+-- A turn at which nothing is told of the line, and the board isn't asked.
+record Still (turn : Turn) (turns : List Turn) (now : List Event) : Type 0 where
+  told_is : told (turn ∷ turns) ≡ now
+  keeps : kept (turn ∷ turns) ≡ []
+  side : side_of (turn ∷ turns) ≡ nothing
+
+never_asked : (at : ℕ) (past : List Event) → is_open past ≡ false → request_at at past ≡ None
+never_asked at past closed = ap (λ b. request_on at (record (line_of past) { opened = b })) closed
+
+keeps_still : (at : ℕ) (past : List Event) → awaited_at past ≡ None → shown_number past ≡ None → handling_by (is_awaited at (awaited_at past) (dumps_since past)) (own_number past) (shown_number past) ≡ Keep
+keeps_still at past awaited shown =
+    ap (λ x. handling_by (is_awaited at x (dumps_since past)) (own_number past) (shown_number past)) awaited ∙ ap (λ x. handling_by false (own_number past) x) shown
+    ∙ keeps_unseen (own_number past)
+
+still : (turn : Turn) (turns : List Turn) (now : List Event) → turn.now ≡ now → is_open now ≡ false → awaited_at now ≡ None → shown_number now ≡ None → side_of turns ≡ nothing
+    → is_heard turn.moment.what ≡ false → Still turn turns now
+still turn turns now is closed awaited shown side silent =
+    let keeping : handling_of turn ≡ Keep =
+    ap (λ (es : List Event). handling_by (is_awaited turn.moment.at (awaited_at es) (dumps_since es)) (own_number es) (shown_number es)) is ∙ keeps_still turn.moment.at now awaited shown in
+    record {
+      told_is = turn_asked turn turns now is (never_asked turn.moment.at now closed);
+      keeps = nothing_kept turn turns keeping (unheard turn.moment silent) (none_aside (ends_aside turn.moment.what) (aside turns) (ap (λ (s : Side). s.aside) side))
+          (none_aside (ends_held turn.moment.what) (held turns) (ap (λ (s : Side). s.held) side));
+      side = side_kept turn turns keeping;
+    }
+
+abbrev AreReady : Option (List ℕ) → List Moment → List Moment → Type 0
+AreReady own past other = (ts us : List Turn) → Told (cabled past) ts → Told (cabled other) us → Ready own past other ts us
+
+came_still : (m : Moment) (past : List Moment) (t : Turn) (ts : List Turn) → kept (t ∷ ts) ≡ [] → is_silent (told ts) ≡ false → is_silent (told (t ∷ ts)) ≡ false
+    → came (m ∷ past) (t ∷ ts) ≡ came_with m.at (news_of m.what) (is_added m.what) (already m.what m.bytes) [] (silence m.what false false) (came past ts)
+came_still m past t ts none before after =
+    ap (λ bytes. came_with m.at (news_of m.what) (is_added m.what) (already m.what m.bytes) bytes (silence m.what (is_silent (told ts)) (is_silent (told (t ∷ ts)))) (came past ts)) none
+    ∙ ap (λ b. came_with m.at (news_of m.what) (is_added m.what) (already m.what m.bytes) [] (silence m.what b (is_silent (told (t ∷ ts)))) (came past ts)) before
+    ∙ ap (λ b. came_with m.at (news_of m.what) (is_added m.what) (already m.what m.bytes) [] (silence m.what false b) (came past ts)) after
+
+ready_with : (own : Option (List ℕ)) (m : Moment) (past other : List Moment) (t u : Turn) (ts us : List Turn) (x y : List Event) → Ready own past other ts us
+    → t.moment ≡ cable_moment m → u.moment ≡ cable_moment m → t.now ≡ x → u.now ≡ y → but_own (line_of x) ≡ but_own (line_of y) → is_open y ≡ false → awaited_at y ≡ None
+    → shown_number y ≡ None → is_silent y ≡ false → own_number x ≡ own → own_number y ≡ None → is_heard (at_cable m.what) ≡ false
+    → Ready own (m ∷ past) (m ∷ other) (t ∷ ts) (u ∷ us)
+ready_with own m past other t u ts us x y r at also now next lines closed awaited shown silent owns none unheard_by =
+    let st = still t ts x now (ap (λ (l : Line). l.opened) lines ∙ closed) (ap (λ (l : Line). l.awaited) lines ∙ awaited) (ap (λ (l : Line). l.shown) lines ∙ shown) r.side
+    (ap (λ (one : CableMoment). is_heard one.what) at ∙ unheard_by) in
+    let su = still u us y next closed awaited shown r.other_side (ap (λ (one : CableMoment). is_heard one.what) also ∙ unheard_by) in
+    let C : List Came → List Came = λ has. came_with m.at (news_of m.what) (is_added m.what) (already m.what m.bytes) [] (silence m.what false false) has in
+    let one : came (m ∷ past) (t ∷ ts) ≡ C (came past ts) = came_still m past t ts st.keeps (ap (λ (l : Line). l.silent) r.lines ∙ r.silent)
+    (ap is_silent st.told_is ∙ ap (λ (l : Line). l.silent) lines ∙ silent) in
+    let two : came (m ∷ other) (u ∷ us) ≡ C (came other us) = came_still m other u us su.keeps r.silent (ap is_silent su.told_is ∙ silent) in
+    let S : List Came → List Came → Type 0 = λ a b. Since a b in
+    let since : S (C (came past ts)) (C (came other us)) =
+    since_came m.at (news_of m.what) (is_added m.what) (already m.what m.bytes) [] (silence m.what false false) (came past ts) (came other us) r.since in
+    record {
+      lines = ap (λ (es : List Event). but_own (line_of es)) st.told_is ∙ lines ∙ sym (ap (λ (es : List Event). but_own (line_of es)) su.told_is);
+      closed = ap is_open su.told_is ∙ closed;
+      awaited = ap awaited_at su.told_is ∙ awaited;
+      shown = ap shown_number su.told_is ∙ shown;
+      silent = ap is_silent su.told_is ∙ silent;
+      side = st.side;
+      other_side = su.side;
+      streams = stream_more m (stream (cabled past)) (stream (cabled other)) r.streams;
+      since = subst (λ b. S (came (m ∷ past) (t ∷ ts)) b) (sym two) (subst (λ a. S a (C (came other us))) (sym one) since);
+      owns = ap own_number st.told_is ∙ owns;
+      none = ap own_number su.told_is ∙ none;
+    }
+
+-- what is cut is read anew
+abbrev interrupted : Line → Line
+interrupted l = record l { wanted = true; unanswered = false; unfinished = None }
+
+ready_more : (own : Option (List ℕ)) (m : Moment) (past other : List Moment) (t u : Turn) (ts us : List Turn) → IsOffLine m → Ready own past other ts us
+    → Told (cabled (m ∷ past)) (t ∷ ts) → Told (cabled (m ∷ other)) (u ∷ us) → Ready own (m ∷ past) (m ∷ other) (t ∷ ts) (u ∷ us)
+ready_more own m past other t u ts us (inl wakes) r g h =
+    let T : AtCable → Type 0 = λ w. Tells (record { at = m.at; what = w; bytes = m.bytes }) (stream (cabled past)) (told ts) t.now in
+    let U : AtCable → Type 0 = λ w. Tells (record { at = m.at; what = w; bytes = m.bytes }) (stream (cabled other)) (told us) u.now in
+    let now : T Wakes = subst T wakes g.2 in
+    let next : U Wakes = subst U wakes h.2 in
+    ready_with own m past other t u ts us (told ts) (told us) r g.1 h.1 now next r.lines r.closed r.awaited r.shown r.silent r.owns r.none (ap is_heard wakes)
+ready_more own m past other t u ts us (inr cut) r g h =
+    let T : AtCable → Type 0 = λ w. Tells (record { at = m.at; what = w; bytes = m.bytes }) (stream (cabled past)) (told ts) t.now in
+    let U : AtCable → Type 0 = λ w. Tells (record { at = m.at; what = w; bytes = m.bytes }) (stream (cabled other)) (told us) u.now in
+    let now : T Interrupts = subst T cut g.2 in
+    let next : U Interrupts = subst U cut h.2 in
+    let e : Event = record { at = m.at; what = LineInterrupts } in
+    ready_with own m past other t u ts us (e ∷ told ts) (e ∷ told us) r g.1 h.1 now next (ap (λ (l : Line). interrupted l) r.lines) r.closed r.awaited r.shown r.silent
+    r.owns r.none (ap is_heard cut)
+
+ready_call : (own : Option (List ℕ)) (first past other : List Moment) → AreOffLine first → AreReady own past other → AreReady own (first ++ past) (first ++ other)
+ready_call own [] past other off all ts us g h = all ts us g h
+ready_call own (m ∷ first) past other off all [] us g h = absurd g
+ready_call own (m ∷ first) past other off all (t ∷ ts) [] g h = absurd h
+ready_call own (m ∷ first) past other off all (t ∷ ts) (u ∷ us) g h =
+    ready_more own m (first ++ past) (first ++ other) t u ts us off.1 (ready_call own first past other off.0 all ts us g.0 h.0) g h
+
+-- ---- where the call begins
+
+since_begun : (m : Moment) (past other : List Moment) (t u : Turn) (ts us : List Turn) → m.what ≡ Cable Begins → but_silence (came past ts) ≡ but_silence (came other us)
+    → Told (cabled (m ∷ past)) (t ∷ ts) → Told (cabled (m ∷ other)) (u ∷ us) → Since (came (m ∷ past) (t ∷ ts)) (came (m ∷ other) (u ∷ us))
+since_begun m past other t u ts us is had g h = record {
+  at = m.at;
+  since = [];
+  first = News m.at (LineNews RecorderBegins) ∷ came past ts;
+  second = News m.at (LineNews RecorderBegins) ∷ came other us;
+  one_is = answers_begun m past t ts is g;
+  other_is = answers_begun m other u us is h;
+  same = ap (λ (c : List Came). News m.at (LineNews RecorderBegins) ∷ c) had;
+}
+
+begun_ready : (m : Moment) (past other : List Moment) (t u : Turn) (ts us : List Turn) → m.what ≡ Cable Begins → told us ≡ []
+    → but_silence (came past ts) ≡ but_silence (came other us) → Told (cabled (m ∷ past)) (t ∷ ts) → Told (cabled (m ∷ other)) (u ∷ us)
+    → Ready (own_number (told ts)) (m ∷ past) (m ∷ other) (t ∷ ts) (u ∷ us)
+begun_ready m past other t u ts us is empty had g h =
+    let now = begun m ts t _ is g.2 in
+    let next = begun m us u _ is h.2 in
+    let e : Event = record { at = m.at; what = LineBegins } in
+    let all : told (t ∷ ts) ≡ e ∷ told ts = turn_asked t ts (e ∷ told ts) now refl in
+    let others : told (u ∷ us) ≡ e ∷ told us = turn_asked u us (e ∷ told us) next refl in
+    record {
+      lines = ap (λ (es : List Event). but_own (line_of es)) all ∙ sym (ap (λ (es : List Event). but_own (line_of es)) others);
+      closed = ap is_open others;
+      awaited = ap awaited_at others;
+      shown = ap shown_number others;
+      silent = ap is_silent others;
+      side = side_kept t ts (keeps_begun m ts t now);
+      other_side = side_kept u us (keeps_begun m us u next);
+      streams = stream_begun m past is ∙ sym (stream_begun m other is);
+      since = since_begun m past other t u ts us is had g h;
+      owns = ap own_number all;
+      none = ap own_number others ∙ ap own_number empty;
+    }
+
+-- ---- the number
+
+abbrev with_own : Option (List ℕ) → Line → Line
+with_own own l = record l { own = own }
+
+own_is : (l : Line) (own : Option (List ℕ)) → l.own ≡ own → l ≡ with_own own (but_own l)
+own_is l own e = ap (λ o. with_own o l) e
+
+numbered_lines : (own : Option (List ℕ)) (a b : Line) → but_own a ≡ but_own b → a.own ≡ own → a ≡ with_own own b
+numbered_lines own a b same e = own_is a own e ∙ ap (λ l. with_own own l) same
+
+no_number : (past other : List Moment) → AreReady None past other → AreJoined past other
+no_number past other all ts us g h =
+    let r = all ts us g h in
+    record {
+      lines = numbered_lines None (line_of (told ts)) (line_of (told us)) r.lines r.owns ∙ sym (own_is (line_of (told us)) None r.none);
+      sides = r.side ∙ sym r.other_side;
+      streams = r.streams;
+      since = r.since;
+    }
+
+abbrev owning : ℕ → List ℕ → Moment
+owning at number = record { at = at; what = Cable (Owns number); bytes = [] }
+
+record AtNumber (number : List ℕ) (at : ℕ) (past other : List Moment) (ts : List Turn) (u : Turn) (us : List Turn) : Type 0 where
+  joined : Joined past (owning at number ∷ other) ts (u ∷ us)
+  same : came (owning at number ∷ other) (u ∷ us) ≡ came other us
+
+at_number : (number : List ℕ) (at : ℕ) (past other : List Moment) (ts : List Turn) (u : Turn) (us : List Turn) → Ready (Some number) past other ts us
+    → Told (cabled (owning at number ∷ other)) (u ∷ us) → AtNumber number at past other ts u us
+at_number number at past other ts u us r h =
+    let e : Event = record { at = at; what = LineOwns number } in
+    let su = still u us (e ∷ told us) h.2 r.closed r.awaited r.shown r.other_side (ap (λ (one : CableMoment). is_heard one.what) h.1) in
+    let same : came (owning at number ∷ other) (u ∷ us) ≡ came other us = came_still (owning at number) other u us su.keeps r.silent (ap is_silent su.told_is ∙ r.silent) in
+    record {
+      joined = record {
+        lines = numbered_lines (Some number) (line_of (told ts)) (line_of (told us)) r.lines r.owns ∙ sym (ap line_of su.told_is);
+        sides = r.side ∙ sym su.side;
+        streams = r.streams;
+        since = subst (λ b. Since (came past ts) b) (sym same) r.since;
+      };
+      same = same;
+    }
+
+joined_number : (number : List ℕ) (at : ℕ) (past other : List Moment) → AreReady (Some number) past other → AreJoined past (owning at number ∷ other)
+joined_number number at past other all ts [] g h = absurd h
+joined_number number at past other all ts (u ∷ us) g h = (at_number number at past other ts u us (all ts us g h.0) h).joined
+
+-- ---- what is said by then
+
+said_ready : SilenceIsForgotten → (setting : Setting) (recovers : Bool) (own : Option (List ℕ)) (first past other : List Moment) → Valid setting.start → AreOffLine first
+    → AreReady own past other → SaidAlike setting recovers past other → is_live past ≡ is_live other → SaidAlike setting recovers (first ++ past) (first ++ other)
+said_ready forgotten setting recovers own [] past other valid off all before live ts us said answer last final g h p q = before ts us said answer last final g h p q
+said_ready forgotten setting recovers own (m ∷ first) past other valid off all before live [] us said answer last final g h p q = absurd g
+said_ready forgotten setting recovers own (m ∷ first) past other valid off all before live (t ∷ ts) [] said answer last final g h p q = absurd h
+said_ready forgotten setting recovers own (m ∷ first) past other valid off all before live (t ∷ ts) (u ∷ us) said answer last final g h p q =
+    let ready = ready_call own (m ∷ first) past other off all (t ∷ ts) (u ∷ us) g h in
+    (said_at forgotten setting recovers m (first ++ past) (first ++ other) t u ts us said answer last final valid ready.since
+    (said_ready forgotten setting recovers own first past other valid off.0 all before live) (live_call first past other live) g h p q).1
+
+no_news : (s : State) → IsNews s s → ⊥
+no_news s (inl k) = k refl
+no_news s (inr (inl h)) = h refl
+no_news s (inr (inr (inl p))) = p.1 refl
+no_news s (inr (inr (inr p))) = p.1 refl
+
+silent_after : (before last : Option State) (s : State) (said again : Option State) → SaysAfter before s said → last ≡ last_said said before → SaysAfter last s again → again ≡ None
+silent_after before last s said None g is h = refl
+silent_after None last s said (Some now) g is h =
+    let L : Option State → Type 0 = λ l. SaysAfter l s (Some now) in
+    let e : last ≡ Some s = is ∙ ap (λ x. last_said x None) g in
+    absurd (no_news s (subst L e h).0)
+silent_after (Some before) last s None (Some now) g is h =
+    let L : Option State → Type 0 = λ l. SaysAfter l s (Some now) in absurd (g (subst L is h).0)
+silent_after (Some before) last s (Some said) (Some now) g is h =
+    let L : Option State → Type 0 = λ l. SaysAfter l s (Some now) in
+    let e : last ≡ Some s = is ∙ ap (λ (x : State). Some x) g.1 in
+    absurd (no_news s (subst L e h).0)
+
+none_said : (live : Bool) (before last : Option State) (s : State) (said again : Option State) → Says live before s said → last ≡ last_said said before → Says live last s again → again ≡ None
+none_said true before last s said again g is h = silent_after before last s said again g is h
+none_said false before last s said again g is h = h
+
+-- When the number is told at the time of the last moment, no state is said.
+said_number : HearsOnce → (setting : Setting) (recovers : Bool) (number : List ℕ) (x : Moment) (past other : List Moment) → Valid setting.start → AreReady (Some number) past (x ∷ other)
+    → SaidAlike setting recovers past (x ∷ other) → SaidAlike setting recovers past (owning x.at number ∷ x ∷ other)
+said_number hears setting recovers number x past other valid all before ts [] said answer last final g h p q = absurd h
+said_number hears setting recovers number x past other valid all before ts (u ∷ []) said answer last final g h p q = absurd h.0
+said_number hears setting recovers number x past other valid all before ts (u ∷ v ∷ us) said answer last final g h p q =
+    let a = at_number number x.at past (x ∷ other) ts u (v ∷ us) (all ts (v ∷ us) g h.0) h in
+    let r = q.3 in
+    let state : q.0 ≡ r.0 = state_once hears setting recovers (came (x ∷ other) (v ∷ us)) x.at q.0 r.0 valid q.5 r.5
+    (subst (λ c. IsStateOf setting recovers c x.at q.0) a.same q.4) r.4 in
+    let S : State → Type 0 = λ s. Says (is_live (x ∷ other)) q.2 s answer in
+    let none : answer ≡ None = none_said (is_live (x ∷ other)) (said_before x.what r.2) q.2 r.0 q.1 answer r.6 r.7 (subst S state q.6) in
+    before ts (v ∷ us) said q.1 last q.2 g h.0 p q.3 ∙ sym (q.7 ∙ ap (λ a. last_said a q.2) none)
+
+-- ---- and then
+
+follows : SilenceIsForgotten → HearsOnce → (setting : Setting) (recovers : Bool) (own : Option (List ℕ)) (x last : Moment) (call past other : List Moment) (turns others : List Turn)
+    (answer second : Answer) (looks alarms : List Look) → Valid setting.start → AreReady own past (x ∷ other) → SaidAlike setting recovers past (x ∷ other)
+    → is_live past ≡ is_live (x ∷ other) → last_at past ≡ x.at → Told (cabled (last ∷ (call ++ past))) turns → Told (cabled (last ∷ (call ++ with_number x.at own (x ∷ other)))) others
+    → IsAnswered setting recovers (last ∷ (call ++ past)) turns answer looks
+    → IsAnswered setting recovers (last ∷ (call ++ with_number x.at own (x ∷ other))) others second alarms → (answer ≡ second) × (looks ≡ alarms)
+follows forgotten hears setting recovers None x last call past other turns others answer second looks alarms valid all said live at g h p q =
+    let joined = no_number past (x ∷ other) all in
+    says_on forgotten setting recovers last (call ++ past) (call ++ x ∷ other) turns others answer second looks alarms valid (joined_call call past (x ∷ other) joined)
+    (said_call forgotten setting recovers call past (x ∷ other) valid joined said live) (live_call call past (x ∷ other) live)
+    (last_call call past (x ∷ other) at) g h p q
+follows forgotten hears setting recovers (Some number) x last call past other turns others answer second looks alarms valid all said live at g h p q =
+    let told_number = owning x.at number ∷ x ∷ other in
+    let joined = joined_number number x.at past (x ∷ other) all in
+    says_on forgotten setting recovers last (call ++ past) (call ++ told_number) turns others answer second looks alarms valid (joined_call call past told_number joined)
+    (said_call forgotten setting recovers call past told_number valid joined (said_number hears setting recovers number x past other valid all said) live)
+    (live_call call past told_number live) (last_call call past told_number at) g h p q
+
+begin_ready : (past : List Moment) (m : Moment) (before : List Turn) → m.what ≡ Cable Begins → Told (cabled past) before
+    → AreReady (own_number (told before)) (m ∷ past) (m ∷ as_filed past before)
+begin_ready past m before is first [] us g h = absurd g
+begin_ready past m before is first (t ∷ ts) [] g h = absurd h
+begin_ready past m before is first (t ∷ ts) (u ∷ us) g h =
+    let filed = as_filed past before in
+    let fed = fed_filed past before first us h.0 in
+    let same : ts ≡ before = turns_once (cabled past) ts before g.0 first in
+    let had : but_silence (came past ts) ≡ but_silence (came filed us) =
+    ap (λ x. but_silence (came past x)) same ∙ filed_alike past before ∙ sym (ap (λ (c : List Came). but_silence c) fed.2) in
+    let R : List Turn → Type 0 = λ x. Ready (own_number (told x)) (m ∷ past) (m ∷ filed) (t ∷ ts) (u ∷ us) in
+    subst R same (begun_ready m past filed t u ts us is fed.0 had g h)
+
+begin_said : SilenceIsForgotten → (setting : Setting) (recovers : Bool) (own : Option (List ℕ)) (m : Moment) (past other : List Moment) → Valid setting.start → m.what ≡ Cable Begins
+    → AreReady own (m ∷ past) (m ∷ other) → SaidAlike setting recovers (m ∷ past) (m ∷ other)
+begin_said forgotten setting recovers own m past other valid is all [] us said answer last final g h p q = absurd g
+begin_said forgotten setting recovers own m past other valid is all (t ∷ ts) [] said answer last final g h p q = absurd h
+begin_said forgotten setting recovers own m past other valid is all (t ∷ ts) (u ∷ us) said answer last final g h p q =
+    let states : p.0 ≡ q.0 = state_since forgotten setting recovers (came (m ∷ past) (t ∷ ts)) (came (m ∷ other) (u ∷ us)) m.at p.0 q.0 valid p.5 q.5
+    (all (t ∷ ts) (u ∷ us) g h).since p.4 q.4 in
+    (said_step m.what (is_live (m ∷ past)) (is_live (m ∷ other)) p.0 q.0 p.2 q.2 said answer last final (live_alike [] past other m is) states (first_said m p.2 q.2 is) p.6 q.6 p.7 q.7).1
+
+pub number_may_follow : SilenceIsForgotten → HearsOnce → NumberMayFollow
+number_may_follow forgotten hears setting recovers last call [] past m before turns others answer other looks alarms valid is off first g h p q =
+    let own = own_number (told before) in
+    let filed = as_filed past before in
+    let ready = begin_ready past m before is first in
+    follows forgotten hears setting recovers own m last call (m ∷ past) filed turns others answer other looks alarms valid ready
+    (begin_said forgotten setting recovers own m past filed valid is ready) (live_alike [] past filed m is) refl g h p q
+number_may_follow forgotten hears setting recovers last call (one ∷ more) past m before turns others answer other looks alarms valid is off first g h p q =
+    let own = own_number (told before) in
+    let filed = as_filed past before in
+    let ready = begin_ready past m before is first in
+    let live = live_alike [] past filed m is in
+    follows forgotten hears setting recovers own one last call (one ∷ more ++ m ∷ past) (more ++ m ∷ filed) turns others answer other looks alarms valid
+    (ready_call own (one ∷ more) (m ∷ past) (m ∷ filed) off ready)
+    (said_ready forgotten setting recovers own (one ∷ more) (m ∷ past) (m ∷ filed) valid off ready (begin_said forgotten setting recovers own m past filed valid is ready) live)
+    (live_call (one ∷ more) (m ∷ past) (m ∷ filed) live) refl g h p q

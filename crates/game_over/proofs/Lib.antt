@@ -1,0 +1,4 @@
+pub mod Behind
+pub mod Endings
+pub mod OneWay
+pub mod Staying

@@ -1,0 +1,6 @@
+pub mod Keeping
+pub mod Laws
+pub mod Moves
+pub mod Over
+pub mod Result
+pub mod Said

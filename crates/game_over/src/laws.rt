@@ -1,0 +1,62 @@
+//! What holds of each history. Each law is the contract of a function, which does nothing.
+ghost use Rattle.game_over.specs.Laws.{AddedEndsNothing, EndsBehindFront, EndsOnce, EndsWithResult, GoesOnAfterEnd, IsOverExactly, MovesStay, OnlySetUpGoes, PassesOnce, SaidInOneWay, StandsTenSeconds, TakenBackEndsNothing};
+
+/// One thing is said to an event, by those before it.
+pub fn said_in_one_way()
+    ensures { SaidInOneWay }
+{}
+
+/// A game is over exactly if an event has ended it, and it wasn't reopened since.
+pub fn is_over_exactly()
+    ensures { IsOverExactly }
+{}
+
+/// A game that has ended ends no second time, until it is reopened.
+pub fn ends_once()
+    ensures { EndsOnce }
+{}
+
+/// Where time ends a game, its result has stood for ten seconds.
+pub fn stands_ten_seconds()
+    ensures { StandsTenSeconds }
+{}
+
+/// Once a time was told, up to it no time ends the game any more.
+pub fn passes_once()
+    ensures { PassesOnce }
+{}
+
+/// A result that was taken back ends nothing.
+pub fn taken_back_ends_nothing()
+    ensures { TakenBackEndsNothing }
+{}
+
+/// A game ends nowhere before the bytes that were written when it went back.
+pub fn ends_behind_front()
+    ensures { EndsBehindFront }
+{}
+
+/// A move that an arbiter adds ends no game.
+pub fn added_ends_nothing()
+    ensures { AddedEndsNothing }
+{}
+
+/// A game is said to go on only if it was over before, and two moves were made since.
+pub fn goes_on_after_end()
+    ensures { GoesOnAfterEnd }
+{}
+
+/// A game that ends with a result has it, and ends behind it.
+pub fn ends_with_result()
+    ensures { EndsWithResult }
+{}
+
+/// Of a game that ends without a result only a tail of its moves goes, with what may have been part of a set-up.
+pub fn only_set_up_goes()
+    ensures { OnlySetUpGoes }
+{}
+
+/// A move that stood for three seconds, or was added, is the game's, whatever ends it later.
+pub fn moves_stay()
+    ensures { MovesStay }
+{}

@@ -1,0 +1,485 @@
+//! Which alarms are open, worked by hand: what a board sends when, what is added by hand, what its clock says, and what
+//! happens beside it.
+
+ghost use Rattle.std.specs.Prelude.{IfSome};
+ghost use Rattle.board_events.specs.History.{IsInRange};
+
+use crate::coded_frames::expect_none;
+use crate::doubted::codes_of;
+use board_alarms::{Alarms, News, Sight};
+use board_doubts::Place;
+use board_doubts::Why::{self, AfterGap, Late, OtherTime, Unpressed};
+use board_events::Session;
+use board_looks::Look;
+use chess_game::result_at;
+use chess_rules::Position;
+use dgt_frame::{Event, First, Message};
+use settle_core::Seen;
+use std::alloc::{AllocError, Global};
+
+/// What comes.
+#[derive(Clone, Copy)]
+enum Step<'a> {
+    /// The board sends a dump.
+    Sends(&'a str),
+    /// A dump is added by hand.
+    Adds(&'a str),
+    /// The seconds of White and of Black below one minute, and the status.
+    Time(u8, u8, u8),
+    Notes(News),
+}
+
+use Step::{Adds, Notes, Sends, Time};
+
+/// An alarm that is open.
+#[derive(Clone, Copy, PartialEq, Eq)]
+enum Alarm {
+    At(u64, Why),
+    After(u64, Why),
+    /// Since this ply so many moves were made while the clock was stopped.
+    Since(u64, u64),
+    Suspect(u64),
+}
+
+use Alarm::{After, At, Since, Suspect};
+
+struct Case<'a> {
+    steps: &'a [(u64, Step<'a>)],
+    open: &'a [Alarm],
+}
+
+const START: &str = "rnbqkbnr/pppppppp/8/8/8/8/PPPPPPPP/RNBQKBNR";
+
+const E4: &str = "rnbqkbnr/pppppppp/8/8/4P3/8/PPPP1PPP/RNBQKBNR";
+
+/// Its pawn is in a hand.
+const LIFTED: &str = "rnbqkbnr/pppppppp/8/8/8/8/PPPP1PPP/RNBQKBNR";
+
+const E3: &str = "rnbqkbnr/pppppppp/8/8/8/4P3/PPPP1PPP/RNBQKBNR";
+
+const E5: &str = "rnbqkbnr/pppp1ppp/8/4p3/4P3/8/PPPP1PPP/RNBQKBNR";
+
+const NF3: &str = "rnbqkbnr/pppp1ppp/8/4p3/4P3/5N2/PPPP1PPP/RNBQKB1R";
+
+const NC6: &str = "r1bqkbnr/pppp1ppp/2n5/4p3/4P3/5N2/PPPP1PPP/RNBQKB1R";
+
+const BB5: &str = "r1bqkbnr/pppp1ppp/2n5/1B2p3/4P3/5N2/PPPP1PPP/RNBQK2R";
+
+const A6: &str = "r1bqkbnr/1ppp1ppp/p1n5/1B2p3/4P3/5N2/PPPP1PPP/RNBQK2R";
+
+const BA4: &str = "r1bqkbnr/1ppp1ppp/p1n5/4p3/B3P3/5N2/PPPP1PPP/RNBQK2R";
+
+/// Knights go out, and White's goes home.
+const OUT: &str = "rnbqkbnr/pppppppp/8/8/8/5N2/PPPPPPPP/RNBQKB1R";
+
+const BOTH_OUT: &str = "rnbqkb1r/pppppppp/5n2/8/8/5N2/PPPPPPPP/RNBQKB1R";
+
+const HOME: &str = "rnbqkb1r/pppppppp/5n2/8/8/8/PPPPPPPP/RNBQKBNR";
+
+const F3: &str = "rnbqkbnr/pppppppp/8/8/8/5P2/PPPPP1PP/RNBQKBNR";
+
+const F3_E5: &str = "rnbqkbnr/pppp1ppp/8/4p3/8/5P2/PPPPP1PP/RNBQKBNR";
+
+const G4: &str = "rnbqkbnr/pppp1ppp/8/4p3/6P1/5P2/PPPPP2P/RNBQKBNR";
+
+const MATE: &str = "rnb1kbnr/pppp1ppp/8/4p3/6Pq/5P2/PPPPP2P/RNBQKBNR";
+
+/// The clock runs, and its lever is down or up; or it stands.
+const RUNS: u8 = 0x01;
+
+const RUNS_UP: u8 = 0x03;
+
+const STANDS: u8 = 0x00;
+
+static CASES: [Case<'static>; 20] = [
+    // A correction is late after more than 10 s.
+    Case {
+        steps: &[
+            (0, Sends(START)),
+            (1_000, Sends(E4)),
+            (6_000, Sends(E4)),
+            (11_001, Sends(E3)),
+        ],
+        open: &[At(1, Late)],
+    },
+    Case {
+        steps: &[
+            (0, Sends(START)),
+            (1_000, Sends(E4)),
+            (6_000, Sends(E4)),
+            (11_000, Sends(E3)),
+        ],
+        open: &[],
+    },
+    // The same, added by hand.
+    Case {
+        steps: &[
+            (0, Sends(START)),
+            (1_000, Sends(E4)),
+            (6_000, Sends(E4)),
+            (11_001, Adds(E3)),
+        ],
+        open: &[],
+    },
+    // Nothing came for 10 s: there was time for two plies. And for less.
+    Case {
+        steps: &[
+            (0, Sends(START)),
+            (1_000, Sends(E4)),
+            (2_000, Sends(E5)),
+            (12_000, Sends(E5)),
+        ],
+        open: &[After(2, AfterGap)],
+    },
+    Case {
+        steps: &[
+            (0, Sends(START)),
+            (1_000, Sends(E4)),
+            (2_000, Sends(E5)),
+            (11_999, Sends(E5)),
+        ],
+        open: &[],
+    },
+    // What is added by hand doesn't show that the board is heard.
+    Case {
+        steps: &[
+            (0, Sends(START)),
+            (1_000, Sends(E4)),
+            (2_000, Sends(E5)),
+            (8_000, Adds(E5)),
+            (12_000, Sends(E5)),
+        ],
+        open: &[After(2, AfterGap)],
+    },
+    // The line was gone: there was time for two plies, or not.
+    Case {
+        steps: &[
+            (0, Sends(START)),
+            (1_000, Sends(E4)),
+            (2_000, Sends(E5)),
+            (2_100, Notes(News::Gone)),
+            (4_500, Sends(E5)),
+        ],
+        open: &[After(2, AfterGap)],
+    },
+    Case {
+        steps: &[
+            (0, Sends(START)),
+            (1_000, Sends(E4)),
+            (2_000, Sends(E5)),
+            (2_100, Notes(News::Gone)),
+            (3_900, Sends(E5)),
+        ],
+        open: &[],
+    },
+    // A recorder begins: only players who have just repeated a position are doubted.
+    Case {
+        steps: &[
+            (0, Sends(START)),
+            (1_000, Sends(E4)),
+            (2_000, Sends(E5)),
+            (60_000, Notes(News::Begins)),
+            (61_000, Sends(E5)),
+        ],
+        open: &[],
+    },
+    Case {
+        steps: &[
+            (0, Sends(START)),
+            (1_000, Sends(OUT)),
+            (2_000, Sends(BOTH_OUT)),
+            (3_000, Sends(HOME)),
+            (4_000, Sends(START)),
+            (60_000, Notes(News::Begins)),
+            (61_000, Sends(START)),
+        ],
+        open: &[After(4, AfterGap)],
+    },
+    // The pieces are to be put where they belong, and stand there, or don't.
+    Case {
+        steps: &[
+            (0, Sends(START)),
+            (1_000, Sends(E4)),
+            (60_000, Notes(News::Begins)),
+            (60_000, Notes(News::PutsBack)),
+            (61_000, Sends(E3)),
+        ],
+        open: &[At(1, AfterGap)],
+    },
+    Case {
+        steps: &[
+            (0, Sends(START)),
+            (1_000, Sends(E4)),
+            (2_000, Sends(LIFTED)),
+            (60_000, Notes(News::Begins)),
+            (60_000, Notes(News::PutsBack)),
+            (61_000, Sends(E3)),
+        ],
+        open: &[],
+    },
+    // A game that is over isn't doubted.
+    Case {
+        steps: &[
+            (0, Sends(START)),
+            (1_000, Sends(F3)),
+            (2_000, Sends(F3_E5)),
+            (3_000, Sends(G4)),
+            (4_000, Sends(MATE)),
+            (30_000, Sends(MATE)),
+        ],
+        open: &[],
+    },
+    // Moves are made while the clock is stopped.
+    Case {
+        steps: &[
+            (0, Sends(START)),
+            (100, Time(59, 59, RUNS)),
+            (1_000, Sends(E4)),
+            (2_000, Sends(E5)),
+            (3_000, Time(59, 59, STANDS)),
+            (6_000, Sends(NF3)),
+            (7_000, Sends(NC6)),
+        ],
+        open: &[Since(2, 1), Since(2, 2)],
+    },
+    // Somebody has looked.
+    Case {
+        steps: &[
+            (0, Sends(START)),
+            (100, Time(59, 59, RUNS)),
+            (1_000, Sends(E4)),
+            (2_000, Sends(E5)),
+            (3_000, Time(59, 59, STANDS)),
+            (6_000, Sends(NF3)),
+            (6_500, Notes(News::Looked)),
+        ],
+        open: &[],
+    },
+    Case {
+        steps: &[
+            (0, Sends(START)),
+            (1_000, Notes(News::Suspects(3))),
+            (2_000, Notes(News::Looked)),
+            (3_000, Notes(News::Suspects(7))),
+            (4_000, Notes(News::Suspects(9))),
+        ],
+        open: &[Suspect(7), Suspect(9)],
+    },
+    // Nobody presses the clock for six plies, though somebody did before. And somebody does.
+    Case {
+        steps: &[
+            (0, Sends(START)),
+            (100, Time(59, 59, RUNS)),
+            (200, Time(59, 59, RUNS_UP)),
+            (1_000, Sends(E4)),
+            (2_000, Sends(E5)),
+            (3_000, Sends(NF3)),
+            (4_000, Sends(NC6)),
+            (5_000, Sends(BB5)),
+            (6_000, Sends(A6)),
+        ],
+        open: &[At(6, Unpressed)],
+    },
+    Case {
+        steps: &[
+            (0, Sends(START)),
+            (100, Time(59, 59, RUNS)),
+            (200, Time(59, 59, RUNS_UP)),
+            (1_000, Sends(E4)),
+            (2_000, Sends(E5)),
+            (3_000, Sends(NF3)),
+            (3_500, Time(59, 59, RUNS)),
+            (4_000, Sends(NC6)),
+            (5_000, Sends(BB5)),
+            (6_000, Sends(A6)),
+        ],
+        open: &[],
+    },
+    // Seven plies are thought about on the other side's time. And on the own one.
+    Case {
+        steps: &[
+            (0, Sends(START)),
+            (100, Time(59, 59, RUNS)),
+            (900, Time(59, 58, RUNS)),
+            (1_000, Sends(E4)),
+            (1_900, Time(58, 58, RUNS)),
+            (2_000, Sends(E5)),
+            (2_900, Time(58, 57, RUNS)),
+            (3_000, Sends(NF3)),
+            (3_900, Time(57, 57, RUNS)),
+            (4_000, Sends(NC6)),
+            (4_900, Time(57, 56, RUNS)),
+            (5_000, Sends(BB5)),
+            (5_900, Time(56, 56, RUNS)),
+            (6_000, Sends(A6)),
+            (6_900, Time(56, 55, RUNS)),
+            (7_000, Sends(BA4)),
+        ],
+        open: &[At(7, OtherTime)],
+    },
+    Case {
+        steps: &[
+            (0, Sends(START)),
+            (100, Time(59, 59, RUNS)),
+            (900, Time(58, 59, RUNS)),
+            (1_000, Sends(E4)),
+            (1_900, Time(58, 58, RUNS)),
+            (2_000, Sends(E5)),
+            (2_900, Time(57, 58, RUNS)),
+            (3_000, Sends(NF3)),
+            (3_900, Time(57, 57, RUNS)),
+            (4_000, Sends(NC6)),
+            (4_900, Time(56, 57, RUNS)),
+            (5_000, Sends(BB5)),
+            (5_900, Time(56, 56, RUNS)),
+            (6_000, Sends(A6)),
+            (6_900, Time(55, 56, RUNS)),
+            (7_000, Sends(BA4)),
+        ],
+        open: &[],
+    },
+];
+
+/// A board and its game.
+#[derive(Drop)]
+struct Board {
+    session: Session,
+    alarms: Alarms,
+    /// The last picture, if one was shown.
+    has_shown: bool,
+    shown: [u8; 64],
+}
+
+/// Two digits as a clock sends them.
+fn digits(n: u8) -> u8 {
+    let tens = (n / 10) % 8;
+    tens * 16 + n % 10
+}
+
+/// What a dump shows after another one.
+fn sight(codes: [u8; 64], has_shown: bool, last: [u8; 64]) -> Sight {
+    if has_shown && last == codes {
+        Sight::Again
+    } else {
+        Sight::Another
+    }
+}
+
+/// A dump, if these are codes of pieces.
+fn dump_of(codes: [u8; 64]) -> Option<Event>
+    ensures { IfSome result (λ event. IsInRange event) }
+{
+    if codes.iter().all(|code| *code < 16) {
+        Some(Event::Message(Message::Dump(codes)))
+    } else {
+        None
+    }
+}
+
+/// What a session sees in an event.
+fn feed(session: &mut Session, event: Event) -> Result<Option<Seen>, AllocError>
+    requires { IsInRange event }
+{
+    let taken = session.take(event)?;
+    Ok(taken.seen)
+}
+
+impl Board {
+    fn new(alloc: Global) -> Board {
+        let start = Position::initial();
+        let alarms = Alarms::new(alloc, &start);
+        Board {
+            session: Session::new(alloc, start, First::White, false),
+            alarms,
+            has_shown: false,
+            shown: [0; 64],
+        }
+    }
+
+    fn dump(&mut self, at: u64, is_added: bool, codes: [u8; 64]) -> Result<(), AllocError> {
+        let sight = sight(codes, self.has_shown, self.shown);
+        self.has_shown = true;
+        self.shown = codes;
+        let Some(event) = dump_of(codes) else {
+            return Ok(());
+        };
+        self.event(at, is_added, event, sight)
+    }
+
+    fn event(
+        &mut self,
+        at: u64,
+        is_added: bool,
+        event: Event,
+        sight: Sight,
+    ) -> Result<(), AllocError>
+        requires { IsInRange event }
+    {
+        feed(&mut self.session, event)?;
+        let settler = self.session.settler();
+        let result = result_at(settler.position(), settler.sign());
+        self.alarms.take(
+            at,
+            is_added,
+            &event,
+            sight,
+            &self.shown,
+            &self.session,
+            result,
+        )
+    }
+
+    fn take(&mut self, at: u64, step: Step<'_>) -> Result<(), AllocError> {
+        match step {
+            Sends(placement) => self.dump(at, false, codes_of(placement)),
+            Adds(placement) => self.dump(at, true, codes_of(placement)),
+            Time(white, black, status) => {
+                let times = [0, 0, digits(white), 0, 0, digits(black), status];
+                let event = Event::Message(Message::Time(times));
+                self.event(at, false, event, Sight::Nothing)
+            }
+            Notes(news) => self.alarms.note(at, news),
+        }
+    }
+}
+
+fn alarm_of(look: &Look) -> Alarm {
+    match *look {
+        Look::Doubtful { plies, doubt } => match doubt.place {
+            Place::AtLast => At(plies, doubt.why),
+            Place::AfterLast => After(plies, doubt.why),
+        },
+        Look::Stopped { plies, moves } => Since(plies, moves),
+        Look::Suspected(n) => Suspect(n),
+    }
+}
+
+/// Whether just these alarms are open in the end.
+fn are_open(alloc: Global, case: &Case<'_>) -> Result<bool, AllocError> {
+    let mut board = Board::new(alloc);
+    for (at, step) in case.steps {
+        board.take(*at, *step)?;
+    }
+    let looks = board.alarms.open();
+    for (i, look) in looks.iter().enumerate() {
+        if case.open.get(i).copied() != Some(alarm_of(look)) {
+            return Ok(false);
+        }
+    }
+    Ok(looks.len() == case.open.len())
+}
+
+/// The number of the first case that is wrong.
+fn first_wrong(alloc: Global) -> Option<usize> {
+    for (i, case) in CASES.iter().enumerate() {
+        if are_open(alloc, case) != Ok(true) {
+            return Some(i);
+        }
+    }
+    None
+}
+
+#[test]
+fn alarms_are_open(rt: HostRuntime) {
+    expect_none(&rt, first_wrong(rt.alloc()));
+}
