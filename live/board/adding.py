@@ -13,9 +13,10 @@ from live.game.answers import ILLEGAL, LONG, Said, meaning, whose_move
 from live.game.changing import add_and_make, add_by_name
 from live.game.course import Course
 from live.game.files import Paths
-from live.game.game import Game, end_mark, forget_question
+from live.game.game import Game, end_mark, forget_question, result_in
 from live.game.reading import game_of
 from live.game.reply import Answer, Refused
+from live.game.way_back import NO_RESULT
 from live.refused import DONE
 from live.steps import Steps
 
@@ -23,15 +24,14 @@ ADDED = "added"
 
 
 def add(obeying: Obeying, line: str, sure: bool) -> Steps[Answer]:
-    """Adds to the game. Unless it is `sure` which game of a series is meant, a result needs a move before it."""
+    """Adds to the game. A result in a series may be meant for the game before, unless it is `sure` which one is meant."""
     games = obeying.games
     if not isinstance(games.now, Recording):
         return (yield from _add_last(obeying, line))
     said = yield from obeying.asked(ADDED, functools.partial(_said_of, games.game, line))
     now, had = obeying.recorded(ADDED), games.course.result
-    if said.outcome and games.before and not sure and not games.course.plies:
-        name = games.game.paths.name
-        raise Refused(f"{name} has no move yet. Type {said.outcome} {games.before.name}, or {said.outcome} {name}")
+    if said.outcome and games.before and not sure:
+        yield from _be_sure(obeying, said.outcome, games.before)
     if not said.put or not games.game.capture.has_room(len(said.put)):
         raise _refusal(games.game, games.course, said, line)
     now.put(said.put, said.outcome)
@@ -39,7 +39,7 @@ def add(obeying: Obeying, line: str, sure: bool) -> Steps[Answer]:
     if not (yield from now.reports_put()):
         raise Refused(JUST_ENDED)
     forget_question(games.game.paths)
-    what = meaning(said, line)
+    what = meaning(said, line, [ply.short for ply in games.course.plies])
     if not said.outcome and had != "*":
         what += f"; the result {had} is gone: add it again"
     obeying.screen.say(f"added by hand: {what}")
@@ -47,6 +47,17 @@ def add(obeying: Obeying, line: str, sure: bool) -> Steps[Answer]:
         now.ends_with_put()
         yield games.wait_until_closed
     return DONE, f"added to {games.game.paths.name}: {what}"
+
+
+def _be_sure(obeying: Obeying, outcome: str, before: Paths) -> Steps[None]:
+    """Asks which game is meant if the result may be that of the game before: that has none, or this one has no move."""
+    games = obeying.games
+    name = games.game.paths.name
+    which = f"Type {outcome} {before.name}, or {outcome} {name}"
+    if not games.course.plies:
+        raise Refused(f"{name} has no move yet. {which}")
+    if (yield from obeying.beside(functools.partial(result_in, before))) == NO_RESULT:
+        raise Refused(f"{before.name} has no result yet. {which}")
 
 
 def _refusal(game: Game, course: Course, said: Said, line: str) -> Refused:

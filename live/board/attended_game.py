@@ -5,7 +5,7 @@ from __future__ import annotations
 from typing import Callable, List, Optional, Protocol, Tuple
 
 from live.board.standing import Standing
-from live.game.attended import Answer
+from live.game.attended import Answer, Doubt
 from live.game.attending import Attending, Past, Told
 from live.game.game import Game
 from live.game.times import ADDED, HEARD
@@ -35,7 +35,7 @@ class AttendedGame:
 
     def __init__(self, guard: Guard, game: Game, hears: HearsGame) -> None:
         self._guard, self.game, self._hears_game = guard, game, hears
-        self._late: List[Tuple[float, List[str]]] = []  # lines whose bytes wait to be written
+        self._late: List[Tuple[float, List[str], List[Doubt]]] = []  # lines whose bytes wait to be written, and what is doubtful in them
         self._is_news = False  # whether the state may be another one than the one that is shown
         self._has_lost = False  # bytes that can't be written any more, which the program has
         self._patience: Optional[Timer] = None
@@ -66,12 +66,13 @@ class AttendedGame:
         self._hears_game.said(told, answer)
         if self._is_closed:
             return
-        if answer.report:
+        if answer.report or answer.doubts:
             self._is_news = True
             if self.game.capture.waits or self._late:
-                self._late.append((told.at, answer.report))
+                self._late.append((told.at, answer.report, answer.doubts))
             else:
                 self._reports(told.at, answer.report)
+                self._doubts(answer.doubts)
         if self._is_closed:
             return
         if answer.stood and self.standing and not self._is_ending:
@@ -102,8 +103,15 @@ class AttendedGame:
         """New lines of the report, of what happened at this time."""
         raise NotImplementedError
 
+    def _doubts(self, doubts: List[Doubt]) -> None:
+        """What is doubtful in the game so far."""
+
     def _is_through(self) -> None:
         """All is said of what was told last."""
+
+    def ask_text(self, gets: Callable[[Optional[bytes]], None]) -> None:
+        """`gets` gets the text of the game as the program has it; None if that may have bytes that the capture lacks."""
+        self.attending.ask_text(lambda text: gets(None if self.game.capture.waits or self._has_lost else text))
 
     def wake(self) -> None:
         """Call this now and then."""
@@ -112,13 +120,14 @@ class AttendedGame:
             return
         if self._has_lost:  # the program has bytes that the capture lacks
             self._has_lost = False
-            self.attending.unreported(sum(len(texts) for _, texts in self._late))
+            self.attending.unreported(sum(len(texts) for _, texts, _ in self._late))
             self._late.clear()
             self.attending.restart()
         late, self._late = self._late, []
-        for at, texts in late:
+        for at, texts, doubts in late:
             if not self._is_closed:
                 self._reports(at, texts)
+                self._doubts(doubts)
         if late and self.standing:
             self.standing.show()
 

@@ -7,12 +7,13 @@ import dataclasses
 import functools
 import math
 from dataclasses import dataclass
-from typing import Callable, List, Optional, Protocol, Tuple
+from typing import TYPE_CHECKING, Callable, List, Optional, Protocol, Sequence, Tuple
 
 from live.beside import Worker
 from live.board.asked_first import AskedFirst
 from live.board.plan import Plan
 from live.board.recorder import Recorder
+from live.board.recording import Recording
 from live.board.state import State
 from live.board.typed_lines import Line, TypedLines
 from live.board.whose import Owner
@@ -37,6 +38,9 @@ from live.loop import Timer, Turns
 from live.refused import DONE, FAILED, Refused
 from live.steps import Steps, beside
 from live.terminal.screen import Screen
+
+if TYPE_CHECKING:
+    from live.board.exchanged import Return, Returned
 
 PAUSES = (2.0, 5.0, 10.0, 20.0, 40.0, 60.0)  # seconds between tries to record a board
 ENDED = "its recording has ended"
@@ -66,6 +70,9 @@ class HearsBoard(Protocol):
     def ended(self, why: Optional[Exception]) -> bool:
         """Its recording has ended, or couldn't begin. Returns whether to try again."""
 
+    def came_back(self) -> None:
+        """Its board was away, and is there again."""
+
     def missing(self) -> None:
         """Its board, whose serial number is known, isn't on its cable any more."""
 
@@ -82,6 +89,7 @@ class Board:
         self._options = Options()
         self.course: Course = new_course(self._options)
         self.trouble = ""  # why it isn't recorded
+        self._back: Optional[Return] = None  # when it was away last, and heard again
         self.refused: Optional[Refused] = None  # why its recording has ended, if that was an error
         self.is_over = False
         self.is_new = True  # nothing is known about it yet; a call that ends before its game is open leaves it so
@@ -159,7 +167,7 @@ class Board:
         if anew:
             self._screen.say(self._screen.anew(str(self._paths.pgn), "; ".join(anew)))
         self.is_over = opened.is_over
-        if plan.shows or (opened.is_over and plan.board):  # it stays so
+        if plan.shows or (opened.is_over and plan.board and (self.forfeit or not opened.was_set_up)):  # it stays so
             self._release(None)
         else:
             self._recorder = Recorder(guard, worker, self._screen, plan, opened, self, asked)
@@ -242,6 +250,28 @@ class Board:
         else:
             self._hears.ended(None)
         self._hears.changed()
+
+    def came_back(self, heard_at: float) -> None:
+        """Its board was unplugged or silent, and is heard again."""
+        from live.board.exchanged import Return
+
+        self._back = Return(heard_at, self._loop.now())
+        self._hears.came_back()
+
+    @property
+    def returned(self) -> Optional[Returned]:
+        """When it was away last, and what tells it from others; None if it wasn't, or its game has no move or is over."""
+        if self._back is None or self.is_over or not self.plies:
+            return None
+        from live.board.exchanged import Returned
+
+        return Returned(self._back, self.number, self._course.placement)
+
+    def suspect(self, others: Sequence[int]) -> None:
+        """Its cable may have been exchanged with that of one of the boards with these numbers."""
+        now = self._recorder.now if self._recorder else None
+        if self._guard and isinstance(now, Recording):
+            self._guard.call(functools.partial(now.suspect, others))
 
     def missing(self) -> None:
         """Its board isn't on its cable any more."""

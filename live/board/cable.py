@@ -10,7 +10,6 @@ from live.board.on_the_way import ANOTHER
 from live.board.standing import Standing
 from live.board.state import Kind
 from live.device.connection import Connection
-from live.device.protocol import NUMBER_SIZE, number_in
 from live.game.attended import KEEP, OTHER, WAKE, Answer
 from live.game.attending import OF_THE_LINE, Told
 from live.game.files import MEMORY
@@ -71,7 +70,6 @@ class Cable:
         self.number = number  # of the game's board; empty if unknown
         self.other = ""  # the number of the board on the cable, if it is another board
         self._told_other = ""  # that of the one that was last reported, while it is on the cable
-        self._last = b""  # bytes in which a number may begin
         self._another: Optional[AnotherBoard] = None  # while another board is on it
         self._unsure: List[bytes] = []  # what has come, while nobody knows whose it is
         self._foreign: List[bytes] = []  # what another board has sent and no game has taken
@@ -141,22 +139,18 @@ class Cable:
                 self._is_foreign([told.sent])
             return
         self._asks(answer)
-        number = ""
         if told.what == OPENED:
-            self._last = b""
             self._unsure.clear()
-        elif told.what == HEARD:
-            number = self._number_in(told.sent)
-            if answer.handling != KEEP:
-                keep(self._unsure, told.sent)
-        if not self.number and (answer.number or number):
-            self._is_own(answer.number or number)
+        elif told.what == HEARD and answer.handling != KEEP:
+            keep(self._unsure, told.sent)
+        if answer.number and not self.number:
+            self._is_own(answer.number)
         if answer.handling == OTHER and answer.other != self.number:  # else it was taken meanwhile
             self._attend_another()
             self._is_other(answer.other)
         elif answer.handling == KEEP:
             self._unsure.clear()
-            if number == self.number:
+            if answer.kept:
                 self._is_back()
 
     def of_another(self, told: Told, answer: Answer) -> None:
@@ -176,12 +170,6 @@ class Cable:
             self._connection.ask(answer.asked)
         if answer.stood:
             self._stands(Kind.of(answer.stood.kind))
-
-    def _number_in(self, sent: bytes) -> str:
-        """The serial number that has come with these bytes, if one has."""
-        text = self._last + sent
-        self._last = text[1 - NUMBER_SIZE :]
-        return number_in(text)
 
     def plays_elsewhere(self) -> None:
         """The game's board is on another cable: what is on this one isn't known."""
@@ -229,7 +217,7 @@ class Cable:
             self._hears.heard(b"".join(unsure))
 
     def _is_back(self) -> None:
-        """The game's own board has given its number."""
+        """The game gets what the board on the cable sends."""
         if self._told_other:
             before, self._told_other = self._told_other, ""
             self._foreign.clear()

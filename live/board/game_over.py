@@ -1,13 +1,14 @@
-"""A board whose game has a result. It is watched until its pieces are set up: the result may have been meant for another board, or
-the kings may have been in the centre by mistake. What it sends is kept after the game's bytes."""
+"""A board whose game is over. If it has a result, it is watched until its pieces are set up: the result may have been meant for
+another board, or the kings may have been in the centre by mistake. If it has none, it is watched for moves from the start. What it
+sends is kept after the game's bytes."""
 
 from __future__ import annotations
 
-from typing import Callable, List, Protocol
+from typing import Callable, List, Protocol, Union
 
 from live.board.attended_game import AttendedGame, HearsGame
 from live.board.disk import unwritten_of
-from live.game.after_the_end import AfterTheEnd
+from live.game.after_the_end import AfterSetUp, AfterTheEnd
 from live.game.alarms import keep_looks, kept_looks
 from live.game.course import Course
 from live.game.files import text_of
@@ -16,6 +17,7 @@ from live.game.looks import Look
 from live.game.making_pgn import Made
 from live.game.options import Options
 from live.game.report import Picture, line_of
+from live.game.way_back import NO_RESULT
 from live.guard import Guard
 from live.terminal.screen import Screen
 
@@ -41,9 +43,12 @@ class Listening(AttendedGame):
         self._screen, self._hears = screen, hears
         self.looks = kept_looks(game.paths)
         last = course.plies[-1].short if course.plies else "the start"
-        self._after = AfterTheEnd(course.start, last, course.result)
+        self._after: Union[AfterTheEnd, AfterSetUp] = AfterTheEnd(course.start, last, course.result)
+        fen = course.fens[-1] if course.fens else game.options.fen
+        if course.result == NO_RESULT:
+            self._after, fen = AfterSetUp(last), game.options.fen
         self._from = game.capture.size
-        words = Options(game.options.rotated, fen=course.fens[-1] if course.fens else game.options.fen).of_board()
+        words = Options(game.options.rotated, fen=fen).of_board()
         self.attend(words, self._from)
         self._is_paused, self._paused_at = False, 0
         self._tick = guard.after(TICK, self._each_second)
@@ -67,17 +72,17 @@ class Listening(AttendedGame):
             look = self._after.take(line.event)
             if look:
                 self._look(look)
-            if isinstance(line.event, Picture) and self._after.is_set_up:
+            if isinstance(line.event, Picture) and isinstance(self._after, AfterTheEnd) and self._after.is_set_up:
                 self._hears.set_up()
                 return
 
     def _look(self, look: Look) -> None:
         """Raises an alarm."""
         self.looks = self.looks.with_one_more(look)
-        self._screen.say(
-            f"{look.text}. Look at it, and type {self._screen.ok()};",
-            f"if the game isn't over, type {self._screen.reopens()}: it goes on with these moves",
-        )
+        else_type = f"if the game isn't over, type {self._screen.reopens()}: it goes on with these moves"
+        if isinstance(self._after, AfterSetUp):
+            else_type = f"if the game begins only now, type {self._screen.begins()}: it has these moves then"
+        self._screen.say(f"{look.text}. Look at it, and type {self._screen.ok()};", else_type)
         try:
             keep_looks(self.game.paths, self.looks)
         except OSError as error:
@@ -99,7 +104,8 @@ class Listening(AttendedGame):
 
     def ends_with(self, result: str) -> None:
         """Another result was typed."""
-        self._after.result = result
+        if isinstance(self._after, AfterTheEnd):
+            self._after.result = result
 
     def look_again(self) -> None:
         """The alarms that are kept have changed."""

@@ -43,7 +43,7 @@ class Games(Protocol):
 
     @property
     def before(self) -> Optional[Paths]:
-        """The game before this one, in this call."""
+        """The game before this one, in a series."""
 
     @property
     def now(self) -> Union[Recording, SettingUp, Listening, None]:

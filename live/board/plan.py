@@ -44,6 +44,12 @@ class Plan:
         """The files of the game, or of the last existing game of the series."""
         return numbered(self.name, last_number(self.name)) if self.rules.series else Paths(self.name)
 
+    @property
+    def before(self) -> Optional[Paths]:
+        """The files of the game before that one, if this is a series and they are there."""
+        before = numbered(self.name, last_number(self.name) - 1) if self.rules.series else None
+        return before if before and os.path.lexists(before.capture) else None
+
 
 class HearsRecorder(Protocol):
     """Gets the events of a recorder."""
@@ -62,6 +68,9 @@ class HearsRecorder(Protocol):
 
     def stopped(self, refused: Optional[Refused]) -> None:
         """The recording has ended; with the reason if that was an error."""
+
+    def came_back(self, heard_at: float) -> None:
+        """Its board, which was unplugged or silent and was heard last at this time, is heard again."""
 
     def missing(self) -> None:
         """Its board, whose serial number is known, isn't on its cable any more."""

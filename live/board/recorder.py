@@ -54,7 +54,7 @@ class Recorder:
         self._guard, self._worker, self._screen, self._plan, self._hears = guard, worker, screen, plan, hears
         self._refused: Optional[Refused] = None
         self._arbiter: Optional[Arbiter] = None  # what obeys typed lines, once one was typed
-        self.before: Optional[Paths] = None  # the game before this one, in this call
+        self.before = plan.before  # the game before this one
         self._reason: Optional[Reason] = None  # why the game is over
         self._ending = self._closing = False
         self.begins_anew = False  # whether the start begins this game, and not the next one
@@ -69,8 +69,8 @@ class Recorder:
         if plan.serial:
             self.numbered(plan.serial)
         self.course = opened.old.course
-        if plan.rules.series and opened.is_over:
-            self._await_start(None)
+        if opened.is_over and (plan.rules.series or plan.rules.listens):
+            self._await_start(None) if plan.rules.series else self._await_moves()
         else:
             self._record(opened)
         self._cable.begin()
@@ -116,17 +116,15 @@ class Recorder:
         """The game has ended."""
         self._reason = reason
         if reason is Reason.LIMIT and not self._plan.rules.series:
-            capture = self.game.paths.capture
-            most = mebibytes(self.game.options)
-            why = f"{capture} has {most} MiB, and none may have more: go on under another name, with --fen"
-            self._refused = Refused(FAILED, why)
+            has = f"{self.game.paths.capture} has {mebibytes(self.game.options)} MiB"
+            self._refused = Refused(FAILED, f"{has}, and none may have more: go on under another name, with --fen")
         self._guard.after(0, self._close_game)
 
     def _close_game(self) -> None:
         if self._ending or self._closing or not isinstance(self.now, Recording):
             return
         self._closing = True
-        listens = self._reason is Reason.TYPED or (self._plan.rules.listens and self._reason is Reason.RESULT)
+        listens = self._reason is Reason.TYPED or (self._plan.rules.listens and self._reason in (Reason.RESULT, Reason.SET_UP))
         if not self._plan.rules.series and not listens:
             self._ending = True
             self._cable.last_words()
@@ -359,7 +357,11 @@ class Recorder:
         if owner and (self._plan.serial or number == kept_other(self.game.paths)):
             self._screen.say(f"{self.cable} has the board of {owner.name}, serial number {number}: it goes to that game")
         else:
-            self._look(another(self.number, number, owner, bool(self.course.plies)))
+            self.look_at(another(self.number, number, owner, bool(self.course.plies)))
+
+    def came_back(self, heard_at: float) -> None:
+        """Its board was away, and is heard again."""
+        self._hears.came_back(heard_at)
 
     def missing(self) -> None:
         """Its own board isn't on its cable any more."""
@@ -368,9 +370,9 @@ class Recorder:
     def back(self, other: str) -> None:
         """Its own board is on its cable again."""
         if not (self._plan.serial and self._hears.owner(other)):
-            self._look(back(self.number, other))
+            self.look_at(back(self.number, other))
 
-    def _look(self, look: Look) -> None:
+    def look_at(self, look: Look) -> None:
         """Raises an alarm."""
         if isinstance(self.now, Recording):
             self.now.look_at(look)
@@ -385,8 +387,7 @@ class Recorder:
         """Whether the board on the cable is another one, and `ok` gives it to this game."""
         other = self._cable.other
         owner = self._hears.owner(other) if other else None
-        is_found = bool(owner and self._plan.serial)
-        return bool(other) and not is_found and may_take(owner, bool(self.course.plies))
+        return bool(other) and not (owner and self._plan.serial) and may_take(owner, bool(self.course.plies))
 
     def gone(self, message: str, was_there: bool) -> None:
         """The board isn't there and isn't waited for, or another process has its line."""
@@ -405,8 +406,8 @@ class Recorder:
 
     def broken(self, what: str) -> None:
         """A child process has ended again and again."""
-        pgn = self.game.paths.pgn
-        self._fail(f"a part of the program failed again and again ({what}); what was played is in {pgn}", Broken)
+        played = f"what was played is in {self.game.paths.pgn}"
+        self._fail(f"a part of the program failed again and again ({what}); {played}", Broken)
 
     def _fail(self, message: str, kind: Type[Refused] = Refused) -> None:
         if self._refused is None:

@@ -16,10 +16,11 @@ from live.board.disk import Disk, unwritten_of
 from live.board.lingering import Lingering
 from live.board.standing import Standing
 from live.board.state import lasting, mend_of, trouble_of
-from live.device.ended import NOTHING, Ends
-from live.game import ending
+from live.game import ending, times
 from live.game.alarms import Alarms, acknowledged
+from live.game.attended import SUSPECT, Doubt
 from live.game.course import Start
+from live.game.doubted import byte_of, look_of
 from live.game.edited import told_of_edit
 from live.game.files import text_of
 from live.game.front import front_of
@@ -28,7 +29,7 @@ from live.game.looks import Look, Looks
 from live.game.making_pgn import Made, Maker
 from live.game.opening import Opened
 from live.game.report import Clock, Differs, Event, Fault, Line, Move, Position, Recovered, Result, line_of
-from live.game.times import ADDED
+from live.game.times import ADDED, BACK, LOOKED
 from live.guard import Guard
 from live.steps import Resume, Steps
 from live.terminal.screen import Screen
@@ -76,6 +77,9 @@ class HearsRecording(HearsGame, Protocol):
     def restored(self) -> None:
         """The capture was removed, and is written anew."""
 
+    def came_back(self, heard_at: float) -> None:
+        """The board, which was unplugged or silent and had been heard last at this time, is heard again."""
+
 
 class Recording(AttendedGame):
     """A game on a board, from its first byte to its text. What came before this call was reported then."""
@@ -99,16 +103,13 @@ class Recording(AttendedGame):
         self.standing: Standing = Standing(guard, screen, self.game.options.rotated)
         self.standing.was_away = bool(opened.old.lines)  # what it showed before this call is long ago
         self._maker = Maker(guard, worker, self.game, self)
-        self._alarms = Alarms(self.game.paths, self.course)
-        if self.course.board and self._old == front_of(self.game.paths, self.game.capture) != 0:  # nothing has come since then
-            self._alarms.put_back(self.course.board)
-        self._heard_at = guard.now()  # when the board was heard last
-        self._came_at = 0  # the capture's size before what came last
+        self._alarms = Alarms(self.game.paths)
+        self._heard_at: Optional[float] = None  # when the board was heard last in this call
         self._away = guard.away.seconds  # for how long this recorder was away by then
-        self._gap = opened.old.gap  # for how long it wasn't heard before this call
         self._was_away = False  # and no dump has come since
-        self._ends, self._ended = Ends(), NOTHING  # and what has ended in what came last
+        self._left_at: Optional[float] = None  # when it was heard last before it was unplugged or silent
         self._is_large = False  # and that was said
+        self._suspected: List[int] = []  # the boards with which its cable may have been exchanged, until somebody has looked
         self._by_hand = range(0)  # the bytes that were added last
         self.standing.board.look = self.looks.short
         self._disk = Disk(screen, self.standing, self.game.capture, self)
@@ -119,6 +120,8 @@ class Recording(AttendedGame):
         if opened.old.lines:
             self._tell_old()
         self.attend(self.game.options.of_live(), with_times=True, known=opened.old.lines)
+        if self._old == front_of(self.game.paths, self.game.capture) != 0:  # nothing has come since plies were taken off
+            self._tell(BACK)
 
     def _tell_old(self) -> None:
         """Shows what was played before this call."""
@@ -137,19 +140,21 @@ class Recording(AttendedGame):
     def _keep(self, at: float, sent: bytes) -> None:
         unheard = self._guard.away.seconds - self._away
         if self.standing.was_away or unheard:
-            self._comes_back(max(at - self._heard_at, unheard) + self._gap, unheard)
-        self._heard_at, self._gap, came_at = at, 0.0, self.game.capture.size
+            self._comes_back(unheard)
+        self._heard_at = at
         super()._keep(at, sent)
-        self._ended = self._ends.take(sent)
-        if self._ended.time:
-            self._alarms.time(at, self._ended.time, came_at)
 
-    def _comes_back(self, silence: float, unheard: float) -> None:
-        """The board is heard again after such a silence. Nobody listened for the last part of it."""
+    def _tell(self, what: str, count: Optional[int] = None) -> None:
+        """This happens now, and is kept with the game's times."""
+        self.game.times.happened(what, count)
+        self.attending.tell(what, count=count)
+
+    def _comes_back(self, unheard: float) -> None:
+        """The board is heard again. Nobody listened for so many of the last seconds."""
         self._away = self._guard.away.seconds
+        self._left_at = None if unheard else self._heard_at
         if unheard:
             self._screen.say(f"this computer slept, or the recorder was stopped, for {lasting(unheard)}: the board wasn't heard")
-        self._alarms.away(silence, self._gap > 0)
         self._was_away, self.standing.was_away = True, False
 
     def _write(self, sent: bytes) -> int:
@@ -166,11 +171,11 @@ class Recording(AttendedGame):
         return kept
 
     def _is_through(self) -> None:
-        """The first dump after the board was away shows how it stands."""
-        if self._was_away and self._ended.dumped and not self._late:
+        """The board, which was away, is heard again."""
+        if self._was_away and self.standing.board.is_seen and not self._late:
             self._was_away = False
-            self._tell_look(self._alarms.stands(self._guard.now()))
-        self._ended = NOTHING
+            if self._left_at is not None:
+                self._hears.came_back(self._left_at)
 
     def remake(self) -> None:
         """Makes the text anew, whatever is there."""
@@ -179,6 +184,7 @@ class Recording(AttendedGame):
     def renamed(self, game: Game) -> None:
         """The game has other tags from now on."""
         self.game = game
+        self.attending.begin_again(game.options.of_live())
         self._maker.makes(game)
 
     def _each_second(self) -> None:
@@ -245,15 +251,12 @@ class Recording(AttendedGame):
                 self._faults.append(f"{event.words} at {offset}")
             return
         self.course.take(line, came)
-        look = None if is_old else self._alarms.take(came, line, offset in self._by_hand)
         if isinstance(event, (Position, Clock)):
             return
         self._stands(event)
         if isinstance(event, Result):
             self._hear_result(event.outcome)
         self.course.news.clear()
-        if look:
-            self._tell_look(look)
 
     def _stands(self, event: Event) -> None:
         """What the report says of the board's squares, and of its result, is read with its state."""
@@ -262,15 +265,33 @@ class Recording(AttendedGame):
         elif isinstance(event, Result):
             self.standing.board.result = event.outcome
 
-    def _tell_look(self, look: Optional[Look]) -> None:
-        """Reports what somebody must look at, if anything."""
-        if look:
+    def _doubts(self, doubts: List[Doubt]) -> None:
+        self._suspects([doubt.plies for doubt in doubts if doubt.where == SUSPECT])
+        for doubt in doubts:
+            if doubt.where == SUSPECT:
+                self._look_at_suspected()
+            else:
+                self.look_at(look_of(doubt, self.course.plies), byte_of(doubt, self.course.ends))
+
+    def suspect(self, others: Sequence[int]) -> None:
+        """The board's cable may have been exchanged with that of one of these boards. The program keeps the suspicions."""
+        self._suspects(others)
+        for other in others:
+            self._tell(times.SUSPECT, other)
+
+    def _suspects(self, others: Sequence[int]) -> None:
+        self._suspected += [other for other in others if other not in self._suspected]
+
+    def _look_at_suspected(self) -> None:
+        from live.board.exchanged import told_of_exchange  # few games need it
+
+        self.look_at(told_of_exchange(self._suspected))
+
+    def look_at(self, look: Look, byte: int = 0) -> None:
+        """Somebody must look at this, which came with this byte, if any. It is said if it is new."""
+        if self._alarms.add(look, byte):
             self._screen.say(f"{look.text}. Look at it, and type {self._screen.ok()}")
             self._tell_looks()
-
-    def look_at(self, look: Look) -> None:
-        """Somebody must look at this."""
-        self._tell_look(self._alarms.add(look))
 
     @property
     def looks(self) -> Looks:
@@ -291,6 +312,8 @@ class Recording(AttendedGame):
     def acknowledge(self) -> str:
         """Acknowledges the alarms. Returns the answer."""
         seen = acknowledged(self._alarms.acknowledge())
+        self._suspected.clear()
+        self._tell(LOOKED)
         self._screen.say(seen)
         self._tell_looks()
         return seen

@@ -105,6 +105,9 @@ class Single:
         if self.on_change:
             self.on_change()
 
+    def came_back(self) -> None:
+        """There is no other board."""
+
     def missing(self) -> None:
         """Its board, whose serial number is known, isn't on its cable: it is looked for from now on."""
         if self._finder is None:

@@ -2,10 +2,10 @@
 it knows.
 
 - `agrees`: the board shows the game's position. `result 1-0`: it has shown the result, wherever the pieces are put afterwards.
-- `in hand g1 f3`: a few squares differ, each for less than 10 s. `WRONG since 40 s: e2 d5`: these have differed for 10 s or more.
+- `in hand g1 f3`: a few squares differ, each for no longer than a hand takes. `WRONG since 40 s: e2 d5`: these have differed for longer.
 - `setting up`: more squares differ than hands change in a move, and pieces are still moved or no move has been played. When few
-  are left, they are `WRONG` once nothing has moved for 10 s. A game that hasn't agreed for 15 s is `WRONG`, whatever moves.
-- `NO START`: pieces are moved, but the board has never shown the start, and hasn't come nearer to it for 15 s.
+  are left, they are `WRONG` once nothing has moved for so long. A game that hasn't agreed for a time is `WRONG`, whatever moves.
+- `NO START`: pieces are moved, but the board has never shown the start, and hasn't come nearer to it for a time.
 - `LOOK at 4... Qg4+`, before or after any other: somebody must look at that and acknowledge it.
 - `waits for the board`: it has shown nothing yet. If a game goes on, what the board showed before this call doesn't count.
 - `SILENT`, `UNPLUGGED`: the board no longer answers, or its line is gone, whatever it showed before.
@@ -19,7 +19,7 @@ import math
 from dataclasses import dataclass
 from typing import NamedTuple, Optional, Tuple
 
-from live.game.attended import Stood
+from live.game.attended import UNSEEN, Stood
 
 MOST_LISTED = 8
 TURNED_ROUND = "is the board turned round?"
@@ -136,6 +136,11 @@ class BoardState:
     def stands(self, now: float, stood: Stood) -> None:
         """The program has said this."""
         self._stood, self._since = stood, now - (stood.lasted or 0) / 1000
+
+    @property
+    def is_seen(self) -> bool:
+        """Whether the board has shown its pieces since it was last away."""
+        return self._stood.kind not in UNSEEN
 
     @property
     def state(self) -> State:

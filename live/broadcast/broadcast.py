@@ -10,23 +10,30 @@ import os
 from typing import Callable, Dict, Iterable, List, Optional, Protocol, Set, Tuple
 
 from live.beside import Worker
+from live.broadcast.fronts import Fronts
 from live.broadcast.games import Game, Shots, written_name
 from live.broadcast.going_out import GoingOut
+from live.broadcast.history import Front, Shot
 from live.broadcast.late import Late
 from live.broadcast.publishing import Publisher
+from live.broadcast.said_again import said_again
+from live.broadcast.steady import Steady
 from live.broadcast.view import Player, SpectatorBoard
 from live.game.files import AnyPath, Paths, folder_of, sync_folder
 from live.game.forfeits import told_to_readers
+from live.game.program import Program
 from live.game.tags import published
 from live.guard import Guard, traced
 from live.loop import Loop, Timer
+from live.refused import Refused
 from live.round.published import Published
 from live.web.view import round_pgn
 
 GATHERED = 0.05  # seconds in which changes are gathered if a page shows them
 FOR_A_FILE = 0.5  # the same if they only go to a file
 TICK = 1.0  # seconds between two looks at the clocks
-AGAIN = 1.0  # seconds after which it begins again if an error has ended it
+AGAIN = 1.0  # seconds after which it begins again if an error has ended it, and the program is asked again
+TRIES = 4  # of the program to say again what was hidden of a game
 NOT_PUBLISHED = "NOT PUBLISHED"
 SIDES = ("White", "Black")
 
@@ -56,19 +63,22 @@ class Others(Protocol):
 class OneGame:
     """A game as it goes out."""
 
-    def __init__(self, name: str, late: Late) -> None:
-        self.name, self.late = name, late
-        self._shots = Shots()
+    def __init__(self, name: str, late: Late, steady: Steady) -> None:
+        self.name, self.late, self.steady = name, late, steady
+        self._shots = Shots(Fronts() if late.history.delay else None)
         self.board: Optional[SpectatorBoard] = None  # as it is shown
         self._text: Tuple[object, bytes] = ((), b"")  # what the published text was made of, and that text
         self._shown: Tuple[object, ...] = ()  # what the shown board was made of
         self._shot = late.shot
 
-    def take(self, game: Game, now: float) -> None:
+    def take(self, game: Game, clock: Callable[[], float]) -> None:
         """Looks at the game as it is now, if that is known."""
         board = game.board
-        if not (board.is_new or board.trouble):
-            self.late.take(now, self._shots.take(board, now))
+        is_known = not (board.is_new or board.trouble)
+        shot = self._shots.take(board, clock()) if is_known else self.steady.last  # what waits goes out all the same
+        now = clock()  # not earlier than what the capture has
+        if shot:
+            self.late.take(now, self.steady.take(now, shot))
         else:
             self.late.look(now)
 
@@ -98,13 +108,15 @@ class Broadcast:
     def __init__(
         self,
         loop: Loop,
+        program: Program,
         out: GoingOut,
         place: Optional[AnyPath],
         games: Callable[[], Iterable[Game]],
         folder: Callable[[Game], Paths],
         hears: HearsBroadcast,
     ) -> None:
-        self._loop, self._out, self._place, self._games, self._paths, self._hears = loop, out, place, games, folder, hears
+        self._loop, self._program, self._out, self._place, self._games, self._paths = loop, program, out, place, games, folder
+        self._hears = hears
         self.on_news: Optional[Callable[[], None]] = None  # called when what the page shows has changed; None if there is no page
         self._others: List[Others] = []
         self._of: Dict[int, OneGame] = {}
@@ -122,7 +134,8 @@ class Broadcast:
         self._guard = guard = Guard(self._loop, self._broke, lambda error: self._hears.trouble(traced(error)))
         self._file: Optional[Published] = None
         self._publisher: Optional[Publisher] = None
-        self._syncs: Optional[Worker] = None
+        self._beside: Optional[Worker] = None
+        self._of = {number: one for number, one in self._of.items() if not one.late.to_say}
         self._make_folder()
         if self._place:
             self._file = Published(guard, self._place, self.text, self._hears.say)
@@ -189,24 +202,24 @@ class Broadcast:
     def _look(self, changed: Optional[Set[int]] = None) -> None:
         """Looks at all games, or at those that have `changed` and at new ones, and shows what is due."""
         now = self._loop.now()
+        games = {game.number: game for game in self._games()}
+        before, self._of = self._of, {number: self._one(game, now) for number, game in games.items()}
+        for number in set(before) - set(games):
+            before[number].late.close()
+        if any(one.late.to_say for one in self._of.values()):
+            self._changed = None  # then all are looked at
+            return
         self._changed = set()
-        of: Dict[int, OneGame] = {}
         is_news = False
-        for game in self._games():
-            number = game.number
-            if changed is not None and number not in changed and number in self._of:
-                of[number] = self._of[number]
-                continue
-            of[number] = one = self._one(game, now)
-            try:
-                one.take(game, now)
-                is_news = one.show(game) or is_news
-            except Exception as error:  # it stays as it was, and the others go on
-                self._hears.trouble(traced(error))
-        for number in set(self._of) - set(of):
-            self._of[number].late.close()
-        boards = tuple(one.board for one in of.values() if one.board)
-        self._of = of
+        for number, game in games.items():
+            one = self._of[number]
+            if changed is None or number in changed or one is not before.get(number):
+                try:
+                    one.take(game, self._loop.now)
+                    is_news = one.show(game) or is_news
+                except Exception as error:  # it stays as it was, and the others go on
+                    self._hears.trouble(traced(error))
+        boards = tuple(one.board for one in self._of.values() if one.board)
         if is_news or [board.number for board in boards] != [board.number for board in self.boards]:
             self.boards = boards
             if self.on_news:
@@ -222,21 +235,53 @@ class Broadcast:
         if one is None or one.name != paths.name:
             if one:
                 one.late.close()
-            one = OneGame(paths.name, Late(paths, self._out.delay, now, self._sync))
+            one = OneGame(paths.name, Late(paths, self._out.delay, now, self._sync), Steady(self._out.hold))
+            if one.late.to_say:
+                self._say_again(game.number, one, folder_of(game.board.paths.capture))
         return one
+
+    def _say_again(self, number: int, one: OneGame, folder: str, tries: int = TRIES) -> None:
+        """Has the program say again what was hidden and shown of a game. Nothing goes out before. If it fails again and again, all is
+        hidden anew."""
+        fronts = one.late.to_say
+
+        def asks() -> Tuple[Dict[Front, Shot], str]:
+            try:
+                return said_again(self._program, folder, fronts), ""
+            except Refused:
+                return {}, ""  # the reason is reported when the game is opened
+            except Exception as error:
+                return {}, traced(error)
+
+        def answered(answer: Tuple[Dict[Front, Shot], str]) -> None:
+            said, trouble = answer
+            if self._of.get(number) is not one:
+                return
+            if trouble and tries > 1:
+                self._guard.after(AGAIN, lambda: self._say_again(number, one, folder, tries - 1))
+                return
+            if trouble:
+                self._hears.trouble(trouble)
+            one.late.said(self._loop.now(), said)
+            self._look()
+
+        self._worker().do(asks, answered)
 
     def _sync(self, job: Callable[[], None]) -> None:
         """Does beside the loop what waits for the disk."""
-        if self._syncs is None:
-            self._syncs = Worker(self._guard)
-            self._guard.opened(self._syncs.close)
-        self._syncs.do(job, lambda _: None)
+        self._worker().do(job, lambda _: None)
+
+    def _worker(self) -> Worker:
+        if self._beside is None:
+            self._beside = Worker(self._guard)
+            self._guard.opened(self._beside.close)
+        return self._beside
 
     def _wait(self) -> None:
         """Sets a timer for the next thing that is due."""
-        if not self._out.delay:
+        if not self._out.delay and not self._out.hold:
             return
-        times = [at for at in (one.late.history.next_at for one in self._of.values()) if at is not None]
+        times = [at for one in self._of.values() for at in (one.late.history.next_at, one.steady.due) if at is not None]
         if self._due:
             self._due.cancel()
             self._due = None
@@ -252,7 +297,7 @@ class Broadcast:
         """For how many seconds something of the games is still hidden; None if nothing is."""
         if not self._out.delay:
             return None
-        times = [one.late.history.ends_at for one in self._of.values()]
+        times = [one.late.ends_at for one in self._of.values()]
         last = max((at for at in times if at is not None), default=None)
         return None if last is None else max(0.0, last - self._loop.now())
 
@@ -260,6 +305,7 @@ class Broadcast:
     def is_out(self) -> bool:
         """Whether all that is shown is written and carried away."""
         is_written = self._file is None or not self.boards or self._file.is_written
+        is_written = is_written and not any(one.late.to_say for one in self._of.values())
         return is_written and (self._publisher is None or self._publisher.is_idle)
 
     # How it is carried away.
@@ -298,6 +344,8 @@ class Broadcast:
         ends: List[Publisher] = []
 
         def finishes() -> None:
+            for one in self._of.values():
+                one.steady.release()
             if self._is_known:
                 self._look()
             if self._file and self.boards:  # without a game there is no text

@@ -3,13 +3,14 @@
 from __future__ import annotations
 
 from dataclasses import dataclass
-from typing import Optional, Protocol, Tuple
+from typing import Optional, Protocol, Sequence, Tuple
 
 from live.board.board import Board
+from live.broadcast.fronts import Fronts
 from live.broadcast.history import Shot
 from live.broadcast.running import STANDING, Clocks, Running
 from live.game.course import clocks_of
-from live.game.report import Move
+from live.game.report import Clock, Move
 from live.game.tags import Tags
 from live.web.view import Ply
 
@@ -62,9 +63,10 @@ class Seen:
 
 
 class Shots:
-    """Takes snapshots of one game."""
+    """Takes snapshots of one game. With `fronts` each one has what the capture had then."""
 
-    def __init__(self) -> None:
+    def __init__(self, fronts: Optional[Fronts] = None) -> None:
+        self._fronts = fronts
         self._seen: Optional[Seen] = None
         self._shot = Shot()
         self._running = Running()
@@ -78,6 +80,12 @@ class Shots:
             self._seen, self._clocks = seen, clocks
             plies = board.plies[: max(0, len(board.fens) - 1)]
             moves = tuple(Ply(ply.san, ply.clock) for ply in plies)
-            shown = Clocks(*clocks_of(plies)) if clocks is STANDING else clocks
-            self._shot = Shot(board.result, moves, tuple(board.fens), board.pgn, shown, board.forfeit)
+            shown = clocks_shown(None, plies) if clocks is STANDING else clocks
+            front = self._fronts.now(board.paths) if self._fronts else None
+            self._shot = Shot(board.result, moves, tuple(board.fens), board.pgn, shown, board.forfeit, front, board.clock_at)
         return self._shot
+
+
+def clocks_shown(read: Optional[Clock], plies: Sequence[Move]) -> Clocks:
+    """The clocks of a game, none of which runs: as they were read last, or else as they were after the moves."""
+    return Clocks(read.white, read.black) if read else Clocks(*clocks_of(plies))

@@ -14,16 +14,19 @@ from live.refused import ARGUMENTS, FAILED, REFUSED, Refused
 
 MINUTE = 60.0
 LONGEST = 24 * 60 * MINUTE  # seconds
+HOLD, LONGEST_HOLD = 2.0, 60.0  # seconds
 LONGEST_FILE = 40  # bytes of the file that keeps it
 
 
 @dataclass(frozen=True)
 class GoingOut:
-    """`delay` is in seconds; the first output of a round, and the only one of a single board, has no name."""
+    """`delay` is in seconds, as is `hold`, for which a last ply must stand before it goes out; the first output of a round, and the
+    only one of a single board, has no name."""
 
     delay: float = 0.0
     command: Tuple[str, ...] = ()
     name: str = ""
+    hold: float = HOLD
 
 
 def seconds_in(text: str) -> Optional[float]:
@@ -40,6 +43,14 @@ def read_delay(text: str) -> float:
     if seconds is None:
         raise Refused(ARGUMENTS, f"--delay {text!r}: it is a number of minutes, as 15; 0 is for no delay")
     return seconds
+
+
+def read_hold(text: str) -> float:
+    """`2` seconds. Refused if the text is not such a number."""
+    front, dot, rest = text.partition(".")
+    if not (front + rest).isdecimal() or not text.isascii() or len(text) > 8 or float(text) > LONGEST_HOLD:
+        raise Refused(ARGUMENTS, f"--hold {text!r}: it is a number of seconds up to 60, as 2; with 0 each move goes out at once")
+    return float(text)
 
 
 def read_command(text: str, option: str = "--publish") -> Tuple[str, ...]:

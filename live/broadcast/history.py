@@ -18,8 +18,18 @@ RESULT = re.compile(rb'^\[Result "[^"]*"\]$', re.MULTILINE)
 
 
 @dataclass(frozen=True)
+class Front:
+    """The first `size` bytes of the capture of the game with this name, and their checksum."""
+
+    name: str
+    size: int
+    checksum: int
+
+
+@dataclass(frozen=True)
 class Shot:
-    """A game at one moment. `positions` are FENs, of the start and after each ply; `text` is the text of NAME.pgn."""
+    """A game at one moment. `positions` are FENs, of the start and after each ply; `text` is the text of NAME.pgn. `front` is what
+    the capture had then, if that is known; `clock_at` says when its clocks were last read."""
 
     result: str = "*"
     moves: Tuple[Ply, ...] = ()
@@ -27,6 +37,8 @@ class Shot:
     text: bytes = b""
     clocks: Clocks = STANDING
     forfeit: str = ""  # how it was forfeited, if it was
+    front: Optional[Front] = field(default=None, compare=False)
+    clock_at: float = field(default=0.0, compare=False)
 
     @property
     def says_nothing(self) -> bool:
@@ -40,7 +52,7 @@ NOTHING = Shot()
 def unplayed(shot: Shot) -> Shot:
     """The game before its first move."""
     head = RESULT.sub(b'[Result "*"]', shot.text.partition(b"\n\n")[0])
-    return Shot(positions=shot.positions[:1], text=head + b"\n\n*\n\n" if shot.text else b"")
+    return Shot(positions=shot.positions[:1], text=head + b"\n\n*\n\n" if shot.text else b"", front=shot.front)
 
 
 @dataclass(frozen=True)
@@ -74,7 +86,7 @@ class History:
         if self.delay and not self.entries and not shot.says_nothing:
             self.entries.append(Entry(ALWAYS, unplayed(shot)))
         if shot.says_nothing and all(entry.shot.says_nothing for entry in self.entries):
-            entry = Entry(ALWAYS, Shot(positions=shot.positions, text=shot.text))
+            entry = Entry(ALWAYS, Shot(positions=shot.positions, text=shot.text, front=shot.front))
         else:
             entry = Entry(now, shot)
         if self.entries and self.entries[-1].shot == entry.shot:

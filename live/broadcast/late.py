@@ -1,15 +1,16 @@
-"""One game as spectators see it: as it was some minutes ago. What is still hidden is kept beside the game."""
+"""One game as spectators see it: as it was some minutes ago. Since when it was so is kept beside the game."""
 
 from __future__ import annotations
 
 import contextlib
 import functools
 import os
-from typing import Callable, Optional
+import zlib
+from typing import Callable, Mapping, Optional, Sequence
 
 from live.broadcast import kept
 from live.broadcast.going_out import kept_delay
-from live.broadcast.history import NOTHING, History, Shot
+from live.broadcast.history import Front, History, Shot
 from live.game.file_names import has_delay
 from live.game.files import NO_SUCH_FILE, Paths, existing, folder_of, new_of, open_new, sync_folder
 from live.game.forfeiting import forfeit_of
@@ -31,12 +32,12 @@ def this_start() -> str:
 def is_hidden(paths: Paths) -> bool:
     """Whether a game is published late and spectators haven't seen it as it is now. A delay without its list hides all."""
     try:
-        text = existing(paths.pgn)
-        history = kept.read(existing(paths.delayed), "", 0.0, 0.0)
-        if history.entries:
-            return history.is_hidden or history.shot.text != text
+        text, content = existing(paths.pgn), existing(paths.delayed)
+        found = kept.read(content, "", 0.0)
+        if found.stamps:
+            return found.shown < len(found.stamps) or found.stamps[-1].text != zlib.crc32(text)
         shot = Shot(result_of(text), text=text, forfeit=forfeit_of(paths, text))
-        return not shot.says_nothing and kept_delay(paths) > 0
+        return not shot.says_nothing and (kept.delay_in(content) or kept_delay(paths)) > 0
     except OSError as error:
         return error.errno not in NO_SUCH_FILE
     except Refused:
@@ -52,7 +53,9 @@ def is_unseen(paths: Paths, published: Callable[[bytes], bytes]) -> bool:
 
 
 class Late:
-    """What is shown of a game. Times are the loop's. `syncs` does what waits for the disk."""
+    """What is shown of a game. Times are the loop's. `syncs` does what waits for the disk.
+
+    If a list was kept, the program must first say again what the game was at its places. Until then nothing is shown."""
 
     def __init__(
         self, paths: Paths, delay: float, now: float, syncs: Callable[[Callable[[], None]], None] = lambda job: job()
@@ -60,15 +63,25 @@ class Late:
         self._path, self._syncs = paths.delayed, syncs
         self._number: Optional[int] = None  # the open file; None if it is to be written as a whole
         self.trouble: Optional[Exception] = None
-        self._last = NOTHING  # what the file's last line says
         content = b""
         with contextlib.suppress(OSError):
             content = existing(self._path)
-        self.history = kept.read(content, this_start(), now, delay) if delay else History(0.0)
+        self._kept = kept.read(content, this_start(), now) if delay else kept.Kept()
+        self.history = History(delay)
         if not delay and content:
             with contextlib.suppress(OSError):
                 os.unlink(self._path)
-        if self.history.entries and delay:
+
+    @property
+    def to_say(self) -> Sequence[Front]:
+        """The places at which the program must say again what the game was; empty once it has."""
+        return [stamp.front for stamp in self._kept.stamps]
+
+    def said(self, now: float, said: Mapping[Front, Shot]) -> None:
+        """This is said again. What nobody can say is hidden anew."""
+        found, self._kept = self._kept, kept.Kept()
+        self.history = found.history(self.history.delay, [said.get(stamp.front) for stamp in found.stamps])
+        if self.history.entries:
             self._keep(b"")  # times under another start become times of this one
         self.look(now)
 
@@ -77,11 +90,16 @@ class Late:
         """What is shown."""
         return self.history.shot
 
+    @property
+    def ends_at(self) -> Optional[float]:
+        """When the last shot is shown."""
+        stamps = self._kept.stamps
+        return stamps[-1].came + self.history.delay if stamps else self.history.ends_at
+
     def take(self, now: float, shot: Shot) -> bool:
         """The game is this now. Returns whether the shown game has changed."""
         if self.history.take(now, shot) and self.history.delay:
-            self._keep(kept.entry_line(self.history.entries[-1], self._last))
-            self._last = self.history.entries[-1].shot
+            self._keep(kept.entry_line(self.history.entries[-1]))
         return self.look(now)
 
     def look(self, now: float) -> bool:
@@ -114,7 +132,6 @@ class Late:
             left = left[os.write(self._number, left) :]
         os.replace(new, self._path)
         self._syncs(functools.partial(_sync, os.dup(self._number), folder_of(self._path)))
-        self._last = self.history.entries[-1].shot if self.history.entries else NOTHING
 
     def _close(self) -> None:
         number, self._number = self._number, None

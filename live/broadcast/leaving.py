@@ -49,7 +49,8 @@ class Leaving:
         if left is None and not self._waits:
             self._finish()
         elif left is not None and not self.ends:
-            self._says(f"spectators see the last moves at {clock_in(left)}: it goes on until then")
+            if left:  # else it is shown in a moment
+                self._says(f"spectators see the last moves at {clock_in(left)}: it goes on until then")
             self._wait()
 
     def asked(self) -> None:

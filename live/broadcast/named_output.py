@@ -6,7 +6,7 @@ from __future__ import annotations
 import os
 import pathlib
 import re
-from dataclasses import dataclass
+from dataclasses import dataclass, replace
 from typing import List, Optional, Sequence, Tuple
 
 from live.broadcast.going_out import GoingOut, in_home, minutes, read_command, seconds_in
@@ -42,6 +42,11 @@ class Output:
     def late(self) -> str:
         """How late it is, in words; empty if it isn't."""
         return minutes(self.out.delay) if self.out and self.out.delay else ""
+
+
+def held(outputs: Sequence[Output], seconds: float) -> Tuple[Output, ...]:
+    """The same, where a last ply must stand for so long before it goes out."""
+    return tuple(replace(output, out=output.out and replace(output.out, hold=seconds)) for output in outputs)
 
 
 def read_name(text: str) -> str:

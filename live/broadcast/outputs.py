@@ -11,13 +11,16 @@ from live.broadcast.games import Game
 from live.broadcast.going_out import GoingOut
 from live.broadcast.named_output import TEXT, Output
 from live.game.files import Paths
+from live.game.program import Program
 from live.guard import traced
 from live.loop import Loop
 
 
-def broadcast_of(loop: Loop, out: GoingOut, folder: pathlib.Path, games: Callable[[], Iterable[Game]], hears: HearsBroadcast) -> Broadcast:
+def broadcast_of(
+    loop: Loop, program: Program, out: GoingOut, folder: pathlib.Path, games: Callable[[], Iterable[Game]], hears: HearsBroadcast
+) -> Broadcast:
     """An output whose text, and what is hidden of each game, is in this folder."""
-    return Broadcast(loop, out, folder / TEXT, games, lambda game: Paths(f"{folder}/{game.name}"), hears)
+    return Broadcast(loop, program, out, folder / TEXT, games, lambda game: Paths(f"{folder}/{game.name}"), hears)
 
 
 class Outputs:
@@ -26,6 +29,7 @@ class Outputs:
     def __init__(
         self,
         loop: Loop,
+        program: Program,
         first: GoingOut,
         named: Sequence[Output],
         folder: pathlib.Path,
@@ -33,9 +37,9 @@ class Outputs:
         hears: HearsBroadcast,
     ) -> None:
         self._hears = hears
-        self.first = broadcast_of(loop, first, folder, games, hears)
+        self.first = broadcast_of(loop, program, first, folder, games, hears)
         self.named: Dict[str, Broadcast] = {
-            output.name: broadcast_of(loop, output.out, folder / output.folder, games, hears) for output in named if output.out
+            output.name: broadcast_of(loop, program, output.out, folder / output.folder, games, hears) for output in named if output.out
         }
         self._all = (self.first, *self.named.values())
 

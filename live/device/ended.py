@@ -1,23 +1,8 @@
-"""What ends in the bytes of a board: a complete dump, a time message. The program decides when a board is asked, and whose
-board it is."""
+"""Whether a complete dump ends in what a board sends."""
 
 from __future__ import annotations
 
-from typing import NamedTuple
-
-from live.device.protocol import DUMP_ID, HEADER, SIZES, FrameKind, Frames
-
-LONGEST = SIZES[DUMP_ID]  # bytes that are looked at together
-
-
-class Ended(NamedTuple):
-    """What has ended in some bytes: a complete dump; a time message, with the seven bytes of the last one."""
-
-    dumped: bool = False
-    time: bytes = b""
-
-
-NOTHING = Ended()
+from live.device.protocol import FrameKind, Frames
 
 
 class Ends:
@@ -26,22 +11,7 @@ class Ends:
     def __init__(self) -> None:
         self._frames = Frames()
 
-    def take(self, sent: bytes) -> Ended:
-        """The board has sent this."""
-        frames, dumped, time = self._frames, False, b""
-        at, size = 0, len(sent)
-        while at < size:
-            kind = frames.take_whole(sent, at)
-            if kind:
-                at += len(frames.whole)
-            else:
-                at += frames.take_squares(sent[at : at + LONGEST])
-                if at == size:
-                    break
-                kind = frames.take(sent[at])
-                at += 1
-            if kind is FrameKind.DUMP:
-                dumped = True
-            elif kind is FrameKind.TIME:
-                time = frames.whole[HEADER:]
-        return Ended(dumped, time) if dumped or time else NOTHING
+    def take(self, sent: bytes) -> bool:
+        """The board has sent this. Returns whether a complete dump has ended."""
+        kinds = list(map(self._frames.take, sent))
+        return FrameKind.DUMP in kinds

@@ -10,7 +10,6 @@ import enum
 import functools
 import itertools
 import operator
-import re
 from typing import Dict, List, Optional, Tuple
 
 SERIAL_REQUEST = b"E"  # 45: the board's serial number
@@ -44,11 +43,6 @@ KINDS: Dict[int, FrameKind] = {
 }
 
 # A whole frame of these kinds: identifier, size, and data.
-WHOLE = re.compile(rb"\x86\x00\x43[\x00-\x0F]{64}|\x8E\x00\x05[\x00-\x3F][\x00-\x0F]|\x8D\x00\x0A[\x00-\x7F]{7}")
-
-
-NUMBERED = re.compile(rb"\x91\x00\x08([\x21-\x7E]{5})")
-NUMBER_SIZE = HEADER + SERIAL_LENGTH  # bytes of a message with a number
 
 
 class Frames:
@@ -85,26 +79,6 @@ class Frames:
         self.whole = bytes(frame)
         frame.clear()
         return KINDS.get(self.whole[0], FrameKind.OTHER)
-
-    def take_whole(self, sent: bytes, at: int) -> Optional[FrameKind]:
-        """Takes the dump, update or time message that begins there at once, if it is whole and no other frame is under way."""
-        found = None if self.under_way else WHOLE.match(sent, at)
-        if found is None:
-            return None
-        self.whole, self._dropping = found.group(), False
-        return KINDS[self.whole[0]]
-
-    def take_squares(self, sent: bytes) -> int:
-        """Takes at once the bytes that are squares of the dump under way, except its last square, which ends it. Returns how
-        many they are: 0 if one of them is no piece code."""
-        frame = self.under_way
-        if len(frame) < HEADER or frame[0] != DUMP_ID:
-            return 0
-        squares = sent[: SIZES[DUMP_ID] - 1 - len(frame)]
-        if not squares or max(squares) > HIGHEST_CODE:
-            return 0
-        frame += squares
-        return len(squares)
 
 
 def _size(frame: bytearray) -> int:
@@ -156,13 +130,6 @@ def serial_of(frame: bytes) -> str:
     number = frame[HEADER:]
     is_one = frame[:1] == bytes((SERIAL_ID,)) and len(number) == SERIAL_LENGTH and all(0x21 <= byte <= 0x7E for byte in number)
     return number.decode("ascii") if is_one else ""
-
-
-def number_in(sent: bytes) -> str:
-    """The last serial number that these bytes give; empty if there is none. Only a frame's first byte has its top bit set, so it is
-    found wherever it stands."""
-    found: List[bytes] = NUMBERED.findall(sent)
-    return found[-1].decode("ascii") if found else ""
 
 
 def differing(one: Picture, other: Picture) -> List[str]:

@@ -9,14 +9,12 @@ from __future__ import annotations
 from dataclasses import dataclass, field
 from typing import List, Tuple
 
-from live.device.ended import Ended
-
 RATE = 1920  # bytes a second: twice what a board's line carries
 AT_ONCE = 65536  # bytes that may come together after the network has held them up
 KEPT = 4096  # bytes that wait for the first dump; the oldest go first
 LONGEST_SHOWN = 60  # characters of what a server says
 
-Heard = Tuple[bytes, Ended]  # what was sent, and what ended in it
+Heard = Tuple[bytes, bool]  # what was sent, and whether a dump ended in it
 
 
 @dataclass
@@ -41,7 +39,7 @@ class Trial:
         if self.has_answered:
             return [heard]
         self._waits.append(heard)
-        if heard[1].dumped:
+        if heard[1]:
             self.has_answered = True
             passed, self._waits = self._waits, []
             return passed

@@ -8,7 +8,7 @@ from typing import Sequence, Tuple
 
 from live.board.single import QUITS, Single
 from live.broadcast.broadcast import Broadcast
-from live.broadcast.going_out import GoingOut, delay_of, keep_delay, minutes
+from live.broadcast.going_out import HOLD, GoingOut, delay_of, keep_delay, minutes
 from live.broadcast.late import is_unseen
 from live.broadcast.leaving import Leaving, clock_in, hold
 from live.doors.calls import Call
@@ -18,6 +18,7 @@ from live.game.forfeiting import forfeit_of
 from live.game.forfeits import told_to_readers
 from live.game.game import end_mark, kept_tags
 from live.game.options import Options
+from live.game.program import Program
 from live.game.tags import published
 from live.loop import Loop
 from live.refused import Refused
@@ -30,8 +31,8 @@ from live.web.view import round_pgn
 class Audience:
     """Spectators and the arbiter's browser. Refused if a page can't be served, or if another call shows the game late."""
 
-    def __init__(self, loop: Loop, call: Call, given: Options) -> None:
-        self._loop, self._call, self._given = loop, call, given
+    def __init__(self, loop: Loop, program: Program, call: Call, given: Options) -> None:
+        self._loop, self._program, self._call, self._given = loop, program, call, given
         self._paths = paths = Paths(call.name)
         if not call.series and (call.delay is not None or has_delay(paths) or os.path.lexists(paths.delayed)):
             hold(paths)
@@ -49,9 +50,9 @@ class Audience:
         """From now on the game of this board is shown. The call ends when spectators have seen it."""
         call, paths, delay = self._call, self._paths, self._delay
         goes_out = delay or call.publish or self._given.tags or kept_tags(paths) or os.path.lexists(paths.broadcast)
-        place, out = paths.broadcast if goes_out else None, GoingOut(delay, call.publish)
+        place, out = paths.broadcast if goes_out else None, GoingOut(delay, call.publish, hold=HOLD if call.hold is None else call.hold)
         self._broadcast = broadcast = Broadcast(
-            self._loop, out, place, lambda: [single] if single.is_open else [], lambda game: paths, single
+            self._loop, self._program, out, place, lambda: [single] if single.is_open else [], lambda game: paths, single
         )
         self._pages.trouble = single.trouble
         self._pages.show(self._title, ArbiterView(self._event, lambda: [single], single.trouble), broadcast)

@@ -13,7 +13,7 @@ from live.refused import ARGUMENTS, Refused
 if TYPE_CHECKING:
     from live.web.address import Pages
 
-RECORDING = ("--linger", "--page", "--arbiter-page", "--delay", "--publish")  # options of a recording that have a value
+RECORDING = ("--linger", "--page", "--arbiter-page", "--delay", "--publish", "--hold")  # options of a recording that have a value
 OF_ROUNDS = ("--output", "--web", "--embed")
 HELP, VERSION = ("--help", "-h"), ("--version", "-V")
 QUOTES = "is one argument too many. Put a text with blanks in quotes, as 'Anna Kern'"
@@ -39,6 +39,7 @@ class Call:
     pages: Optional[Pages] = None
     delay: Optional[float] = None  # seconds; None leaves it as it was
     publish: Tuple[str, ...] = ()  # a command
+    hold: Optional[float] = None  # seconds for which a last ply must stand before it goes out, if they are typed
 
     @property
     def shows(self) -> bool:
@@ -85,7 +86,7 @@ def parse(arguments: Sequence[str]) -> Call:
         else:
             plain.append(word)
     refuse_both(words)
-    page, arbiter_page, delay, publish = (values.get(option) for option in RECORDING[1:])
+    page, arbiter_page, delay, publish, hold = (values.get(option) for option in RECORDING[1:])
     refuse_hosts(page or arbiter_page, hosts)
     seconds = linger_of(values.get("--linger", str(LINGER)))
     pages = pages_of(page, arbiter_page, hosts)
@@ -113,7 +114,7 @@ def parse(arguments: Sequence[str]) -> Call:
         raise Refused(ARGUMENTS, f"--add and --back take no other option: {SEE_HELP}")
     device = plain[0] if wanted == 2 else ""
     return Call(device, plain[-1], options, flags["--series"], flags["--once"], seconds, typed=tuple(typed), pages=pages,
-                delay=late, publish=command)  # fmt: skip
+                delay=late, publish=command, hold=hold_of(hold))  # fmt: skip
 
 
 def refuse_both(words: Sequence[str], see_help: str = SEE_HELP) -> None:
@@ -144,6 +145,15 @@ def going_out(delay: Optional[str], publish: Optional[str]) -> Tuple[Optional[fl
     from live.broadcast.going_out import read_command, read_delay
 
     return None if delay is None else read_delay(delay), () if publish is None else read_command(publish)
+
+
+def hold_of(text: Optional[str]) -> Optional[float]:
+    """The seconds for which a last ply must stand before it goes out, if they are typed."""
+    if text is None:
+        return None
+    from live.broadcast.going_out import read_hold
+
+    return read_hold(text)
 
 
 def linger_of(text: str) -> int:

@@ -46,7 +46,7 @@ off; back 14. Bxf6: up to this one), ok when you looked at a LOOK, or help.
   --series           NAME-1, NAME-2, ..: the next once pieces are set up again
   --once, --linger SECONDS   an unplugged board ends it; seconds a result waits
   --page [ADDRESS:]PORT, --page-host NAME, --arbiter-page   to browsers: 8000
-  --delay MINUTES, --publish COMMAND   how late it goes out, and by what
+  --delay MINUTES, --hold SECONDS, --publish COMMAND   how late it goes out
   --recover          put in moves that two hands hid (--strict: no longer)
 OPTION says how the board lies, how the game begins, and what its tags say:
   --rotated          Black has the connector on the left
@@ -77,7 +77,7 @@ def record_in(call: Call, program: Program, signals: Signals) -> Outcome:
     keep_what_is_loaded_later()
     given = checked(program, call.options)
     loop = Loop()
-    audience = audience_of(loop, call, given)
+    audience = audience_of(loop, program, call, given)
     terminal = Terminal(loop)
     plan = Plan(call.device, call.name, Rules(call.linger, call.series), call.once, shows=call.shows)
     choice = Choice(given, tuple(given.told_of_turned(call.options)), audience is not None and audience.is_unseen)
@@ -109,7 +109,7 @@ def record_in(call: Call, program: Program, signals: Signals) -> Outcome:
     return (FAILED if complaints else DONE), complaints
 
 
-def audience_of(loop: Loop, call: Call, given: Options) -> Optional[Audience]:
+def audience_of(loop: Loop, program: Program, call: Call, given: Options) -> Optional[Audience]:
     """Who else sees the game; None if nobody does."""
     paths = Paths(call.name)
     is_asked = call.pages or call.delay is not None or call.publish or given.tags or kept_tags(paths)
@@ -118,7 +118,7 @@ def audience_of(loop: Loop, call: Call, given: Options) -> Optional[Audience]:
         return None
     from live.doors.audience import Audience
 
-    return Audience(loop, call, given)
+    return Audience(loop, program, call, given)
 
 
 def publish_anew(paths: Paths, given: Options = Options()) -> List[str]:

@@ -9,10 +9,10 @@ from dataclasses import dataclass, replace
 from typing import Dict, List, Optional, Sequence, Tuple
 
 from live.broadcast.broadcast import Broadcast
-from live.broadcast.going_out import GoingOut, delay_of, in_home, minutes, read_command, read_delay
+from live.broadcast.going_out import HOLD, GoingOut, delay_of, in_home, minutes, read_command, read_delay, read_hold
 from live.broadcast.named_output import OPTION as OUTPUT
 from live.broadcast.named_output import (
-    Output, left_in, name_in, read_outputs, refuse_games_in_site, refuse_links, refuse_shared_sites, refuse_unknown, removed, told_of,
+    Output, held, left_in, name_in, read_outputs, refuse_games_in_site, refuse_links, refuse_shared_sites, refuse_unknown, removed, told_of,
     without_those,
 )  # fmt: skip
 from live.doors import calls
@@ -47,7 +47,7 @@ from live.web.round_page import ArbiterView
 SEE_HELP = "see dgt_round --help"
 TAGS = ("--event", "--site", "--date", "--round")
 NEW, EMBED, WEB = "--new", "--embed", "--web"
-VALUED = (*TAGS, TAG, "--linger", "--page", "--page-host", "--arbiter-page", EMBED, WEB, "--delay", "--publish", OUTPUT, ENCODING, MATCHES)
+VALUED = (*TAGS, TAG, "--linger", "--page", "--page-host", "--arbiter-page", EMBED, WEB, "--delay", "--publish", "--hold", OUTPUT, ENCODING, MATCHES)
 HELP = """\
 usage: dgt_round FILE [FOLDER] [OPTION..]     a round of its own
        dgt_round CUP ROUND [OPTION..]         a round of a tournament
@@ -71,7 +71,7 @@ OPTION, kept: --event, --place (--site), --date, --round TEXT; --tag NAME=VALUE
   --embed https://SITE, --web FOLDER   who may frame it; a site of files
   --delay MINUTES, --publish COMMAND   how late it goes out, and by what
   --output 'NAME = MINUTES, COMMAND'   a further output; for more, once more
-  --linger, --encoding, --matches, --recover, --strict, --version   see man
+  --hold, --linger, --encoding, --matches, --recover, --strict, --version: man
 """
 
 
@@ -87,6 +87,7 @@ class Asked:
     delay: Optional[float] = None  # seconds; None leaves it as it was
     publish: Tuple[str, ...] = ()  # a command
     web: str = ""  # the folder of the static site
+    hold: float = HOLD  # seconds for which a last ply must stand before it goes out
     outputs: Tuple[Output, ...] = ()  # beside the first one
     moved: Tuple[Tuple[str, str], ...] = ()  # the folder of a site in a tournament's, and the one that its path alone names
     known: Tuple[str, ...] = ()  # the names of outputs that the tournament's settings have
@@ -154,7 +155,7 @@ def each_read(arguments: Sequence[str]) -> Asked:
         raise Refused(ARGUMENTS, f"{EMBED} {embed!r}: {told_of_letters(embed)}")
     if embed and not page:
         raise Refused(ARGUMENTS, f"{EMBED} lets a site show the page, and there is none without --page PORT: {SEE_HELP}")
-    delay, publish, encoding = (values.pop(option, None) for option in ("--delay", "--publish", ENCODING))
+    delay, publish, hold, encoding = (values.pop(option, None) for option in ("--delay", "--publish", "--hold", ENCODING))
     no_matches = read_matches(values.pop(MATCHES, ""))
     words += [assigned(option, value) for option, value in values.items()]
     return Asked(
@@ -166,6 +167,7 @@ def each_read(arguments: Sequence[str]) -> Asked:
         None if delay is None else read_delay(delay),
         () if publish is None else read_command(publish),
         web,
+        HOLD if hold is None else read_hold(hold),
         read_outputs(outputs),
         encoding=known_encoding(encoding) if encoding else "",
         no_matches=no_matches,
@@ -295,7 +297,7 @@ def play(asked: Asked, program: Program, signals: Signals) -> Outcome:
     title = ", ".join(filter(None, (event, given.round and f"round {given.round}"))) or file.stem
     told_of_removed = [removed(folder, output) for output in asked.outputs if not output.out]
     told_of_named = [*filter(None, told_of_removed), *told_of(folder, asked.outputs, left_in(folder))]
-    games = Round(loop, source, read, title, replace(hall, out=GoingOut(delay, asked.publish), outputs=asked.outputs))
+    games = Round(loop, source, read, title, replace(hall, out=GoingOut(delay, asked.publish, hold=asked.hold), outputs=held(asked.outputs, asked.hold)))
     for line in filter(None, (told_of_place, told)):
         games.say(line)
     if late:

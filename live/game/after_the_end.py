@@ -1,8 +1,9 @@
-"""Moves on a board whose game is over: its result may have been typed for the wrong board, or shown by mistake. Pure: events are
-passed in.
+"""Moves on a board whose game is over. Pure: events are passed in.
 
-The pieces are also set up again. The first piece that is carried home may look like a move, the second one seldom. So it takes
-two moves, one of which brings no piece home.
+Its result may have been typed for the wrong board, or shown by mistake. The pieces are also set up again. The first piece that is
+carried home may look like a move, the second one seldom. So it takes two moves, one of which brings no piece home.
+
+Or it has no result, and the pieces were set up. Perhaps somebody tried some moves before the game, and it begins only now.
 """
 
 from __future__ import annotations
@@ -40,3 +41,20 @@ class AfterTheEnd:
         if self.count < SURE or not (self._played or self.count >= WHATEVER):
             return None
         return Look(f"after {self.after}", f"{self.count} moves were made, and the game is over: {self.result}", OVER)
+
+
+@dataclass
+class AfterSetUp:
+    """Takes the reported events of a board whose pieces were set up after a game without a result, from the start on."""
+
+    after: str  # the last move of that game, as `38. Kf2`
+    count: int = 0
+
+    def take(self, event: report.Event) -> Optional[Look]:
+        """Takes the next event. Returns an alarm, if any."""
+        if not isinstance(event, report.Move):
+            return None
+        self.count += not event.corrects
+        if self.count < SURE:
+            return None
+        return Look(f"after {self.after}", f"{self.count} moves were made from the start, and the game is over without a result", OVER)

@@ -3,17 +3,11 @@ none of it."""
 
 from __future__ import annotations
 
-import collections
 import os
-from typing import Deque, Dict, Optional, Tuple
+from typing import Dict, Optional
 
-from live.device.protocol import Picture
-from live.game.course import Course
-from live.game.doubts import Doubts
 from live.game.files import Paths, existing, put_in_place, remove
 from live.game.looks import Look, Looks
-from live.game.report import Line, Move
-from live.game.stopped_clock import StoppedClock, has_run, runs
 
 
 def kept_looks(paths: Paths) -> Looks:
@@ -52,68 +46,22 @@ def carry_over(before: Paths, paths: Paths) -> None:
 
 
 class Alarms:
-    """Says what in a game's report somebody must look at."""
+    """The open alarms of a game, and since when each is there."""
 
-    def __init__(self, paths: Paths, course: Course) -> None:
+    def __init__(self, paths: Paths) -> None:
         self._paths = paths
-        last = course.plies[-1] if course.plies else None
-        self._doubts = Doubts.going_on(course.fens, last, list(course.moved_at), course.board)
-        self._clock = StoppedClock(has_run(course.plies), last.short if last else "")
-        self._times: Deque[Tuple[int, float, bytes]] = collections.deque()  # messages that say whether the clock runs
         self.looks = kept_looks(paths)
-        self._since: Dict[str, int] = {}  # at which byte each alarm of this call came
+        self._since: Dict[str, int] = {}  # with which byte of the capture each alarm of this call came
         self.trouble: Optional[OSError] = None  # why they can't be kept
 
-    def away(self, seconds: float, is_restart: bool) -> None:
-        """The board is heard again after this many seconds, or the recorder was away for that long."""
-        self._doubts.away(seconds, is_restart)
-        self._times.clear()
-        self._clock.gone()
-
-    def put_back(self, shown: Picture) -> None:
-        """Plies were taken off, or the game goes on, while the board shows this."""
-        self._doubts.put_back(shown)
-
-    def stands(self, now: float) -> Optional[Look]:
-        """The board's first dump since then is fully reported. Returns what somebody must look at, if anything."""
-        look = self._doubts.stands(now)
-        return self._open(look) if look else None
-
-    def time(self, now: float, data: bytes, size: int) -> None:
-        """A time message has come, with these seven bytes, when the capture had this size. A move that came before it may be reported
-        later."""
-        if not self._times or runs(self._times[-1][2]) != runs(data):
-            self._times.append((size, now, data))
-
-    def take(self, now: float, line: Line, by_hand: bool) -> Optional[Look]:
-        """Takes the next line of the game. Returns what somebody must look at, if anything; nothing that was added by hand."""
-        offset, event = line
-        while self._times and self._times[0][0] <= offset:
-            _, came_at, data = self._times.popleft()
-            self._clock.time(came_at, data)
-        look = self._doubts.take(now, event)
-        if isinstance(event, Move):
-            if by_hand:
-                self._clock.added(event)
-            else:
-                look = self._clock.moved(now, event) or look
-        if look is None:
-            return None
-        self._since[look.what] = offset
-        return None if by_hand else self._open(look)
-
-    def add(self, look: Look) -> Look:
-        """Adds this to what somebody must look at."""
-        self._open(look)
-        return look
-
-    def _open(self, look: Look) -> Optional[Look]:
-        """Adds this alarm. Returns it if it is new."""
+    def add(self, look: Look, byte: int = 0) -> bool:
+        """Somebody must look at this, which came with this byte of the capture. Returns whether it is new."""
         if look in self.looks.open:
-            return None
+            return False
+        self._since[look.what] = byte
         self.looks = self.looks.with_one_more(look)
         self.keep()
-        return look
+        return True
 
     def end(self, size: int) -> None:
         """The game has this many bytes. What came after them was setting up, and nobody need look at it."""
@@ -125,7 +73,6 @@ class Alarms:
     def acknowledge(self) -> str:
         """Somebody has looked. Returns at what."""
         seen, self.looks = self.looks.all, Looks()
-        self._clock.acknowledged()
         self.keep()
         return seen
 

@@ -87,9 +87,16 @@ def read_answer(command: str, status: int, line: str, output: bytes) -> Said:
     raise OSError(f"{command} {ending_of(status)}")
 
 
-def meaning(said: Said, line: str) -> str:
-    """What is added, in words."""
-    return f"{A_RESULT}{said.outcome}" if said.kind == RESULT else " ".join(line.split())
+def meaning(said: Said, line: str, plies: Sequence[str]) -> str:
+    """What is added, in words; of a result also what it ends, a game with these plies, as `14... Qd7`."""
+    return f"{A_RESULT}{said.outcome} {what_ends(plies)}" if said.kind == RESULT else " ".join(line.split())
+
+
+def what_ends(plies: Sequence[str]) -> str:
+    """Where a result ends a game with these plies."""
+    if not plies:
+        return "before the first move"
+    return f"after {plies[-1]}, {len(plies)} {'ply' if len(plies) == 1 else 'plies'}"
 
 
 def refuse(said: Said, line: str, place: str) -> Refused:

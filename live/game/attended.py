@@ -7,10 +7,15 @@ import re
 from dataclasses import dataclass, field
 from typing import List, Optional, Tuple
 
-KEPT, CAPTURE, NUMBER, LENT, WAKE = "kept", "capture", "number", "lent", "wake"  # further words are those of NAME.times
+# What is told, beside the words of NAME.times.
+KEPT, CAPTURE, NUMBER, LENT, WAKE, TEXT = "kept", "capture", "number", "lent", "wake", "text"
+AT, AFTER, SINCE, SUSPECT = "at", "after", "since", "SUSPECT"  # where somebody must look
+DOUBT = re.compile(f"look (?:({SUSPECT}) ([0-9]+)|({AT}|{AFTER}|{SINCE}) ([0-9]+) ([A-Z-]+)(?: ([0-9]+))?)")
 KEEP, HOLD, OTHER = "keep", "hold", "other"
+WAITS, UNSEEN = "WAITS", ("UNPLUGGED", "SILENT", "WAITS")  # states in which the board may have shown nothing
 HINTS = ("TURNED-ROUND", "OTHER-BOARD")
-KEPT_LINE = b"kept "
+ENDS = ("over", "played", "begins")
+KEPT_LINE, GAME_LINE = b"kept ", b"game "  # behind which come as many bytes as they say
 OFTEN = re.compile(rb"keep\n(?:ask ([A-Z]+)\n)?done ([0-9]+|-)\n")  # the end of most answers
 HISTORY_ENDS = b"done -"  # the answer to a capture
 NO_HISTORY = re.compile(rb"^[^0-9d]", re.MULTILINE)  # a line that isn't in such an answer
@@ -35,11 +40,23 @@ class Stood:
     hint: str = ""
 
 
+@dataclass(frozen=True)
+class Doubt:
+    """What somebody must look at: where, by how many plies the game has there; why, as a word; and how many moves are meant, if they
+    are counted. Something that was suspected has its number in place of plies."""
+
+    where: str
+    plies: int
+    why: str
+    moves: int = 0
+
+
 @dataclass
 class Answer:
     """What an entry is answered."""
 
     kept: bytes = b""  # the capture gets these
+    game: Optional[bytes] = None  # the PGN, if it was asked for
     report: List[str] = field(default_factory=list)  # its new lines
     handling: str = ""  # what is done with what the board has sent; empty in the answer to a capture of the calls before
     other: str = ""  # the serial number of another board
@@ -47,6 +64,7 @@ class Answer:
     asked: bytes = b""  # the board is sent this
     is_full: bool = False  # whether the capture had no room
     stood: Optional[Stood] = None  # if that is news
+    doubts: List[Doubt] = field(default_factory=list)  # those that are new
     due: Optional[int] = None  # wake in so many milliseconds; None: never
 
 
@@ -73,11 +91,14 @@ class Answers:
                 at = often.end()
                 continue
             behind = end + 1
-            if come.startswith(KEPT_LINE, at):
+            if come.startswith((KEPT_LINE, GAME_LINE), at):
                 behind += int(come[at + len(KEPT_LINE) : end])
                 if behind > len(come):
                     break
-                self._answer.kept = come[end + 1 : behind]
+                if come.startswith(KEPT_LINE, at):
+                    self._answer.kept = come[end + 1 : behind]
+                else:
+                    self._answer.game = come[end + 1 : behind]
             elif self._ends(come[at:end].decode("latin-1")):
                 found.append(self._answer)
                 self._answer = Answer()
@@ -118,11 +139,20 @@ class Answers:
             answer.stood = Stood(rest[0], _span(rest[1]), tuple(rest[2:]), hint)
         elif word == NUMBER and rest:
             answer.number = rest[0]
+        elif word == "look" and (doubt := DOUBT.fullmatch(line)):
+            answer.doubts.append(_doubt_of(*doubt.groups()))
         elif word == "full":
             answer.is_full = True
+        elif word in ENDS and rest:
+            pass  # how the game ends: nothing uses it yet
         else:
             raise NoAnswer(line)
         return False
+
+
+def _doubt_of(suspect: Optional[str], number: str, where: str, plies: str, why: str, moves: Optional[str]) -> Doubt:
+    """That of the parts of its line: something suspected, or what is doubtful at some ply."""
+    return Doubt(suspect, int(number), suspect) if suspect else Doubt(where, int(plies), why, int(moves or 0))
 
 
 def _span(word: str) -> Optional[int]:

@@ -6,10 +6,10 @@ import collections
 import math
 import os
 from dataclasses import dataclass, replace
-from typing import Deque, List, Optional, Protocol, Tuple, Union
+from typing import Callable, Deque, List, Optional, Protocol, Tuple, Union
 
 from live.game import times
-from live.game.attended import CAPTURE, HOLD, KEEP, KEPT, NUMBER, WAKE, Answer, Answers, entry
+from live.game.attended import CAPTURE, HOLD, KEEP, KEPT, NUMBER, TEXT, UNSEEN, WAITS, WAKE, Answer, Answers, entry
 from live.game.files import Capture
 from live.game.program import CHUNK, Child, HearsChild, Program
 from live.game.timed import Times
@@ -17,8 +17,7 @@ from live.guard import Guard
 from live.loop import Callback, Loop, Timer
 from live.refused import FAILED, Refused
 
-PIECE = 64 * 1024  # bytes of a capture that are told at once: the report of a piece is in the program's memory as a whole
-MOST_WITH_TIMES = 4 * 1024 * 1024  # bytes of a capture that is told with its times, and so as a whole
+PIECE = 64 * 1024  # bytes of a capture without times that are told at once; with its times it is told as a whole
 LATER = 0.01  # seconds by which it is woken later than it has said: two times that are close need one wake
 OF_THE_LINE = (times.OPENED, times.ANSWERED, times.GONE, times.CALLED)
 
@@ -76,6 +75,8 @@ class Attending(Child):
         self._due = math.inf  # when it is to be woken
         self._timer: Optional[Timer] = None  # which may come before that
         self._is_paused = self._is_due = False
+        self._has_shown = False  # whether the board has shown something
+        self._gets_text: Optional[Callable[[bytes], None]] = None  # when it is answered
         self.start()
 
     # What it is told.
@@ -108,6 +109,16 @@ class Attending(Child):
             self._told[-1].thens.append(done)
         else:
             done()
+
+    def ask_text(self, gets: Callable[[bytes], None]) -> None:
+        """`gets` gets the text of the game, once all that was told so far is answered. Ask again only then."""
+        self._gets_text = gets
+        self.tell(TEXT)
+
+    def begin_again(self, words: Tuple[str, ...]) -> None:
+        """Another child with these options takes its place. It is told what is kept, and what it says of that is known."""
+        self._words = ("live", *words)
+        self.restart()
 
     @property
     def is_settled(self) -> bool:
@@ -161,6 +172,8 @@ class Attending(Child):
             self._tell(Told(self._guard.now(), what))
         if left:
             self._tell(Told(self._guard.now(), times.HEARD, left))
+        if self._gets_text:
+            self._tell(Told(self._guard.now(), TEXT))
         self._told[-1].thens += thens
 
     def _tell_past(self) -> None:
@@ -170,7 +183,7 @@ class Attending(Child):
         away: Optional[int] = None
         if past and past.times:
             away = past.times.take_away()
-            content = past.times.content() if 0 < size <= MOST_WITH_TIMES else b""
+            content = past.times.content() if size > 0 else b""
             if content:
                 self._tell(Told(now, KEPT, content))
         if past:
@@ -226,7 +239,18 @@ class Attending(Child):
             self._held.append(told.sent)
         self.keeps = answer.handling == KEEP
         self._wake_at(told.at, answer.due)
+        self._look_at_state(answer)
         self._hears.answered(told, answer)
+        if answer.game is not None and self._gets_text:
+            gets, self._gets_text = self._gets_text, None
+            gets(answer.game)
+
+    def _look_at_state(self, answer: Answer) -> None:
+        """That a child waits for the board is no news if another one has heard it in this call."""
+        if answer.stood and answer.stood.kind == WAITS and self._has_shown:
+            answer.stood = None
+        elif answer.stood:
+            self._has_shown = self._has_shown or answer.stood.kind not in UNSEEN
 
     def unreported(self, lines: int) -> None:
         """So many lines of the report weren't used, since their bytes aren't in the capture."""

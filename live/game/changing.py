@@ -63,7 +63,8 @@ def add_and_make(game: Game, line: str) -> Tuple[str, str]:
     said = add_to_closed(game, line)
     made = made_of(game, Text(game).make(end_mark(game.paths)))
     gone = "" if said.outcome else "".join(f"; {told}" for told in told_of_result(before, result_in(game.paths)))
-    return meaning(said, line) + gone + made, said.outcome
+    plies = game_of(game.program, game.options, game.capture.bytes(0, end_mark(game.paths))).plies if said.outcome else []
+    return meaning(said, line, [ply.short for ply in plies]) + gone + made, said.outcome
 
 
 def add_by_name(program: Program, paths: Paths, text: str, patience: float) -> Answer:

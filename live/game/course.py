@@ -2,13 +2,11 @@
 
 from __future__ import annotations
 
-import collections
 import enum
-from typing import Deque, List, Optional, Sequence, Tuple
+from typing import List, Optional, Sequence, Tuple
 
 from live.device import protocol
 from live.game import ending
-from live.game.doubts import PACE_OF
 from live.game.ending import StartAgain
 from live.game.report import Agrees, Change, Clock, Differs, Event, Fault, Line, Move, News, Picture, Position, Recovered, Result
 
@@ -40,7 +38,6 @@ class Course:
         self.has_agreed = False  # whether the board has shown the game's position
         self.stands_again: Optional[Start] = None  # what the last line means, if it is about the start
         self.stood_again: Optional[Start] = None  # what the last such line meant
-        self.moved_at: Deque[float] = collections.deque(maxlen=PACE_OF + 1)  # when the last moves came
         self.news: List[News] = []  # the reported lines of the game: its changes, and the pairs before them
         self._stands: Optional[Event] = None  # the board's last state
         self._lines = ending.Lines()
@@ -68,7 +65,7 @@ class Course:
             if isinstance(event, Agrees):
                 self.has_agreed = True
             elif not isinstance(event, Differs):
-                self._take_change(event, offset, at)
+                self._take_change(event, offset)
         if self._is_at_start and isinstance(event, (Position, Differs, Agrees)):
             self._is_at_start = False
             self._judge_start()
@@ -80,15 +77,13 @@ class Course:
             self.stands_again = Start.ENDS if self.has_agreed or len(self.plies) > 1 else Start.BEGINS
             self.stood_again = self.stands_again
 
-    def _take_change(self, change: Change, offset: int, at: float) -> None:
+    def _take_change(self, change: Change, offset: int) -> None:
         self.news.append(change)
         self.changed_at = offset
         if isinstance(change, Result):
             self.result = change.outcome
             return
-        if not change.corrects:
-            self.moved_at.append(at)
-        elif self.plies:
+        if change.corrects and self.plies:
             self.plies.pop()
             del self.fens[len(self.plies) + 1 :]
         self.plies.append(change)

@@ -22,7 +22,7 @@ from live.game.game import Game, end_mark, forget_question, mark_end, unmark_end
 from live.game.making_pgn import Made, Text
 from live.game.reading import game_of, read_game
 from live.game.reply import Asked, Refused
-from live.game.report import Move
+from live.game.report import Move, Picture, line_of
 from live.game.times import OVER
 from live.game.way_back import ALL, NO_RESULT, PLIES, STILL_SHOWN, Way, nothing_goes, refuse, stays_of, way_of
 
@@ -111,7 +111,10 @@ def go_back_closed(game: Game, to: str, listens: bool = False, may_stay: bool = 
     if ends and ends.changes_nothing and mark is None:
         raise nothing_goes(ends, to)
     way = None
-    if listens or stays == 0 or course.result == NO_RESULT:
+    anew = _since_the_start(game, mark) if listens and stays == 0 and mark is not None else b""
+    if anew:
+        way = Way(course.plies, 0, course.result, anew)
+    elif listens or stays == 0 or course.result == NO_RESULT:
         now = said if len(whole) == len(sent) else _said(game, whole, str(stays))
         way = Way(course.plies, stays, course.result, now.put) if now.put else None
         if way is None and listens and not may_stay:
@@ -121,7 +124,8 @@ def go_back_closed(game: Game, to: str, listens: bool = False, may_stay: bool = 
     if way is None:
         raise refuse(said, to, course.plies)
     ask_first(game.paths, way)
-    return _put_closed(game, way, is_over) + (". The game stays over" if is_over else "")
+    more = ". The game stays over" if is_over else ""
+    return _put_closed(game, way, is_over) + (". The game begins with the moves made since the start" if anew else more)
 
 
 def reopen(game: Game, listens: bool = False) -> str:
@@ -160,6 +164,18 @@ def _course(game: Game) -> Course:
 
 def _said(game: Game, sent: bytes, to: str) -> Said:
     return answers.go_back(game.program, game.options, sent, to)
+
+
+def _since_the_start(game: Game, end: int) -> bytes:
+    """What the board has sent after this end of the game since it last showed the start before a move, behind a dump of the start;
+    empty if it hasn't shown that, or nothing else since."""
+    sent = game.capture.bytes(end)
+    lines = filter(None, map(line_of, game.program.lines("watch", *game.options.of_board(), given=sent)))
+    shown = [(line.offset + 1, line.event.placement == game.options.start) for line in lines if isinstance(line.event, Picture)]
+    while shown and shown[-1][1]:
+        shown.pop()
+    begins = max((behind for behind, is_start in shown if is_start), default=0)
+    return answers.dump_at_end(game.program, game.options, sent[:begins]) + sent[begins:] if begins else b""
 
 
 def _cut(game: Game, course: Course, stays: int) -> Optional[Way]:

@@ -1,9 +1,11 @@
-"""Makes NAME.pgn anew with `record`, beside the loop: one call at a time, then again if the game has changed meanwhile."""
+"""Makes NAME.pgn anew, beside the loop: once at a time, then again if the game has changed meanwhile. While a game is recorded, the
+program that attends its board gives the text; else `record` writes it."""
 
 from __future__ import annotations
 
 import contextlib
 import errno
+import functools
 import os
 import signal
 import subprocess
@@ -13,7 +15,7 @@ from typing import Callable, List, Optional, Protocol, Sequence, Tuple
 from live.beside import Worker
 from live.game.edited import is_recorded, keep
 from live.game.files import LARGEST, NO_ROOM, AnyPath, Opened
-from live.game.files import content_of, existing, new_of, open_new, open_regular, sync_folder, text_of, unwritten
+from live.game.files import content_of, existing, new_of, open_new, open_regular, sync_folder, text_of, unwritten, write_all
 from live.game.game import Game
 from live.game.options import Options
 from live.game.program import ending_of, wake
@@ -106,13 +108,20 @@ class Text:
                     game.written.text = text
 
     def make(self, limit: Optional[int]) -> Made:
-        """Makes it of the whole capture or of its first `limit` bytes, and waits for that. Returns the outcome."""
+        """Has `record` make it of the whole capture or of its first `limit` bytes, and waits for that. Returns the outcome."""
+        return self._make(functools.partial(self._record, limit))
+
+    def put(self, text: bytes) -> Made:
+        """Makes it of this text, which the program has given. Returns the outcome."""
+        return self._make(functools.partial(_written, text))
+
+    def _make(self, write: Callable[[int], Made]) -> Made:
         if self._closed:
             return Made()
         try:
             target = open_new(self._new, os.O_RDWR)
             try:
-                made = self._record(limit, target)
+                made = write(target)
                 if not made.trouble and not self._closed:
                     return Made(edited=self._put_in_place(target))
             finally:
@@ -200,8 +209,16 @@ class Text:
         return b""
 
 
+def _written(text: bytes, target: int) -> Made:
+    write_all(target, text)
+    return Made()
+
+
 class HearsMaker(Protocol):
-    """Gets the events of NAME.pgn."""
+    """Gets the events of NAME.pgn, and asks for its text."""
+
+    def ask_text(self, gets: Callable[[Optional[bytes]], None]) -> None:
+        """Asks the program that attends the board; `gets` gets None if its text may have bytes that the capture lacks."""
 
     def placed(self) -> None:
         """It was made anew."""
@@ -214,14 +231,14 @@ class HearsMaker(Protocol):
 
 
 class Maker:
-    """Makes NAME.pgn of the capture, or of its first `limit` bytes, again and again. A worker does it, so the loop never waits
-    for it."""
+    """Makes NAME.pgn again and again, and a last time of the capture or of its first `limit` bytes. A worker does it, so the loop
+    never waits for it."""
 
     def __init__(self, guard: Guard, worker: Worker, game: Game, hears: HearsMaker) -> None:
         self._guard, self._worker, self._capture, self._hears = guard, worker, game.capture, hears
         self._text = Text(game)
         self._next: Optional[Text] = None  # of the same game with other tags
-        self._running = self._closed = False
+        self._asking = self._running = self._closed = False
         self._covers = 0
         self._wanted = False
         self._idle: Optional[Callable[[bool], None]] = None
@@ -233,9 +250,9 @@ class Maker:
         self._stop = guard.opened(lambda: self._text.close())
 
     def want(self) -> None:
-        """The game has changed. Makes it anew, now or after the call under way."""
+        """The game has changed. Makes it anew, now or after the text under way."""
         self._wanted = True
-        if not self._running and self._timer is None:
+        if not self._asking and not self._running and self._timer is None:
             self._start()
 
     def makes(self, game: Game) -> None:
@@ -244,21 +261,38 @@ class Maker:
         self.want()
 
     def finish(self, done: Callable[[bool], None], tries: int = 3) -> None:
-        """Makes it a last time, and reports whether that succeeded within this many tries."""
-        self._idle, self._tries = done, tries
+        """Makes it a last time, of the capture, and reports whether that succeeded within this many tries."""
+        self._idle, self._tries, self._asking = done, tries, False
         if self._timer and not self._running:
             self._timer.cancel()
             self._timer = None
         self.want()
 
     def _start(self) -> None:
-        self._wanted, self._running = False, True
-        self._text, self._next = self._next or self._text, None
-        size = self._capture.size
-        self._covers = size if self.limit is None else min(self.limit, size)
-        self._timer = self._guard.after(SLOWEST, self._text.kill)
-        text, limit = self._text, self.limit
+        self._wanted = False
+        if not self._idle:
+            self._asking = True
+            self._hears.ask_text(self._take)
+            return
+        text, limit, size = self._newest(), self.limit, self._capture.size
+        self._running, self._covers = True, size if limit is None else min(limit, size)
+        self._timer = self._guard.after(SLOWEST, text.kill)
         self._worker.do(lambda: text.make(limit), self._ended)
+
+    def _take(self, given: Optional[bytes]) -> None:
+        """The program has given the text of the game as it is now; or None."""
+        if not self._asking or self._closed:
+            return
+        self._asking = False
+        if given is None:
+            self._timer = self._guard.after(AGAIN, self._again)
+            return
+        self._wanted, self._running, self._covers = False, True, self._capture.size
+        self._worker.do(functools.partial(self._newest().put, given), self._ended)
+
+    def _newest(self) -> Text:
+        self._text, self._next = self._next or self._text, None
+        return self._text
 
     def _ended(self, made: Made) -> None:
         if self._closed:

@@ -121,6 +121,7 @@ class Opened:
     read_anew: Tuple[str, ...] = ()  # if its capture is read in another way than before
     results: Tuple[str, ...] = ()  # if its result has changed
     close: Optional[Callback] = None  # closes its capture, unless that is done already
+    was_set_up: bool = False  # whether it ended without a result, as its pieces were set up: perhaps it begins only now
 
 
 class Opening:
@@ -205,7 +206,9 @@ class Opening:
         read_anew = told_of_reading(before or options, options, pairs)
         results = told_of_result(result, result_in(paths))
         old = dataclasses.replace(old, size=capture.size)
-        return Opened(game, old, is_over(game), (*told, *times.unexpected), tuple(read_anew), tuple(results))
+        was_set_up = end is not None and result_in(paths) == "*"
+        told = (*told, *times.unexpected)
+        return Opened(game, old, is_over(game), told, tuple(read_anew), tuple(results), was_set_up=was_set_up)
 
     @staticmethod
     def _has_moves(game: Game, now: float) -> bool:

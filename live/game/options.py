@@ -119,11 +119,14 @@ class Options:
 
     def of_live(self) -> Tuple[str, ...]:
         """The options that `live` has."""
-        return Options(self.rotated, self.first, self.fen, recover=self.recover or None).words()
+        return self._recorded(self.recover or None).words()
 
     def of_record(self) -> Tuple[str, ...]:
         """The options that `record` has."""
-        return self._with(recover=None, date=self.date or self.began, unrotated=False, tags=()).words()
+        return self._recorded(None).words()
+
+    def _recorded(self, recover: Optional[bool]) -> Options:
+        return self._with(recover=recover, date=self.date or self.began, unrotated=False, tags=())
 
     def of_pictures(self) -> Tuple[str, ...]:
         """The options that `pictures` has."""

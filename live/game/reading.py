@@ -6,7 +6,6 @@ from __future__ import annotations
 import array
 import os
 import subprocess
-import time
 from dataclasses import dataclass
 from typing import Iterator, List, Optional, Sequence
 
@@ -32,7 +31,6 @@ class Old:
     size: int
     lines: int
     course: Course
-    gap: float = 0.0  # the seconds since its last byte
 
 
 def new_course(options: Options) -> Course:
@@ -50,13 +48,12 @@ def read_game(game: Game, limit: Optional[int], now: float) -> Old:
     with Opened() as opened:
         source = opened.keep(source_of(game, limit))
         times = Times(source, now)
-        gap = max(0.0, time.time() - os.fstat(source).st_mtime)
         words = ("watch", *game.options.of_board())
         if game.options.recover:
             source, words = opened.keep(_as_told(source, times.size)), ("live", *game.options.of_live())
         course = new_course(game.options)
         count = take_all(course, game.program, words, source, times)
-    return Old(times.size, count, course, gap)
+    return Old(times.size, count, course)
 
 
 def game_of(program: Program, options: Options, sent: bytes) -> Course:

@@ -12,6 +12,7 @@ from typing import Callable, Dict, List, Optional, Sequence, Set, Tuple, Union
 
 from live.beside import Worker
 from live.board.board import Board
+from live.board.exchanged import may_be_exchanged
 from live.board.finding import Finder
 from live.broadcast.broadcast import Broadcast
 from live.broadcast.games import written_name
@@ -43,6 +44,7 @@ from live.terminal.terminal import Typed
 from live.web.view import round_pgn
 
 OPENS = 5.0  # seconds that all games may take to be opened
+SHOWN = 1.0  # seconds after which a board that is heard again has shown how it stands
 HIGHEST = 6  # digits of a number that may be a board's
 SCORE = re.compile(r"\d\s*[-–—−:/]\s*\d", re.ASCII)  # and not a board's number
 
@@ -120,13 +122,14 @@ class Round:
         folder = pathlib.Path(hall.folder)
         self._log = Log(folder / "round.log")
         self._published = Published(loop, folder / f"{ROUND}.pgn", self._text, self.say)
-        self.outputs = Outputs(loop, hall.out, hall.outputs, folder, self.boards, self)
+        self.outputs = Outputs(loop, hall.program, hall.out, hall.outputs, folder, self.boards, self)
         self._display = Display(loop, title, self.views, hall.terminal, self.trouble)
         self._opens_until = loop.now() + OPENS
         loop.after(OPENS, self.remade)
         self._looker: Optional[Worker] = None  # finds out which boards are plugged in
         self._asker: Optional[Worker] = None  # asks the program about lines without a board's number
         self._finder = Finder(loop, lambda: [row.board for row in self.boards()], self.trouble)
+        self._came_back: Dict[int, float] = {}  # the boards that are just heard again, and when each has shown how it stands
         self._ending = False
         self._leaving = Leaving(loop, self.outputs, self.say)
         self._is_over = False  # all games are, and that was said
@@ -293,6 +296,25 @@ class Round:
     def owner(self, number: str) -> Optional[Board]:
         """The board that has this serial number, unless its game is over."""
         return next((row.board for row in self.boards() if row.serial == number and not row.board.is_over), None)
+
+    def came_back(self, number: int) -> None:
+        """This board was away, and is there again: perhaps on the cable of another one that was away too."""
+        if not self._came_back:
+            self._loop.after(SHOWN, self._suspect)
+        self._came_back[number] = self._loop.now() + SHOWN
+
+    def _suspect(self) -> None:
+        """Boards that have come back have shown how they stand. Each game is told with which other boards its own may be exchanged."""
+        now, came_back = self._loop.now(), self._came_back
+        self._came_back = {number: shown for number, shown in came_back.items() if shown > now}
+        if self._came_back:
+            self._loop.after(SHOWN, self._suspect)
+        away = {row.number: row.board.returned for row in self.boards() if row.number not in self._came_back}
+        for number, one in away.items():
+            news = [other for other in away if other != number and (number in came_back or other in came_back)]
+            others = [other for other in news if one and (two := away[other]) and may_be_exchanged(one, two)]
+            if others:
+                self.rows[number].board.suspect(others)
 
     # What is typed.
 

@@ -69,6 +69,9 @@ class HearsRow(Protocol):
     def owner(self, number: str) -> Optional[Board]:
         """The board that has this serial number."""
 
+    def came_back(self, number: int) -> None:
+        """This board was away, and is there again."""
+
     def say(self, text: str) -> None:
         """A line for the screen."""
 
@@ -137,6 +140,9 @@ class RowScreen(Screen):
 
     def reopens(self) -> str:
         return f"{self._number} {super().reopens()}"
+
+    def begins(self) -> str:
+        return f"{self._number} {super().begins()}"
 
     def result_of(self, name: str, in_series: bool) -> str:
         return f"{self._number} 1-0"
@@ -274,6 +280,10 @@ class Row:
         if why is None:
             self._loop.after(0, self._apply_result)
         return True
+
+    def came_back(self) -> None:
+        """Its board was away, and is there again."""
+        self._hears.came_back(self.number)
 
     def missing(self) -> None:
         """The round looks for all boards anyway."""

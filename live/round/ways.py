@@ -16,7 +16,7 @@ from live.game.reply import Refused as NotDone
 from live.game.typed import ABSENT, ALL_WAYS, Acknowledged, Back, Reopened, read_words, with_more
 from live.refused import DONE
 
-ADDED_A_RESULT = re.compile(f": {A_RESULT}\\S+$")
+ADDED_A_RESULT = re.compile(f": {A_RESULT}\\S+ (after|before) [^;]*$")
 
 
 def told_of_answer(number: int, given: Answer) -> str:

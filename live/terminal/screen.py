@@ -9,7 +9,7 @@ from typing import Callable, Deque, Optional
 
 from live.game.log import Log, logged_at, time_of
 from live.game.options import NOT_ROTATED, ROTATED
-from live.game.reply import OK, REOPENS
+from live.game.reply import BACK, OK, REOPENS
 from live.refused import printable
 from live.terminal.terminal import INDENT, Terminal
 
@@ -89,6 +89,10 @@ class Screen:
     def reopens(self) -> str:
         """What to type if a result was typed for the wrong board."""
         return REOPENS
+
+    def begins(self) -> str:
+        """What to type if a game begins only now."""
+        return f"{BACK} 0"
 
     def result_of(self, name: str, in_series: bool) -> str:
         """What to type for the result of a game that is over without one."""

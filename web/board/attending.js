@@ -2,7 +2,7 @@
 // anything of the answer is shown; what it sends to the board goes out at once.
 
 import { ADDED, AWAY, BEGIN, GONE, HEARD, OPENED } from '../game/times.js';
-import { KEEP, OTHER } from '../game/attended.js';
+import { KEEP, KEPT, LENT, NUMBER, OTHER, TEXT, WAKE } from '../game/attended.js';
 import { lineOf } from '../game/report.js';
 import { Attendant } from './attendant.js';
 
@@ -16,8 +16,8 @@ export class Attending {
    * `hears` has options and number, those of the game and of its board; and isConnected, whether its line is open or is being
    * opened. It gets keeps(bytes, at, now, number) with what the capture gets;
    * asks(words, at) with what the board is sent; handled(handling, other), whose board is on the cable; lends(number, bytes), which
-   * says whether another game has taken them; and, as soon as all is kept, hear(line) for each line, heardAll() after them, and
-   * stands(state, entry) with what the board's state is said to be.
+   * says whether another game has taken them; and, as soon as all is kept, hear(line) for each line, heardAll() after them,
+   * raises(looks) with what somebody must look at, and stands(state, entry) with what the board's state is said to be.
    */
   constructor(hall, guard, hears) {
     this.program = hall.program;
@@ -34,6 +34,7 @@ export class Attending {
     this.isShowing = false;
     this.held = []; // entries with what the board has sent and no game has
     this.waiting = []; // those who wait until an entry's answer is shown
+    this.texts = []; // those who wait for the text of the game
     this.paused = null; // what happens while nothing is told
     this.later = []; // what the board has sent meanwhile
     guard.opened(() => this.close());
@@ -49,21 +50,35 @@ export class Attending {
     this.isHistory = this.attendant === null; // whether its bytes came in the calls before; else the board has just shown them
     this.before = this.isHistory ? () => this.times.before : () => '';
     this.began = () => this.times.began;
+    this.awayFor = () => this.times.awayFor;
   }
 
   /** The game has other options now: the capture is read anew, with the next `begin`. */
   readAnew() {
     this.isAnew = true;
-    this.isHistory = true;
     this.known = this.capture.size;
+    this.goesOn();
+  }
+
+  /** The game has other tags now: another process reads what is kept, and no line of it is heard again. */
+  takeTags() {
+    this.goesOn();
+    this.attend();
+  }
+
+  /** The next process goes on with what is kept: nobody was away but since the last of it. */
+  goesOn() {
+    this.isHistory = true;
     this.before = () => this.times.all;
     this.began = () => this.guard.counted();
+    this.awayFor = () => Math.max(0, this.guard.counted() - this.times.last);
   }
 
   close() {
     if (this.attendant) this.attendant.leave();
     this.waiting.forEach(({ done }) => done());
     this.waiting = [];
+    this.leaveTexts();
   }
 
   /** All lines are heard again. */
@@ -75,7 +90,7 @@ export class Attending {
       return;
     }
     this.told += 1;
-    this.pending.push({ number: this.told, mark: 0, entry: null, answer: { report: [], state: null } });
+    this.pending.push({ number: this.told, mark: 0, entry: null, answer: { report: [], looks: [], state: null } });
     this.guard.call(() => Promise.resolve().then(() => this.show())); // whoever wants them again goes on first
   }
 
@@ -90,19 +105,21 @@ export class Attending {
     const hears = {
       told: (entry) => this.hasTold(entry),
       answered: (entry, answer) => this.answered(entry, answer),
-      wake: () => this.tell('wake'),
+      wake: () => this.tell(WAKE),
     };
     const attendant = new Attendant(this.program, this.guard, options, hears, this.began());
     this.attendant = attendant;
     this.lines = [];
     this.pending = [];
     this.held = [];
+    this.leaveTexts();
     const before = isHistory ? this.before() : '';
-    if (before) attendant.send('kept', textBytes(before));
+    if (before) attendant.send(KEPT, textBytes(before));
     if (isHistory && sent.length > 0) attendant.send('capture', sent);
     attendant.send(BEGIN, isHistory ? sent.length : 0);
-    if (this.times.awayFor !== null) attendant.send(AWAY, this.times.awayFor);
-    if (number) attendant.send('number', textBytes(number));
+    const away = this.awayFor();
+    if (away !== null) attendant.send(AWAY, away);
+    if (number) attendant.send(NUMBER, textBytes(number));
     if (isBegun || this.isOpen) attendant.send(this.isOpen ? OPENED : GONE);
     else this.guard.after(OPENS, () => this.hears.isConnected || this.tell(GONE));
     if (!isHistory && sent.length > 0) attendant.send(ADDED, sent);
@@ -121,6 +138,23 @@ export class Attending {
   tellNow(word, given = null, at = this.guard.counted()) {
     if (word === OPENED || word === GONE) this.isOpen = word === OPENED;
     this.attendant.tell(word, given, at);
+  }
+
+  /**
+   * The text of the game, as bytes, of all that the program was told by now; null if another process attends the board before
+   * that is answered, or none any more.
+   */
+  text() {
+    return new Promise((done) => {
+      this.texts.push(done);
+      this.inTurn(() => this.texts.includes(done) && this.tellNow(TEXT));
+    });
+  }
+
+  /** Nobody answers those who wait for the text. */
+  leaveTexts() {
+    this.texts.forEach((done) => done(null));
+    this.texts = [];
   }
 
   /** Does this now, or when what happens is told again. */
@@ -174,7 +208,7 @@ export class Attending {
   lend(number) {
     const count = this.held.length;
     while (this.held.length > 0 && this.held[0].isAnswered && this.hears.lends(number, this.held[0].given)) this.held.shift();
-    if (this.held.length < count) this.tell('lent');
+    if (this.held.length < count) this.tell(LENT);
   }
 
   /** These bytes are kept: they may be shown. */
@@ -191,8 +225,11 @@ export class Attending {
       const { number, mark, entry, answer } = this.pending.shift();
       for (const line of answer.report) this.lines.push(line);
       this.known = Math.max(this.known, mark);
-      if (answer.report.length > 0 || !entry) this.hear();
+      const isToHear = answer.report.length > 0 && entry.word !== KEPT; // its capture comes with the next answer
+      if (isToHear || !entry || entry.word === BEGIN) this.hear();
+      if (answer.looks.length > 0) this.hears.raises(answer.looks);
       if (answer.state) this.hears.stands(answer.state, entry);
+      if (answer.game) this.texts.shift()(answer.game);
       this.shown = number;
     }
     this.isShowing = false;

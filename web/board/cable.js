@@ -112,23 +112,23 @@ export class Cable {
 
   // Whose board it is.
 
-  /** What is done with what the board sends. */
+  /** What is done with what the board sends. If its number is the game's, that was answered before it was taken. */
   handled(handling, number) {
     if (handling === KEEP) this.other = '';
-    if (handling !== OTHER) return;
+    if (handling !== OTHER || number === this.number) return;
     this.other = number;
     if (number === this.told) return;
     this.told = number;
     this.hears.another(number);
   }
 
-  /** The game gets these bytes, in which its board gives its number. */
-  gives(number, bytes) {
-    if (!this.number) {
+  /** The game gets these bytes, which its board has sent. With them its number may become known. */
+  brings(bytes, number) {
+    if (number && !this.number) {
       this.latest = [bytes];
       this.isOwn(number);
       this.latest = [];
-    } else if (this.told && number === this.number) {
+    } else if (this.told) {
       const before = this.told;
       this.told = '';
       this.hears.back(before);

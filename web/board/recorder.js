@@ -1,18 +1,19 @@
-// The games of one board while it is recorded. What came is kept first, then reported, and the PGN is made anew when
-// the game has changed.
+// The games of one board while it is recorded. What came is kept first, then reported; and when the game has changed, the program
+// that attends its board gives its PGN.
 
-import { Frames, endedIn, joined, lastDump, same } from '../device/protocol.js';
+import { joined, lastDump, same } from '../device/protocol.js';
 import { AfterTheEnd } from '../game/after_the_end.js';
 import { Alarms, acknowledged } from '../game/alarms.js';
 import { endingWithSign, gameEnd } from '../game/ending.js';
 import { countingForfeit } from '../game/forfeits.js';
 import { textOfLook } from '../game/looks.js';
 import { dayOf } from '../game/names.js';
+import { ofLive } from '../game/options.js';
 import { ProgramError } from '../game/program.js';
-import { gameOf, newCourse, textOf } from '../game/reading.js';
+import { gameOf, newCourse, publishedOf, textOf } from '../game/reading.js';
 import { codesOf, shortOf, shownOf } from '../game/report.js';
 import { ABSENT, Refused } from '../game/typed.js';
-import { ADDED, ASKED, HEARD, OVER, isOf, kept as foundIn } from '../game/times.js';
+import { ADDED, ASKED, BACK, HEARD, LOOKED, OVER, SUSPECT, isOf, kept as foundIn } from '../game/times.js';
 import { reached, readBack } from '../game/way_back.js';
 import { Capture, LARGEST } from '../kept/capture.js';
 import { spread, withMore } from '../kept/spread.js';
@@ -26,11 +27,11 @@ import { another, back as backAgain, mayTake } from './whose.js';
 const LINGER = 10.0; // seconds after which a result ends the game
 const LATE = 1.0; // seconds by which a timer is late if the page was stopped meanwhile
 const STANDS = 0.2; // seconds for which the start is shown before it ends a game
-const DRAWN = 0.05; // seconds after which a move that was heard is on the screen
 const TICK = 1.0; // seconds between two looks at what waits
 const NO_PLIES = '0';
 const ROOM = 1 << 20; // bytes that are left for what `recover` adds: the program reads no more than LARGEST
 const SAID = [Kind.WRONG, Kind.NO_START]; // states that are reported as lines too
+const UNSEEN = ['UNPLUGGED', 'SILENT', 'WAITS']; // states in which the board may have shown nothing
 
 const Reason = {
   RESULT: 'it has a result',
@@ -45,7 +46,7 @@ export class Recorder {
    * `kept` is what the database has: { board, game, chunks, times }; or, from a recorder that an error has ended before all
    * was kept, { board, game, capture, times }. `hears` gets says(text), changed(), placed() when the PGN
    * has changed, begun(game) with the last game when another one begins, and keeps(before) with the old capture when a
-   * new one was made; it answers owner(number) and lends(number, heard).
+   * new one was made; and cameBack() when its board was away and is heard again. It answers owner(number) and lends(number, heard).
    */
   constructor(hall, guard, kept, hears) {
     this.calls = hall.calls; // of the program
@@ -54,13 +55,14 @@ export class Recorder {
     this.hears = hears;
     this.board = kept.board;
     this.pgn = '';
-    this.made = null; // a promise that ends when the wanted text is made
+    this.made = null; // a promise that ends when the wanted text is there
     this.trouble = ''; // why it isn't recorded
     this.isStopped = false;
     this.isSilent = false; // whether no board answers
-    this.wasAway = false; // unplugged or silent since it was last heard
-    this.isPutBack = false; // whether plies were taken off, or the game goes on, and that isn't reported yet
-    this.gap = null; // how long it wasn't heard, while the report is read anew
+    this.heardAt = null; // when the board was heard last; `leftAt`: the same, while it is away
+    this.leftAt = null;
+    this.gap = null; // when it was away last: { heardAt, cameAt }
+    this.hasShown = false; // whether the board has shown something
     this.said = { kind: 'WAITS', lasted: null, squares: [], hint: '' }; // of the board's state; `saidAt` is when
     this.saidAt = guard.now();
     this.differs = []; // the squares that the report has named last
@@ -91,13 +93,8 @@ export class Recorder {
     });
     this.attending.take(capture, times);
     this.opened = this.capture.size;
-    this.heardAt = this.capture.lastAt === null ? this.guard.now() : this.capture.lastAt;
-    this.away = this.guard.away(); // the seconds that this page was away by then
-    this.isRestart = this.capture.lastAt !== null;
-    this.frames = new Frames(); // of what comes on its own cable
-    this.lentFrames = new Frames(); // of what comes on another game's
-    this.awaitsDump = false;
-    this.byHand = [0, 0]; // the bytes that were added last
+    this.away = this.guard.away(); // the seconds that this page was away when the board was last heard
+    this.raised = []; // alarms of the program that nobody has been told of
   }
 
   get name() {
@@ -140,7 +137,7 @@ export class Recorder {
     this.old = this.attending.known; // bytes whose report isn't news
     this.isOld = true;
     this.course = newCourse(this.options);
-    this.alarms = new Alarms(this.course, this.game.looks);
+    this.alarms = new Alarms(this.game.looks);
     this.cancelLingering();
     this.after = null;
     this.startAt = null; // where the start was last shown
@@ -173,15 +170,12 @@ export class Recorder {
     this.course.take(line, now);
     this.course.news.length = 0; // it is reported below
     if (isOld) return;
-    const isByHand = offset >= this.byHand[0] && offset < this.byHand[1];
-    const look = this.alarms.take(now, line, isByHand);
     if (event.kind === 'picture' && this.course.standsAgain) this.guard.after(STANDS, () => this.lookAtStart());
     if (event.kind === 'recovered') {
       this.hears.says(`${event.text}: look whether these moves were played`);
     } else if (event.kind === 'move' || event.kind === 'result') {
       this.hearChange(event);
     }
-    this.tellLook(look);
   }
 
   hearChange(change) {
@@ -211,14 +205,10 @@ export class Recorder {
   /** Takes over what was played earlier. */
   tellOld() {
     this.isOld = false;
-    this.alarms = new Alarms(this.course, this.game.looks);
-    if (this.isPutBack) this.alarms.putBack(this.course.board);
-    this.isPutBack = false;
-    if (this.gap) this.alarms.away(this.gap.seconds, this.gap.isRestart);
-    this.gap = null;
     if (this.isOver) return;
     this.hearResult(this.course.result, true);
     if (this.course.stoodAgain) this.guard.after(STANDS, () => this.lookAtStart());
+    this.tellRaised();
   }
 
   // What the program decides.
@@ -238,40 +228,35 @@ export class Recorder {
    * program may say the number that the game's board has from now on.
    */
   keeps(bytes, at, now, number) {
-    const ended = endedIn(this.frames, bytes);
-    if (number || ended.serial) this.cable.gives(number || ended.serial, bytes);
-    if (!this.cable.isLeft) this.takeSent(bytes, ended, at, now); // else another game has this board, and these bytes
+    this.cable.brings(bytes, number);
+    if (!this.cable.isLeft) this.takeSent(bytes, at, now); // else another game has this board, and these bytes
   }
 
   /** What its board has sent comes to the game. */
-  takeSent(bytes, ended, at, now) {
+  takeSent(bytes, at, now) {
     const room = LARGEST - this.capture.size;
     if (room <= 0) return; // the game is over, and nobody has begun another one
     const unheard = this.guard.away() - this.away;
-    const silence = Math.max(now - this.heardAt, unheard);
-    this.heardAt = now;
     this.away += unheard;
     if (unheard > 0) this.sayUnheard(unheard);
-    if (this.wasAway || this.isRestart || unheard > 0) {
-      if (this.isOld) this.gap = { seconds: silence + (this.gap ? this.gap.seconds : 0), isRestart: this.isRestart };
-      else this.alarms.away(silence, this.isRestart);
-      this.awaitsDump = true;
-    }
-    this.wasAway = false;
-    this.isRestart = false;
-    if (ended.time.length > 0) this.alarms.time(now, ended.time, this.capture.size);
+    this.boardIsThere(now, unheard > 0);
     this.append(bytes.slice(0, room), HEARD, at, now);
-    if (ended.dumps > 0 && this.awaitsDump) {
-      this.awaitsDump = false;
-      this.guard.call(() => this.tellStands());
-    }
     this.lookAtLimit();
   }
 
-  /** Once all lines about a dump have been heard. */
-  async tellStands() {
-    await this.attending.read();
-    if (!this.guard.ended) this.tellLook(this.alarms.stands(this.guard.now()));
+  /** The board is heard now. If the page slept too, nobody knows how long the board was away. */
+  boardIsThere(now, hasSlept) {
+    const { leftAt } = this;
+    this.leftAt = null;
+    this.heardAt = now;
+    if (leftAt === null || hasSlept) return;
+    this.gap = { heardAt: leftAt, cameAt: now };
+    this.hears.cameBack();
+  }
+
+  /** The board isn't heard any more. */
+  boardIsGone() {
+    if (this.leftAt === null) this.leftAt = this.heardAt;
   }
 
   /** The capture gets what the board has sent, or somebody has added. */
@@ -298,13 +283,15 @@ export class Recorder {
   /** Another game's cable has brought this, which is this board's. */
   takeLent(bytes) {
     this.attending.inTurn(() => {
-      this.takeSent(bytes, endedIn(this.lentFrames, bytes), this.guard.counted(), this.guard.now());
+      this.takeSent(bytes, this.guard.counted(), this.guard.now());
       this.attending.tellNow(ADDED, bytes);
     });
   }
 
   /** This is the state of the board from now on. */
   stands(said, { word, now }) {
+    if (said.kind === 'WAITS' && this.hasShown) return; // another process attends it, which hasn't heard it yet
+    this.hasShown = this.hasShown || !UNSEEN.includes(said.kind);
     this.said = said;
     this.saidAt = now;
     const isSilent = said.kind === 'SILENT';
@@ -355,7 +342,7 @@ export class Recorder {
   }
 
   unplugged() {
-    this.wasAway = true;
+    this.boardIsGone();
     if (!this.isOver) this.hears.says("its device isn't there: plug it in again; the recording then goes on");
     this.hears.changed();
   }
@@ -369,7 +356,7 @@ export class Recorder {
   /** No board answers, or one does again: that is said if it has sent something. */
   silence(isSilent, word) {
     this.isSilent = isSilent;
-    this.wasAway = this.wasAway || isSilent;
+    if (isSilent) this.boardIsGone();
     const what = "no board answers on its device; it is asked again and again. Look at the cable, and at the board's power";
     if (isSilent) this.hears.says(what);
     else if (word === HEARD) this.hears.says('the board answers again');
@@ -401,6 +388,27 @@ export class Recorder {
 
   // Alarms.
 
+  /** Its cable may have been exchanged with those of the boards with these numbers. The program keeps the suspicions. */
+  suspect(others) {
+    this.alarms.suspect(others);
+    const at = this.guard.counted();
+    for (const other of others) {
+      this.times.note(SUSPECT, other, at);
+      this.attending.tell(SUSPECT, other, at);
+    }
+  }
+
+  /** The program has raised these. Nobody need look at a game that is over, unless it goes on. */
+  raises(looks) {
+    this.raised.push(...looks);
+    if (!this.isOld && !this.isOver) this.tellRaised();
+  }
+
+  tellRaised() {
+    const raised = this.raised.splice(0);
+    for (const look of this.alarms.raise(raised, this.course)) this.tellLook(look);
+  }
+
   tellLook(look) {
     if (!look) return;
     this.hears.says(`${textOfLook(look)}. Look at it, and press OK`);
@@ -417,6 +425,8 @@ export class Recorder {
     const other = this.cable.other ? this.hears.owner(this.cable.other) : null;
     const takes = this.cable.other && mayTake(other, this.course.plies.length > 0);
     let seen = acknowledged(this.alarms.acknowledge());
+    this.raised = [];
+    this.happened(LOOKED);
     if (takes) {
       this.cable.takeOther();
       seen += `; the board with serial number ${this.cable.number} is recorded here`;
@@ -490,23 +500,23 @@ export class Recorder {
     });
   }
 
-  /** The text of the game as it is shown; waits while it is being made. */
+  /** The text of the game as it is shown; waits while a newer one is asked for. */
   async text() {
     await this.made;
     return this.pgn;
   }
 
-  /** The text of a game with this capture, up to its end. */
-  textOf({ end }) {
-    const sent = this.capture.bytes(end === null ? this.attending.known : end);
-    return textOf(this.calls, this.options, sent, this.forfeit);
+  /** The text of a game with this capture that is over, up to its end. */
+  async textOf({ end }) {
+    await this.attending.read(); // whether it was forfeited is known by its lines
+    return textOf(this.calls, this.options, this.capture.bytes(end), this.forfeit);
   }
 
-  /** What was heard is on the screen. */
-  drawn() {
-    return new Promise((done) => {
-      this.guard.loop.after(DRAWN, done);
-    });
+  /** The text of the game; null if the game is read anew meanwhile. */
+  async textNow() {
+    if (this.isOver) return this.textOf(this.game);
+    const pgn = await this.attending.text();
+    return pgn && publishedOf(pgn, this.options, this.forfeit);
   }
 
   async makeText() {
@@ -514,11 +524,9 @@ export class Recorder {
     try {
       while (this.wantsText && !this.guard.ended) {
         this.wantsText = false;
-        await this.attending.read(); // whether there is something to write is known by its lines
-        await this.drawn(); // the capture is copied for the text, and a long one would hold up the move
         const { epoch } = this.attending;
-        const text = await this.textOf(this.game);
-        if (epoch === this.attending.epoch) {
+        const text = await this.textNow();
+        if (text !== null && epoch === this.attending.epoch) {
           this.pgn = text;
           this.hears.placed();
         } else {
@@ -586,9 +594,10 @@ export class Recorder {
   /** The game is not over any more. */
   async goOn() {
     this.game = { ...this.game, end: null, overTo: 0 };
-    this.isPutBack = true;
     this.reread();
     this.times.isNotOver();
+    this.times.note(BACK);
+    this.attending.tellNow(BACK);
     await this.times.write(); // before the game's record: the times would have an end that the game lacks
     await this.keepGame();
   }
@@ -704,7 +713,7 @@ export class Recorder {
     const pgn = await this.textOf(before);
     const options = { ...given, began: dayOf(new Date()) };
     const name = wanted || this.hears.nextName(before.name);
-    const game = { board: this.board.id, name, options, end: null, looks: this.alarms.looks.open };
+    const game = { board: this.board.id, name, options, end: null, looks: this.alarms.looks.carried };
     const chunks = content.length > 0 ? spread(content, this.guard.now()) : [];
     const board = { ...this.board, next: null };
     game.id = await this.database.beginGame(board, game, chunks, before);
@@ -716,7 +725,6 @@ export class Recorder {
     const capture = new Capture(this.database, game.id, chunks);
     this.takeGame(game, capture, this.times.next(game, capture));
     this.times.goOn();
-    this.isRestart = false;
     this.pgn = '';
     this.reread();
   }
@@ -725,7 +733,6 @@ export class Recorder {
 
   /** Adds this by hand. */
   async add(put) {
-    this.byHand = [this.capture.size, this.capture.size + put.length];
     this.append(put, ADDED);
     this.attending.tellNow(ADDED, put);
     this.game = { ...this.game, typedTo: this.capture.size };
@@ -746,17 +753,24 @@ export class Recorder {
     await this.keepGame();
   }
 
-  /** Refuses a result for a game that has only begun: it is meant for the one before. */
-  refuseAtBegin(outcome) {
-    const before = this.course.plies.length === 0 ? this.hears.gameBefore : null;
-    if (!before) return;
-    const how = before.isUnended ? `. If it is the result of ${before.name}, press ${outcome} beside that name` : '';
+  /**
+   * A result may be meant for the game before. Throws Refused if this game has no move yet. Returns a question if the game before
+   * has no result; else an empty text.
+   */
+  askWhichGame(outcome) {
+    const before = this.hears.gameBefore;
+    if (!before) return '';
+    const isThat = `If it is the result of ${before.name}, press ${outcome} beside that name`;
+    if (this.course.plies.length > 0) {
+      return before.isUnended ? `${before.name} has no result yet. ${isThat}; if it is that of ${this.game.name}, type ${outcome} again` : '';
+    }
+    const how = before.isUnended ? `. ${isThat}` : '';
     throw new Refused(`${this.game.name} has no move yet, so it has no result${how}. If a player hasn't come, type ${ABSENT}`);
   }
 
   /**
    * The capture is this from now on; the old one is kept beside it, if wanted. Up to `typedTo` it is what was typed. `timesOf`
-   * makes the times of the new capture of this game.
+   * makes the times of the new capture of this game. If the game goes on with it, plies were taken off.
    */
   async renew(content, keepsBefore, changes = {}, timesOf = (game, capture) => this.times.next(game, capture, 0)) {
     this.cancelLingering();
@@ -767,6 +781,8 @@ export class Recorder {
     const game = { ...this.game, hasBefore: this.game.hasBefore || keepsBefore, typedTo: 0, overTo: 0, ...changes };
     const capture = new Capture(this.database, game.id, chunks);
     const times = timesOf(game, capture);
+    const isBack = changes.end === null;
+    if (isBack) times.note(BACK);
     const { row } = times;
     try {
       await this.database.renew(game, chunks, row, keepsBefore ? before : null);
@@ -779,10 +795,8 @@ export class Recorder {
     times.goOnFrom(row, this.times);
     capture.trouble = this.capture.trouble;
     this.takeGame(game, capture, times);
-    this.isRestart = false;
-    this.wasAway = true; // pieces may have been moved meanwhile
-    this.isPutBack = changes.end === null;
     this.reread();
+    if (isBack) this.attending.tellNow(BACK);
   }
 
   /** Puts in what a longer capture of this game has beyond what was kept when the game was opened, with its times. */
@@ -809,11 +823,16 @@ export class Recorder {
       throw new Refused('the game has moves, so how its board lies stays');
     }
     const isRead = ['rotated', 'first', 'recover'].some((name) => options[name] !== this.options[name]);
+    const isTagged = ofLive(options).join('\n') !== ofLive(this.options).join('\n');
     this.game = { ...this.game, ...changes, options };
     this.keepGame();
-    if (isRead) this.attending.readAnew();
-    if (isRead) this.reread();
-    else this.wantText();
+    if (isRead) {
+      this.attending.readAnew();
+      this.reread();
+    } else {
+      if (isTagged) this.attending.takeTags();
+      this.wantText();
+    }
     this.hears.changed();
   }
 
@@ -821,7 +840,6 @@ export class Recorder {
 
   stop() {
     this.isStopped = true;
-    this.wasAway = true;
     this.cable.close();
     this.hears.says(`the recording of ${this.game.name} is stopped`);
     this.hears.changed();

@@ -5,6 +5,7 @@ import { joined } from '../device/protocol.js';
 import { meaning, readAnswer, refuse, whoseMove } from '../game/answers.js';
 import { BOTH, resultOf, whyPlayed, wordsOfForfeit } from '../game/forfeits.js';
 import { shortOfLook } from '../game/looks.js';
+import { shortOf } from '../game/report.js';
 import { Asked, HELP, Refused, readWords, refusal } from '../game/typed.js';
 import { isStillShown, question, reached, readBack, refuseBack, refuseNothing, settled, wordsOfBack } from '../game/way_back.js';
 import { DISK_FULL } from './state.js';
@@ -29,7 +30,7 @@ export class Typing {
     this.recorder = recorder;
     this.last = Promise.resolve();
     this.answered = Promise.resolve(); // ends when all lines typed so far are answered
-    this.asked = ''; // the last question before many plies would go
+    this.asked = ''; // the last question, which the same line answers if it is typed again
   }
 
   /** Does this work while all that comes waits: none of it is taken or shown meanwhile. */
@@ -135,8 +136,23 @@ export class Typing {
 
   /** Moves or a result, as the program reads the line; or the result of a game that isn't played. */
   async add(text, isForfeit = false) {
-    const { recorder } = this;
+    return this.asking((asked) => this.addUnless(asked, text, isForfeit));
+  }
+
+  /** Does what has to be typed again after a question; it gets the last one. */
+  async asking(does) {
+    const { asked } = this;
     this.asked = '';
+    try {
+      return await does(asked);
+    } catch (error) {
+      if (error instanceof Asked) this.asked = error.message;
+      throw error;
+    }
+  }
+
+  async addUnless(asked, text, isForfeit) {
+    const { recorder } = this;
     const decide = ({ capture, size, end }) =>
       recorder.calls.add(recorder.options, capture.bytes(end === null ? size : end), text);
     const done = await this.decided(decide, async (answer) => {
@@ -146,7 +162,8 @@ export class Typing {
       if (said.kind === 'reopen') return REOPENS;
       const played = plies.map(({ san }) => san);
       if (!put) throw refuse(said, text, whoseMove(recorder.options.fen, played, text, Number(said.words[0])));
-      if (said.kind === 'result' && !isForfeit) recorder.refuseAtBegin(said.words[0]);
+      const asks = said.kind === 'result' && !isForfeit ? recorder.askWhichGame(said.words[0]) : '';
+      if (asks && asks !== asked) throw new Asked(asks);
       if (recorder.isOver) {
         const { end } = recorder.game;
         const bytes = recorder.capture.bytes();
@@ -159,7 +176,7 @@ export class Typing {
         await recorder.add(put);
       }
       const gone = said.kind === 'moves' && result !== '*' ? `; the result ${result} is gone: add it again` : '';
-      return `added by hand: ${meaning(said, text)}${gone}`;
+      return `added by hand: ${meaning(said, text, plies.map(shortOf))}${gone}`;
     });
     return done === REOPENS ? this.takeOff('*') : done;
   }
@@ -167,17 +184,13 @@ export class Typing {
   /** Takes plies off as far as `to` says, or with `*` a result. */
   async takeOff(to) {
     const { recorder } = this;
-    const { asked } = this;
-    this.asked = '';
-    if (to === '*' && recorder.forfeit === BOTH) return PLAYED_AFTER_ALL; // the forfeit goes with whatever else is typed
+    if (to === '*' && recorder.forfeit === BOTH) {
+      this.asked = '';
+      return PLAYED_AFTER_ALL; // the forfeit goes with whatever else is typed
+    }
     const decide = ({ capture, size, end }) =>
       recorder.calls.back(recorder.options, capture.bytes(recorder.isAltered ? end : size), this.plyOf(to));
-    try {
-      return await this.decided(decide, (answer) => this.goBack(readBack(answer), to, asked));
-    } catch (error) {
-      if (error instanceof Asked) this.asked = error.message;
-      throw error;
-    }
+    return this.asking((asked) => this.decided(decide, (answer) => this.goBack(readBack(answer), to, asked)));
   }
 
   /** How far the program is to go back. In a game that is over moves may have been made since, and they aren't meant. */

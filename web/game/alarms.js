@@ -1,69 +1,92 @@
-// The alarms of a game until they are acknowledged, from the program's report. Pure; the caller keeps `looks`.
+// The alarms of a game until somebody has looked. The program raises them; here are their sentences. Pure; the caller keeps `looks`.
 
-import { Doubts } from './doubts.js';
-import { Looks } from './looks.js';
+import { AFTER, AT, SINCE, SUSPECT } from './attended.js';
+import { Looks, lookAt } from './looks.js';
 import { shortOf } from './report.js';
-import { StoppedClock, hasRun, runs } from './stopped_clock.js';
+
+const WHY = {
+  LATE: 'it corrects a move late, so moves may be missing: compare with the score sheets',
+  ELSEWHERE: 'pieces of the other side were on other squares before it, so moves may be missing: compare with the score sheets',
+  'BOTH-ELSEWHERE': 'pieces of both sides were on other squares, so moves may be missing: compare with the score sheets',
+  'AFTER-GAP': "the board wasn't heard for a time, so moves may be missing: compare with the score sheets",
+  'TAKEN-BACK': 'both players went straight back: if they took their moves back, take them off here too',
+  UNPRESSED: 'six moves were made and nobody pressed the clock: if the game is over, take them off here',
+  'OTHER-TIME': "players think while the other side's time runs: the clock may lie the other way round",
+};
+const UNKNOWN = 'moves may be missing: compare with the score sheets'; // for another word
+const CABLE = 'at the cable';
 
 /** The message about what was acknowledged. */
 export function acknowledged(seen) {
   return seen ? `acknowledged: ${seen}` : 'there is no LOOK here';
 }
 
-/** Says for each report about a game whether somebody must look at it. */
+/** What a game with these plies has reached with so many of them. */
+function nameOf(count, plies) {
+  if (count === 0) return 'the start';
+  return count <= plies.length ? shortOf(plies[count - 1]) : `ply ${count}`;
+}
+
+/** The message about a cable that may have been exchanged with those of the boards with these numbers. */
+export function toldOfExchange(others) {
+  const names = [...others].sort((one, other) => one - other);
+  const last = names.pop();
+  const which = names.length > 0 ? `boards ${names.join(', ')} and ${last}, which stand` : `board ${last}, which stands`;
+  const why = `it was away together with ${which} alike, and no serial number tells them apart`;
+  return lookAt(CABLE, `${why}: see that each board is on its own cable`, CABLE);
+}
+
+/** An alarm of the program, in a game with these plies. A later one about the same place replaces it. */
+export function lookOf({ where, plies: count, why, moves }, plies) {
+  if (where === SUSPECT) return toldOfExchange([count]);
+  const what = `${where} ${nameOf(count, plies)}`;
+  const them = moves === 1 ? 'it' : 'them';
+  const tried = `if the players only tried ${them}, take ${them} off here`;
+  const made = `${moves === 1 ? 'a move was' : `${moves} moves were`} made while the clock was stopped: ${tried}`;
+  return lookAt(what, where === SINCE ? made : WHY[why] || UNKNOWN, `${where} ${count}`);
+}
+
+/** The byte with which an alarm came, by those that settled the plies; the one behind the ply if it came later. */
+function byteOf({ where, plies: count }, settledAt) {
+  if (where === SINCE) return settledAt[count] || 0;
+  const settled = settledAt[count - 1] || 0;
+  return where === AFTER ? settled + 1 : where === AT ? settled : 0;
+}
+
+const same = (one, other) => one.what === other.what && one.why === other.why;
+
+/** The alarms of a game that nobody has acknowledged yet. */
 export class Alarms {
-  constructor(course, open = []) {
-    const { fens, plies, movedAt } = course;
-    const last = plies.length > 0 ? plies[plies.length - 1] : null;
-    this.doubts = Doubts.goingOn(fens, last, movedAt, course.board);
-    this.clock = new StoppedClock(hasRun(plies), last ? shortOf(last) : '');
-    this.times = []; // time messages that say whether the clock runs: { size, now, data }
+  constructor(open = []) {
     this.looks = new Looks(open);
-    this.since = new Map(); // the byte at which each newly reported alarm came
+    this.since = new Map(); // the byte with which each alarm of the program came
+    this.suspected = []; // the boards with which the game's cable may have been exchanged
   }
 
-  /** The board wasn't heard for this long, and is heard again; or it was the recorder that was away. */
-  away(seconds, isRestart) {
-    this.doubts.away(seconds, isRestart);
-    this.times = [];
-    this.clock.gone();
+  has(look) {
+    return this.looks.open.some((one) => same(one, look));
   }
 
-  /** Plies were taken off, or the game goes on, while the board shows this. */
-  putBack(shown) {
-    this.doubts.putBack(shown);
-  }
-
-  /** The board's first dump since then is reported in full. Returns an alarm, if any. */
-  stands(now) {
-    return this.add(this.doubts.stands(now));
-  }
-
-  /**
-   * A time message has come, with these seven bytes, when the capture had this size. A move that came before it may be
-   * reported later.
-   */
-  time(now, data, size) {
-    const last = this.times[this.times.length - 1];
-    if (!last || runs(last.data) !== runs(data)) this.times.push({ size, now, data });
-  }
-
-  /** The next line of the game. Returns an alarm, if any; none for what was added by hand. */
-  take(now, { offset, event }, byHand) {
-    while (this.times.length > 0 && this.times[0].size <= offset) {
-      const { now: cameAt, data } = this.times.shift();
-      this.clock.time(cameAt, data);
+  /** The program has raised these in the game with this course. Returns the alarms that are new. */
+  raise(raised, { plies, settledAt }) {
+    const before = this.looks.open;
+    this.suspect(raised.filter(({ where }) => where === SUSPECT).map(({ plies: number }) => number));
+    for (const one of raised) {
+      const look = one.where === SUSPECT ? toldOfExchange(this.suspected) : lookOf(one, plies);
+      if (!this.has(look)) this.since.set(look.what, byteOf(one, settledAt));
+      this.add(look);
     }
-    let look = this.doubts.take(now, event);
-    if (event.kind === 'move' && byHand) this.clock.added(event);
-    else if (event.kind === 'move') look = this.clock.moved(now, event) || look;
-    if (look) this.since.set(look.what, offset);
-    return byHand ? null : this.add(look);
+    return this.looks.open.filter((look) => !before.some((one) => same(one, look)));
   }
 
-  /** Adds an alarm, if any. Returns it if it is new. */
+  /** The cable may have been exchanged with those of these boards. The program says so soon. */
+  suspect(others) {
+    this.suspected.push(...others.filter((other) => !this.suspected.includes(other)));
+  }
+
+  /** Adds an alarm. Returns it if it is new. */
   add(look) {
-    if (!look || this.looks.open.some((one) => JSON.stringify(one) === JSON.stringify(look))) return null;
+    if (this.has(look)) return null;
     this.looks = this.looks.withOneMore(look);
     return look;
   }
@@ -76,8 +99,8 @@ export class Alarms {
   /** Acknowledges the alarms. Returns what they were about. */
   acknowledge() {
     const seen = this.looks.all;
+    this.suspected = [];
     this.looks = new Looks();
-    this.clock.acknowledged();
     return seen;
   }
 }

@@ -34,9 +34,15 @@ export function readAnswer(command, { status, errors, output }) {
   throw new ProgramError(`${command} ended with status ${status}: ${said}`);
 }
 
-/** What is added, in words. */
-export function meaning({ kind, words }, line) {
-  return kind === 'result' ? `the result ${words[0]}` : line.trim().split(/\s+/u).join(' ');
+/** What is added, in words; of a result also what it ends, a game with these plies, as `14... Qd7`. */
+export function meaning({ kind, words }, line, plies) {
+  return kind === 'result' ? `the result ${words[0]} ${whatEnds(plies)}` : line.trim().split(/\s+/u).join(' ');
+}
+
+/** Where a result ends a game with these plies. */
+function whatEnds(plies) {
+  if (plies.length === 0) return 'before the first move';
+  return `after ${plies[plies.length - 1]}, ${plies.length} ${plies.length === 1 ? 'ply' : 'plies'}`;
 }
 
 /** Why a line adds nothing. `place` says who is to move, where a move isn't legal. */

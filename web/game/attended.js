@@ -3,7 +3,12 @@
 
 const NEWLINE = 0x0a;
 const ALARMED = ['TURNED-ROUND', 'OTHER-BOARD'];
+const ENDS = ['over', 'played', 'begins'];
 export const [KEEP, HOLD, OTHER] = ['keep', 'hold', 'other'];
+export const [KEPT, NUMBER, LENT, WAKE, TEXT] = ['kept', 'number', 'lent', 'wake', 'text'];
+export const [AT, AFTER, SINCE, SUSPECT] = ['at', 'after', 'since', 'SUSPECT']; // where somebody must look
+
+const RAISED = new RegExp(`^(?:(${SUSPECT}) ([0-9]+)|(${AT}|${AFTER}|${SINCE}) ([0-9]+) ([A-Z-]+)(?: ([0-9]+))?)$`);
 
 /** A line that stands in no answer. */
 export class NoAnswer extends Error {}
@@ -19,9 +24,10 @@ export function entryOf(at, word, given = null) {
   return entry;
 }
 
-/** The answer before any line of it is read. */
+/** The answer before any line of it is read. `game` is the PGN, as bytes, if it was asked for. */
 function noAnswer() {
-  return { kept: new Uint8Array(0), report: [], handling: '', other: '', number: '', asks: '', isFull: false, state: null, due: null };
+  const none = { handling: '', other: '', number: '', asks: '', isFull: false, state: null, due: null };
+  return { kept: new Uint8Array(0), game: null, report: [], looks: [], ...none };
 }
 
 const spanOf = (word) => (word === '-' ? null : Number(word));
@@ -32,11 +38,23 @@ function stateOf([kind, lasted, ...rest]) {
   return { kind, lasted: spanOf(lasted), squares: rest, hint };
 }
 
+/**
+ * What somebody must look at, as `at 27 LATE`, `since 24 STOPPED 3` or `SUSPECT 3` says it: { where, plies, why, moves }. `plies` is
+ * how many the game has there, or the number of a suspicion; `moves` is 0 where none are counted.
+ */
+function readLook(text) {
+  const [, suspect, number, where, plies, why, moves] = RAISED.exec(text) || [];
+  if (suspect) return { where: suspect, plies: Number(number), why: suspect, moves: 0 };
+  if (!where) throw new NoAnswer(`live wrote: look ${text.slice(0, 60)}`);
+  return { where, plies: Number(plies), why, moves: Number(moves || 0) };
+}
+
 /** Takes what `live` writes, and gives its answers. */
 export class Answers {
   constructor() {
     this.line = []; // parts of the line that has begun
-    this.lacks = 0; // bytes that `kept` has told, and that are still to come
+    this.filled = new Uint8Array(0); // what `kept` or `game` has told
+    this.lacks = 0; // bytes of it that are still to come
     this.answer = noAnswer();
   }
 
@@ -47,7 +65,7 @@ export class Answers {
     while (at < bytes.length) {
       if (this.lacks > 0) {
         const part = bytes.subarray(at, at + this.lacks);
-        this.answer.kept.set(part, this.answer.kept.length - this.lacks);
+        this.filled.set(part, this.filled.length - this.lacks);
         this.lacks -= part.length;
         at += part.length;
         continue;
@@ -72,20 +90,25 @@ export class Answers {
     const [word, ...rest] = line.split(' ');
     if (/^[0-9]+$/.test(word)) {
       answer.report.push(line);
-    } else if (word === 'kept') {
+    } else if (word === KEPT || word === 'game') {
       this.lacks = Number(rest[0]);
-      answer.kept = new Uint8Array(this.lacks);
+      this.filled = new Uint8Array(this.lacks);
+      answer[word] = this.filled;
     } else if (word === KEEP || word === HOLD || word === OTHER) {
       answer.handling = word;
       answer.other = rest.join(' ');
-    } else if (word === 'number') {
+    } else if (word === NUMBER) {
       [answer.number] = rest;
     } else if (word === 'ask') {
       [answer.asks] = rest;
     } else if (word === 'full') {
       answer.isFull = true;
+    } else if (word === 'look') {
+      answer.looks.push(readLook(rest.join(' ')));
     } else if (word === 'state') {
       answer.state = stateOf(rest);
+    } else if (ENDS.includes(word)) {
+      // How the game ends: nothing uses it yet.
     } else if (word === 'done') {
       answer.due = spanOf(rest[0]);
       return true;

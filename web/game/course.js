@@ -1,7 +1,6 @@
 // The course of a game, as the program reports it. Pure: lines and times are passed in.
 
 import { same } from '../device/protocol.js';
-import { PACE_OF } from './doubts.js';
 import { Lines, StartAgain } from './ending.js';
 import { codesOf } from './report.js';
 
@@ -25,7 +24,6 @@ export class Course {
     this.hasAgreed = false; // whether the board has shown the game's position
     this.standsAgain = false; // whether the last picture brought the start back
     this.stoodAgain = false; // whether any picture has, since there are moves
-    this.movedAt = []; // when the last moves came
     this.news = []; // the reported lines of the game: its changes, and the pairs before them
     this.kept = new Lines();
     this.startAgain = new StartAgain(start);
@@ -48,7 +46,6 @@ export class Course {
     } else if (STANDING.includes(event.kind)) {
       this.kept.take({ offset, at, event });
       this.hasAgreed = this.hasAgreed || event.kind === 'agrees';
-      if (event.kind === 'move' && !event.corrects) this.movedAt = [...this.movedAt, at].slice(-PACE_OF - 1);
       if (event.kind === 'move' || event.kind === 'result') {
         this.takeChange(event, offset);
         this.changedAt = offset;
@@ -69,11 +66,6 @@ export class Course {
     }
     this.plies.push(change);
     this.settledAt.push(offset);
-  }
-
-  /** What the board shows, if known. */
-  get board() {
-    return this.placement ? codesOf(this.placement) : null;
   }
 
   /** The game's position. */

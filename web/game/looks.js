@@ -35,6 +35,11 @@ export class Looks {
     return new Looks(this.open.filter((look) => !isAbout(look)));
   }
 
+  /** As alarms of the game before: what they are about isn't in this game. */
+  get carried() {
+    return this.open.map(({ what, why }) => lookAt(what, why));
+  }
+
   /** The first one in a few words, and how many more there are; empty if there is none. */
   get short() {
     if (this.open.length === 0) return '';

@@ -32,10 +32,19 @@ export function ofTyping(options) {
   return [...ofBoard(options), ...(options.recover ? ['--recover'] : [])];
 }
 
+/** The options of the tags that are recorded. */
+function ofTags(options) {
+  return valued({ ...options, date: options.date || options.began }, TAGS);
+}
+
 /** The options that `record` has. */
 export function ofRecord(options) {
-  const dated = { ...options, date: options.date || options.began };
-  return [...ofBoard(options), ...valued(dated, TAGS)];
+  return [...ofBoard(options), ...ofTags(options)];
+}
+
+/** The options that `live` has. */
+export function ofLive(options) {
+  return [...ofTyping(options), ...ofTags(options)];
 }
 
 /** The start position's placement. */

@@ -2,7 +2,7 @@
 
 import { suspends } from '../../hosts/process.mjs';
 import { entryOf } from './attended.js';
-import { ofBoard, ofTyping } from './options.js';
+import { ofBoard, ofLive, ofTyping } from './options.js';
 
 /** The program can't be run, or has ended as it shouldn't. */
 export class ProgramError extends Error {}
@@ -87,7 +87,7 @@ export class Program {
   attend(options) {
     this.attended += 1;
     const key = this.attended;
-    const begun = this.call('attend', { key, words: ofTyping(options) });
+    const begun = this.call('attend', { key, words: ofLive(options) });
     begun.catch(() => {}); // what is told then fails too, and says why
     return key;
   }

@@ -25,6 +25,11 @@ export async function gameOf(program, options, sent) {
 /** The PGN of these bytes, as it is published; of a game that was forfeited so, if it has no move. */
 export async function textOf(program, options, sent, forfeit = '') {
   const whole = await program.whole(options, sent);
-  const recorded = new TextDecoder().decode(await program.output(['record', ...ofRecord(options)], whole));
+  return publishedOf(await program.output(['record', ...ofRecord(options)], whole), options, forfeit);
+}
+
+/** The published text of a game with this PGN, as bytes. */
+export function publishedOf(pgn, options, forfeit) {
+  const recorded = new TextDecoder().decode(pgn);
   return published(recorded, options.tags, tagsOfForfeit(forfeitOf(forfeit, recorded)));
 }

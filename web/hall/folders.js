@@ -134,7 +134,7 @@ export class Folders {
         const earlier = await this.nameFiles(seat, folder);
         await this.lastBefore;
         const [name, text, times] = [`${seat.name}.pgn`, seat.pgn, seat.times()];
-        folder.put(`${seat.name}.dgt`, seat.bytes());
+        folder.put(`${seat.name}.dgt`, seat.front());
         await this.soonKept(seat.recorder.keepTexts([...folder.textsOf(name), text]));
         folder.put(name, text);
         await seat.recorder.times.write(); // so that the folder never has lines that the browser lacks

@@ -9,6 +9,7 @@ import { fileName, freeName, nameOfPlayers } from '../kept/file_names.js';
 import { Loop } from '../loop.js';
 import { save } from '../page/saving.js';
 import { Devices } from './devices.js';
+import { Exchanges } from './exchanged.js';
 import { Folders } from './folders.js';
 import { Log } from './log.js';
 import { Ports } from './ports.js';
@@ -51,6 +52,7 @@ export class Hall {
       unclear: (port, heard) => this.devices.came(port, heard),
     });
     this.devices = new Devices(this);
+    this.exchanges = new Exchanges(this.loop, () => this.recorded());
     this.rounds = new Rounds(this);
   }
 
@@ -212,6 +214,7 @@ export class Hall {
       nextName: (name) => this.nextName(name),
       seatOf: (number, asks) => this.seatOf(number, asks),
       numbered: (one, number) => this.devices.numbered(one, number),
+      cameBack: (one) => this.exchanges.back(one),
     });
     this.seats.set(board.id, seat);
     await seat.begin().catch((error) => seat.broke(error));

@@ -3,13 +3,12 @@
 
 import { Attendant } from '../board/attendant.js';
 import { Connection } from '../device/connection.js';
-import { Frames, endedIn } from '../device/protocol.js';
+import { KEEP, NUMBER, OTHER, WAKE } from '../game/attended.js';
 import { BEGIN, HEARD, OPENED } from '../game/times.js';
 import { optionsOf } from '../game/options.js';
 import { Guard } from '../guard.js';
 
-const DUMPS = 2; // complete dumps without a number: a board sends its number before it shows its pieces
-const NOBODY = new TextEncoder().encode('-----'); // no board's number: while it is awaited, a lost number is asked for again
+const NOBODY = new TextEncoder().encode('-----'); // no board's number: each one that comes is another board's
 const AGAIN = 2.0; // seconds between two looks for boards that are awaited
 
 /** Whether the device on a port is of this kind. */
@@ -127,34 +126,31 @@ export class Ports {
     return new Promise((done, failed) => {
       const guard = new Guard(this.loop, failed);
       const came = [];
-      const frames = new Frames();
-      let dumps = 0;
       let attendant = null;
       const end = (answer) => {
         if (attendant) attendant.leave();
         done(answer);
       };
-      const decide = (number) => end({ connection, came, number, isSilent: dumps === 0 && !number });
+      const decide = (number, isSilent = false) => end({ connection, came, number, isSilent });
       const connection = new Connection(guard, port, {
         heard: (bytes) => {
           came.push(bytes);
-          const ended = endedIn(frames, bytes);
-          dumps += ended.dumps;
-          if (ended.serial || dumps >= DUMPS) decide(ended.serial);
-          else if (attendant) attendant.tell(HEARD, bytes);
+          if (attendant) attendant.tell(HEARD, bytes);
         },
         lost: () => end(null),
       });
       guard.opened(() => connection.close());
-      const answered = (entry, { asks, state }) => {
+      const answered = ({ word }, { asks, handling, other, state }) => {
         if (asks) connection.write(new TextEncoder().encode(asks));
-        if (state && state.kind === 'SILENT') decide('');
+        if (handling === OTHER) decide(other);
+        else if (state && state.kind === 'SILENT') decide('', true);
+        else if (handling === KEEP && word === HEARD) decide(''); // it gives no number
       };
       const begin = () => {
-        attendant = new Attendant(this.program, guard, optionsOf(), { told: () => {}, answered, wake: () => attendant.tell('wake') });
+        attendant = new Attendant(this.program, guard, optionsOf(), { told: () => {}, answered, wake: () => attendant.tell(WAKE) });
         guard.opened(() => attendant.leave());
         attendant.send(BEGIN, 0);
-        attendant.send('number', NOBODY);
+        attendant.send(NUMBER, NOBODY);
         attendant.tell(OPENED);
       };
       // Another program may have it, or a tab that is just being closed.

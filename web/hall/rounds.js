@@ -12,6 +12,7 @@ export class Rounds {
   constructor(hall) {
     this.hall = hall;
     this.asked = ''; // the last question about games with the same names
+    this.isKeeping = false; // whether its answer is being kept: until then the question stays
   }
 
   // What all boards share.
@@ -127,6 +128,7 @@ export class Rounds {
 
   /** Asks about games with the names and the round of an earlier one. */
   look() {
+    if (this.isKeeping) return;
     const games = this.repeated();
     const nameOf = ({ board, options }) => `board ${board}, ${nameOfPlayers(written(options, 'White'), written(options, 'Black'))}`;
     const more = games.length > MOST_NAMED ? `; and ${games.length - MOST_NAMED} more` : '';
@@ -146,13 +148,21 @@ export class Rounds {
   /** Somebody says that these games are right as they are. */
   async isRight(games) {
     const again = (id) => games.some((game) => game.id === id);
-    for (const seat of this.seats()) {
-      if (again(seat.game.id)) await seat.edit({ isAgain: true });
-      for (const game of seat.finished.filter(({ id }) => again(id))) {
-        game.isAgain = true;
-        const { pgn, bytes, times, ...kept } = game;
-        await this.hall.database.putGame(kept);
+    this.isKeeping = true;
+    try {
+      for (const seat of this.seats()) {
+        if (again(seat.game.id)) {
+          await seat.edit({ isAgain: true });
+          await seat.recorder.keeping;
+        }
+        for (const game of seat.finished.filter(({ id }) => again(id))) {
+          game.isAgain = true;
+          const { pgn, bytes, times, ...kept } = game;
+          await this.hall.database.putGame(kept);
+        }
       }
+    } finally {
+      this.isKeeping = false;
     }
     this.look();
   }

@@ -8,6 +8,7 @@ import { dayOf } from '../game/names.js';
 import { forfeitOf, isUnplayed, wordsOfForfeit } from '../game/forfeits.js';
 import { optionsOf } from '../game/options.js';
 import { newCourse, textOf } from '../game/reading.js';
+import { Front } from '../kept/capture.js';
 import { textOf as textOfTimes } from '../kept/times.js';
 import { Guard } from '../guard.js';
 import { unended } from './results.js';
@@ -117,6 +118,17 @@ export class Seat {
     return this.recorder !== null && (!this.recorder.cable.isOpen || this.isSilent);
   }
 
+  /** When its board was away last, and what tells it from others; null if it wasn't, or its game has no move or is over. */
+  get returned() {
+    const { gap, course } = this.recorder;
+    return gap && this.hasMoves && !this.isOver ? { ...gap, number: this.serial, placement: course.placement } : null;
+  }
+
+  /** Its cable may have been exchanged with those of the boards with these numbers. */
+  suspect(others) {
+    this.guard.call(() => this.recorder.suspect(others));
+  }
+
   get serial() {
     return this.recorder ? this.recorder.cable.number : '';
   }
@@ -196,6 +208,11 @@ export class Seat {
 
   bytes() {
     return this.recorder.capture.bytes();
+  }
+
+  /** The same, as a file gets it. */
+  front() {
+    return new Front(this.recorder.capture);
   }
 
   /** When they came, and what else happened: the lines of NAME.times. */
@@ -291,6 +308,10 @@ export class Seat {
 
   numbered(number) {
     this.hears.numbered(this, number);
+  }
+
+  cameBack() {
+    this.hears.cameBack(this);
   }
 
   owner(number) {

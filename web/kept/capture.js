@@ -34,6 +34,24 @@ class Times {
   }
 }
 
+/** What a capture has by now. It only grows, so these bytes stay what they are. */
+export class Front {
+  constructor(capture) {
+    this.capture = capture;
+    this.length = capture.size;
+  }
+
+  /** Its bytes from an offset on. */
+  bytes(from = 0) {
+    return this.capture.content.slice(from, this.length);
+  }
+
+  /** Whether it begins with this. */
+  goesOn(before) {
+    return before instanceof Front && before.capture === this.capture && before.length <= this.length;
+  }
+}
+
 export class Capture {
   constructor(database, game, chunks) {
     this.database = database;
@@ -72,12 +90,6 @@ export class Capture {
   /** All that came, or this many bytes. */
   bytes(end = this.size) {
     return this.content.slice(0, Math.min(end, this.size));
-  }
-
-  /** When its last byte came; null if there is none. */
-  get lastAt() {
-    const { marks } = this.times;
-    return marks.length > 0 ? marks[marks.length - 1][1] : null;
   }
 
   /** The board has sent this, or somebody has added it. */

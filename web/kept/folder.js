@@ -1,11 +1,15 @@
 // The folder that somebody has chosen. Each file is written as another one, and moved to its place when it is whole.
 
 import { isEarlier as areEarlierTimes } from '../game/times.js';
+import { Front } from './capture.js';
 import { editedName, isEarlier } from './edited.js';
 import { otherName } from './file_names.js';
 import { nextFile, renamedAgain } from './order.js';
 
 const AGAIN = 5.0; // seconds until a file that couldn't be written is tried again
+
+/** How a file was left: whoever writes it changes that. */
+const stampOf = ({ size, lastModified }) => `${size} ${lastModified}`;
 
 export class Folder {
   /** `hears` gets trouble(text) with what can't be written, empty once all is; and says(text). */
@@ -14,6 +18,7 @@ export class Folder {
     this.handle = handle;
     this.hears = hears;
     this.written = new Map(); // the last content of each file
+    this.left = new Map(); // how this page has left each file that may be gone on with
     this.waiting = new Map(); // the newest content of each file
     this.writing = null; // { name, content } of the file that is being written
     this.renamed = new Map(); // the new names of games whose files under an earlier one are to be removed
@@ -37,7 +42,7 @@ export class Folder {
     }
   }
 
-  /** Writes this to the file, now or soon. */
+  /** Writes this to the file, now or soon: a text, bytes, or a `Front`; null removes the file. */
   put(name, content) {
     this.waiting.set(name, content);
     this.write();
@@ -101,15 +106,26 @@ export class Folder {
     if (name.endsWith('.dgt')) await this.keepLonger(name, content);
     if (name.endsWith('.times')) await this.keepOther(name, content);
     const file = await this.handle.getFileHandle(name, { create: true });
-    const stream = await file.createWritable(); // another file, which replaces this one when it is closed
+    const from = await this.hasFront(name, content, file);
+    const stream = await file.createWritable({ keepExistingData: from > 0 }); // another file, which replaces this one when it is closed
     try {
-      await stream.write(content);
+      await stream.write(content instanceof Front ? { type: 'write', position: from, data: content.bytes(from) } : content);
     } catch (error) {
       await stream.abort().catch(() => {});
       throw error;
     }
+    this.left.delete(name);
     await stream.close();
     this.written.set(name, content);
+    const left = content instanceof Front ? await file.getFile().catch(() => null) : null;
+    if (left && left.size === content.length) this.left.set(name, stampOf(left));
+  }
+
+  /** How many bytes a file has already of what it is to have: those that this page has left there. */
+  async hasFront(name, content, file) {
+    const before = this.written.get(name);
+    if (!(content instanceof Front) || !content.goesOn(before)) return 0;
+    return this.left.get(name) === stampOf(await file.getFile()) ? before.length : 0;
   }
 
   /** Keeps a text that somebody has edited by hand under another name, before a new one replaces it. */

@@ -1,13 +1,13 @@
 // A capture that was made anew, in chunks with the times at which they may have come: one dump a second, the last one
 // now. And one that is put together of two. Pure.
 
-import { DUMP_ID, SIZES, joined, same } from '../device/protocol.js';
+import { DUMP_ID, DUMP_SIZE, joined, same } from '../device/protocol.js';
 
 /** Chunks as the database keeps them: [{ number, at, bytes }]. */
 export function spread(content, now) {
   const starts = [0];
   for (let at = 1; at + 2 < content.length; at += 1) {
-    if (content[at] === DUMP_ID && content[at + 1] === 0 && content[at + 2] === SIZES[DUMP_ID]) starts.push(at);
+    if (content[at] === DUMP_ID && content[at + 1] === 0 && content[at + 2] === DUMP_SIZE) starts.push(at);
   }
   return starts.map((start, number) => {
     const bytes = content.slice(start, number + 1 < starts.length ? starts[number + 1] : content.length);

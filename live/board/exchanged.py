@@ -1,0 +1,50 @@
+"""Two boards whose cables may have been exchanged, though no square shows it and no serial number. Pure: times are passed in."""
+
+from __future__ import annotations
+
+from dataclasses import dataclass
+from typing import Sequence
+
+from live.board.whose import WHERE
+from live.device.protocol import differing, picture_of_placement
+from live.game.looks import Look
+
+TOGETHER = 60.0  # seconds between two cables that somebody may have exchanged
+APART = 2  # squares on which two boards that stand alike differ at most: a move was just made, or a piece is in a hand
+
+
+@dataclass(frozen=True)
+class Return:
+    """A board was unplugged or silent: when it was heard last before that, and when it was heard again."""
+
+    heard_at: float
+    came_at: float
+
+
+@dataclass(frozen=True)
+class Returned:
+    """A board that was away: when; its serial number, empty if it has none; and what it shows now."""
+
+    back: Return
+    number: str
+    placement: str
+
+
+def may_be_exchanged(one: Returned, other: Returned) -> bool:
+    """Whether two boards went within a minute, both were away at a time, nothing tells them apart, and both stand alike."""
+    went = abs(one.back.heard_at - other.back.heard_at) <= TOGETHER
+    met = one.back.heard_at <= other.back.came_at and other.back.heard_at <= one.back.came_at
+    return went and met and one.number == other.number and stand_alike(one.placement, other.placement)
+
+
+def stand_alike(one: str, other: str) -> bool:
+    """Whether two boards show the same, or almost, if it is known what both show."""
+    return bool(one and other) and len(differing(picture_of_placement(one), picture_of_placement(other))) <= APART
+
+
+def told_of_exchange(others: Sequence[int]) -> Look:
+    """The message at one of them; the others are the boards with these numbers."""
+    names = [str(number) for number in sorted(others)]
+    which = f"boards {', '.join(names[:-1])} and {names[-1]}, which stand" if len(names) > 1 else f"board {names[0]}, which stands"
+    why = f"it was away together with {which} alike, and no serial number tells them apart"
+    return Look(WHERE, f"{why}: see that each board is on its own cable", WHERE)
