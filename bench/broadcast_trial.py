@@ -40,6 +40,7 @@ from emulated.table import Game, games  # noqa: E402
 from live_boards import free_port  # noqa: E402
 from play_board import EMPTY, INITIAL  # noqa: E402
 from played.boards import Board, Cables  # noqa: E402
+from played.hidden import hidden_shots  # noqa: E402
 from played.recorder import Live  # noqa: E402
 from played.stage import Stage, bytes_of, ended, until, until_line  # noqa: E402
 from rounds.hall import games_of, plain  # noqa: E402
@@ -329,8 +330,8 @@ class Trial:
         name = self.cup / f"round{number}" / f"{board:02}.delayed"
 
         def kept() -> bool:
-            last = entry_of(bytes_of(name))
-            return last is not None and last == (len(game.made), game.result)
+            shots = hidden_shots(name, name.parent)
+            return bool(shots) and (len(shots[-1].moves), shots[-1].result) == (len(game.made), game.result)
 
         until(kept, f"{len(game.made)} plies and {game.result} of board {number}.{board} in {name}", 0.01)
 
@@ -393,15 +394,6 @@ def show(board: Board, picture: Tuple[int, ...]) -> None:
 def mate_of(game: Played) -> str:
     """The result, where the last move gives mate: that one is never typed."""
     return ("0-1", "1-0")[len(game.sans) % 2] if game.sans[-1].endswith("#") else ""
-
-
-def entry_of(content: bytes) -> Optional[Tuple[int, str]]:
-    """How many plies the last entry of a NAME.delayed has, and which result."""
-    for line in reversed(content.split(b"\n")[:-1]):
-        values = json.loads(line)
-        if "moves" in values:
-            return values["moves"][0] + len(values["moves"]) - 1, str(values["result"])
-    return None
 
 
 def unpacked(folder: pathlib.Path) -> pathlib.Path:

@@ -1,16 +1,16 @@
 #!/usr/bin/env python3
-"""How often live/game/doubts.py asks somebody to look at a game: where hands are honest, and where plies were hidden.
+"""How often `dgt_replay live` asks somebody to look at a game: where hands are honest, and where plies were hidden.
 
 honest   Games of an engine at six paces. The hands slide pieces, lift a capture's two pieces in either order, castle rook
          first now and then, set a piece down on a wrong square and go on, and straighten pieces of both sides: now and then
          while the other hand moves, and now and then the piece shows on a neighbouring square. Each alarm is a false one.
 endings  King and rook against king and rook, with pieces that go back to where they were. The cable is out for one to six
          plies; or of 100 moves 8 or 20 are begun before the other side's move stands; or 5 of 100 updates are cut off. A game
-         is wrong where a ply was recorded that was not played, or one is missing. `Silent` are those without an alarm of
-         doubts.py that agree with the board at the end, or have a ply that was not played. The others differ from the board
+         is wrong where a ply was recorded that was not played, or one is missing. `Silent` are those without an alarm
+         that agree with the board at the end, or have a ply that was not played. The others differ from the board
          at the end, and are WRONG.
 
-The board sends a dump each second. The lines come from the real program, their times are simulated. No real hands, no real board.
+The board sends a dump each second. The program is the real one, times are simulated. No real hands, no real board.
 doubts.py honest|endings [--moves N] [--games N] [--seed N] [--program PATH] [--show]
 """
 
@@ -24,16 +24,16 @@ import subprocess
 import sys
 from concurrent.futures import ProcessPoolExecutor
 from dataclasses import dataclass, field
-from typing import Any, List, Sequence, Tuple
+from typing import Any, Iterator, List, Sequence, Tuple
 
 import hurried
 import streams
 from hands import EMPTY, PROGRAM, Game, lognormal
 
-from live.game.doubts import Doubts  # noqa: E402  (hands has put its folder on the path)
-from live.game.looks import Look  # noqa: E402
-from live.device.protocol import LETTERS, UPDATE_ID, Picture  # noqa: E402
+from live.device.protocol import LETTERS, UPDATE_ID, Picture  # noqa: E402  (hands has put its folder on the path)
+from live.game.attended import Answers, Doubt, entry  # noqa: E402
 from live.game.report import Agrees, Differs, Move, line_of  # noqa: E402
+from live.game.times import BEGIN, GONE, HEARD, OPENED  # noqa: E402
 from recovering.frames import dump  # noqa: E402
 
 PACES = (0.3, 1.0, 2.0, 5.0, 15.0, 60.0)  # seconds to think, the median
@@ -47,7 +47,6 @@ OVERLAPS = 0.25  # of them are straightened while the other hand moves
 BESIDE = 0.1  # of them show on a neighbouring square
 RESTS = 0.4  # seconds that a hand rests before it begins its next move early
 POLL = 1.0
-TOLD = 0.2  # seconds in which all is told of a dump
 PLIES = 36  # of an ending
 KINDS = {"the cable out": (0, 0), "8 of 100 begun early": (8, 0), "20 of 100": (20, 0), "5 of 100 cut off": (0, 5)}
 ENDING_PACES = (1.0, 2.0, 5.0)
@@ -75,7 +74,7 @@ class Told:
     recorded: Tuple[str, ...]
     agrees: bool  # at the end
     corrections: Tuple[float, ...]  # how many seconds after its move, or its last correction, each came
-    looks: Tuple[Look, ...]
+    looks: Tuple[Doubt, ...]
 
     @property
     def is_wrong(self) -> bool:
@@ -124,11 +123,16 @@ class Players:
 
     def __init__(self, chance: random.Random, pace: float, early: int = 0, is_clumsy: bool = True) -> None:
         self.chance, self.pace, self.early, self.is_clumsy = chance, pace, early, is_clumsy
+        self.spread = SPREAD
         self.changes: List[Change] = []
         self.made_at: List[float] = []
         self._last: List[Change] = [(1.0, 0, EMPTY)]  # the move before
         self._ready = 1.0  # when the mover's own last move was made
         self._straight = 0.0  # until when a piece is straightened
+
+    def wait(self, until: float) -> None:
+        """Nobody moves before that."""
+        self._last, self._ready, self._straight = [(until, 0, EMPTY)], until, until
 
     def play(self, pictures: Sequence[Picture]) -> None:
         for before, after in zip(pictures, pictures[1:]):
@@ -142,7 +146,7 @@ class Players:
         else:
             if self.is_clumsy and chance.random() < STRAIGHTENS * (1 - OVERLAPS):
                 self._straighten(max(stood, self._straight) + chance.uniform(0.05, 0.5), before, set())
-            now = max(stood + lognormal(chance, self.pace, SPREAD), self._straight) + 0.02
+            now = max(stood + lognormal(chance, self.pace, self.spread), self._straight) + 0.02
         made: List[Change] = []
         for number, touch in enumerate(self._touches(before, after)):
             now += touch.gap if number else 0
@@ -192,29 +196,43 @@ def _touch(one: int, other: int) -> bool:
 
 
 def judged(sent: Sent, gaps: Sequence[Gap], played: Sequence[str], words: Sequence[str]) -> Told:
-    """What the program and doubts.py tell of it."""
-    listed = subprocess.run([*words], input=bytes(sent.content), stdout=subprocess.PIPE, check=True).stdout.decode()
-    doubts = Doubts()
-    looks: List[Look] = []
+    """What the program tells of it, which hears each byte when it comes, and when the line is gone."""
+    told = subprocess.run([*words], input=b"".join(entries(sent, gaps)), stdout=subprocess.PIPE, check=True).stdout
+    looks: List[Doubt] = []
     recorded: List[str] = []
     corrections: List[float] = []
-    agrees, moved_at, left = False, 0.0, sorted(gaps, key=lambda gap: gap[1])
-    for line in filter(None, map(line_of, listed.splitlines())):
-        now = sent.times[line.offset]
-        while left and left[0][1] <= now:
-            begin, until = left.pop(0)
-            doubts.away(until - begin)
-            if now > until + TOLD:
-                looks += filter(None, [doubts.stands(until)])
-        look = doubts.take(now, line.event)
-        looks += [look] if look else []
-        if isinstance(line.event, Move):
-            corrections += [now - moved_at] if line.event.corrects else []
-            moved_at = now
-            recorded[len(recorded) - line.event.corrects :] = [line.event.san]
-        if isinstance(line.event, (Move, Agrees, Differs)):
-            agrees = not isinstance(line.event, Differs)
+    agrees, moved_at = False, 0.0
+    for answer in Answers().take(told):
+        looks += answer.doubts
+        for line in filter(None, map(line_of, answer.report)):
+            now = sent.times[line.offset]
+            if isinstance(line.event, Move):
+                corrections += [now - moved_at] if line.event.corrects else []
+                moved_at = now
+                recorded[len(recorded) - line.event.corrects :] = [line.event.san]
+            if isinstance(line.event, (Move, Agrees, Differs)):
+                agrees = not isinstance(line.event, Differs)
     return Told(tuple(played), tuple(recorded), agrees, tuple(corrections), tuple(looks))
+
+
+def happens(sent: Sent, gaps: Sequence[Gap]) -> List[Tuple[float, str, bytes]]:
+    """What happens when, behind the beginning of the call."""
+    came = itertools.groupby(zip(sent.times, sent.content), lambda one: one[0])
+    found = [(begin, GONE, b"") for begin, _ in gaps] + [(until, OPENED, b"") for _, until in gaps]
+    found += [(at, HEARD, bytes(byte for _, byte in of_a_time)) for at, of_a_time in came]
+    return sorted(found, key=lambda one: (one[0], one[1] == HEARD))
+
+
+def entries(sent: Sent, gaps: Sequence[Gap]) -> Iterator[bytes]:
+    """What a host tells of it."""
+    yield entry(0, BEGIN, 0) + entry(0, OPENED)
+    for at, what, heard in happens(sent, gaps):
+        yield entry(int(1000 * at), what, len(heard) if heard else None, heard)
+
+
+def times_of(sent: Sent, gaps: Sequence[Gap]) -> List[float]:
+    """When each of these entries comes."""
+    return [0.0, 0.0, *(at for at, _, _ in happens(sent, gaps))]
 
 
 def honest(arguments: Tuple[str, hurried.Game, float, str]) -> Told:
@@ -222,7 +240,7 @@ def honest(arguments: Tuple[str, hurried.Game, float, str]) -> Told:
     chance = random.Random(f"{seed} {pace}")
     players = Players(chance, pace)
     players.play(game.pictures)
-    return judged(sent_by(game.pictures[0], players.changes, (), chance, 0), (), game.sans, [program, "watch"])
+    return judged(sent_by(game.pictures[0], players.changes, (), chance, 0), (), game.sans, [program, "live"])
 
 
 def rook_ending(chance: random.Random) -> List[Picture]:
@@ -281,7 +299,7 @@ def ended(arguments: Tuple[str, str, float, str]) -> Told:
     chance = random.Random(f"{seed} {kind} {pace}")
     early, cut = KINDS[kind]
     pictures = rook_ending(chance)
-    words = [program, "watch", "--fen", fen(pictures[0])]
+    words = [program, "live", "--fen", fen(pictures[0])]
     whole = Sent()
     for at, picture in enumerate(pictures):
         whole.put(float(at), dump(picture, False))

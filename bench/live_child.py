@@ -2,6 +2,9 @@
 """Compares `live` with `watch` on a game that is played with hands (bench/streams.py), both as children behind pipes: live_child.py
 [RUNS [BYTES]].
 
+A call that begins again is compared too: `live` is told the first 8 MB as a capture of the calls before, with a file of times that has a
+line for each second; `watch` reads them from a pipe. It is to take at most twice as long.
+
 `live` is told 4,096 bytes at a time, as a line that is slow brings them, and what it answers is read up to `done` before it is told more.
 `watch` gets the same bytes in the same chunks, and what it writes is read beside it. The processor time of each child, user and system
 together, process start included: medians of five runs by turns. `live` is to take at most one and a half times what `watch` takes. The
@@ -14,7 +17,7 @@ import subprocess
 import sys
 import threading
 import time
-from typing import Callable, Dict, List, Tuple
+from typing import Callable, Dict, Iterable, List, Tuple
 
 sys.dont_write_bytecode = True
 TOP = pathlib.Path(__file__).resolve().parents[1]
@@ -23,10 +26,13 @@ import streams  # noqa: E402
 from attending.answers import Entry, brings  # noqa: E402
 from attending.host import Host  # noqa: E402
 from given.case import program  # noqa: E402
+from live.game import times  # noqa: E402
 
 CHUNK = 4096  # bytes
 RATE = 960  # bytes a second of a board's line
-GOAL = 1.5
+PIPE = 64 * 1024  # bytes that are written at once
+GOAL, GOAL_AGAIN = 1.5, 2.0
+KEPT = 8_000_000  # bytes of the calls before
 Used = Tuple[float, float]  # milliseconds of the processor, and by the clock
 
 
@@ -54,20 +60,40 @@ def live(parts: List[bytes]) -> float:
     return ended(host.left())
 
 
-def watch(parts: List[bytes]) -> float:
-    """A pipe that gives a chunk for each read: one of packets."""
-    near, far = os.pipe2(os.O_DIRECT | os.O_CLOEXEC)
-    process = subprocess.Popen([program(), "watch"], stdin=near, stdout=subprocess.PIPE)
+def fed(word: str, near: int, far: int, parts: Iterable[bytes]) -> float:
+    """A subcommand that gets these parts through a pipe, while what it writes is read."""
+    process = subprocess.Popen([program(), word], stdin=near, stdout=subprocess.PIPE)
     os.close(near)
     assert process.stdout
     with process.stdout as said:
         reader = threading.Thread(target=lambda: drained(said.fileno()))
         reader.start()
         for part in parts:
-            os.write(far, part)
+            at = 0
+            while at < len(part):
+                at += os.write(far, part[at : at + PIPE])
         os.close(far)
         reader.join()
     return ended(process)
+
+
+def watch(parts: List[bytes]) -> float:
+    """A pipe that gives a chunk for each read: one of packets."""
+    return fed("watch", *os.pipe2(os.O_DIRECT | os.O_CLOEXEC), parts)
+
+
+def again(parts: List[bytes]) -> float:
+    """`live` in a call that begins again."""
+    sent = b"".join(parts)[:KEPT]
+    seconds = [(1000 * at // RATE, "heard", min(RATE, len(sent) - at)) for at in range(0, len(sent), RATE)]
+    file = times.heading(0, sent[:4096]) + times.lines([(0, "begin", 0), *seconds])
+    begins = [brings(0, "kept", file), brings(0, "capture", sent), Entry(0, "begin", len(sent))]
+    return fed("live", *os.pipe(), [entry.text for entry in begins])
+
+
+def read(parts: List[bytes]) -> float:
+    """`watch` of the same bytes."""
+    return fed("watch", *os.pipe(), [b"".join(parts)[:KEPT]])
 
 
 def drained(number: int) -> None:
@@ -83,7 +109,7 @@ def timed(run: Callable[[List[bytes]], float], parts: List[bytes]) -> Used:
 
 def main(runs: int = 5, size: int = streams.SIZE) -> int:
     parts = chunks(streams.hands(False)[:size])
-    commands: Dict[str, Callable[[List[bytes]], float]] = {"live": live, "watch": watch}
+    commands: Dict[str, Callable[[List[bytes]], float]] = {"live": live, "watch": watch, "again": again, "read": read}
     taken: Dict[str, List[Used]] = {name: [] for name in commands}
     load = os.getloadavg()[0]
     for _ in range(runs):
@@ -93,8 +119,9 @@ def main(runs: int = 5, size: int = streams.SIZE) -> int:
     print(f"{len(parts)} chunks, {runs} runs by turns; load {load:.1f} at the beginning, {os.getloadavg()[0]:.1f} at the end")
     for name, (used, clock) in medians.items():
         print(f"{name:<8} {used:8.1f} ms of the processor {clock:10.1f} ms by the clock")
-    ratio = medians["live"][0] / medians["watch"][0]
-    print(f"live beside watch: {ratio:.2f}, at most {GOAL}: {'met' if ratio <= GOAL else 'not met'}")
+    for one, other, goal in (("live", "watch", GOAL), ("again", "read", GOAL_AGAIN)):
+        ratio = medians[one][0] / medians[other][0]
+        print(f"{one} beside {other}: {ratio:.2f}, at most {goal}: {'met' if ratio <= goal else 'not met'}")
     return 0
 
 

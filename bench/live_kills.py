@@ -1,5 +1,6 @@
 #!/usr/bin/env python3
-"""Kills the live recorder's processes, each in turn, at random moments of games on simulated boards, and looks for lost moves.
+"""Kills the live recorder's processes, each in turn, at random moments of games on simulated boards, and looks for lost moves. Behind each
+ply it compares text, alarms and state with what a recorder says that was told the same and never killed.
 
 `bench/live_kills.py [KILLS [AT_ONCE]]`, 1000 kills and 4 games at once where nothing is said, some ten minutes. Each batch of 25
 kills has its own seed, 1000 and up, so that a batch that fails is played again by `bench/live_kills.py --batch SEED`.
@@ -44,7 +45,7 @@ def batch(seed: int) -> int:
         finally:
             for kind, count in sorted(killer.killed.items()):
                 print(f"killed {count} {kind}")
-            print(f"started again {killer.restarts}", flush=True)
+            print(f"started again {killer.restarts}\nalarms {killer.alarms}", flush=True)
             runner.clear()
     return 0
 
@@ -60,7 +61,7 @@ def main() -> int:
     killed: Counter[str] = collections.Counter()
     failed: List[int] = []
     start = time.monotonic()
-    restarts = 0
+    restarts = alarms = 0
     try:
         while seeds or playing:
             while seeds and len(playing) < at_once:
@@ -74,6 +75,7 @@ def main() -> int:
                 for count, kind in re.findall(r"(?m)^killed (\d+) (.*)$", told):
                     killed[kind] += int(count)
                 restarts += sum(map(int, re.findall(r"(?m)^started again (\d+)$", told)))
+                alarms += sum(map(int, re.findall(r"(?m)^alarms (\d+)$", told)))
                 if process.returncode:
                     failed.append(seed)
                     print(f"batch {seed} failed:\n{told}{wrong}", flush=True)
@@ -82,8 +84,9 @@ def main() -> int:
             process.terminate()
     for kind, count in sorted(killed.items()):
         print(f"{count:6} {kind}")
-    print(f"{sum(killed.values())} kills in {time.monotonic() - start:.0f} s, started again {restarts} times")
-    print(f"{len(failed)} batches of {BATCH} lost or added a ply, or didn't go on" + (f": {failed}" if failed else ""))
+    print(f"{sum(killed.values())} kills in {time.monotonic() - start:.0f} s, started again {restarts} times; {alarms} open alarms, counted behind each ply")
+    why = "lost or added a ply, didn't go on, or said something else than a recorder that was never killed"
+    print(f"{len(failed)} batches of {BATCH} {why}" + (f": {failed}" if failed else ""))
     return int(bool(failed))
 
 

@@ -1,5 +1,6 @@
 #!/usr/bin/env python3
-"""Kills tabs of bin/recorder.html in the middle of a frame, 200 or as many as are said: opened again, each has all that it showed.
+"""Kills tabs of bin/recorder.html in the middle of a frame, 200 or as many as are said: opened again, each has all that it showed, and says
+the alarms and the state that a recorder says which was told the same and never killed.
 
     bench/recorder_kills.py [KILLS]
 """
@@ -23,10 +24,11 @@ def main() -> int:
         seed += 1
         begun = time.monotonic()
         with tempfile.TemporaryDirectory(prefix="recorder-") as folder:
-            kept.killed(pathlib.Path(folder), seed)
+            alarms = kept.killed(pathlib.Path(folder), seed)
         Stage.boards.clear()
         done += min(kept.KILLS, kept.LAST)
-        print(f"seed {seed}: {done} tabs were killed, and each had all that it had shown; {time.monotonic() - begun:.0f} s")
+        told = f"{done} tabs were killed, and each had all that it had shown, and said what a recorder says that was never killed"
+        print(f"seed {seed}: {told}; behind {alarms} of the last {kept.KILLS} somebody was to look; {time.monotonic() - begun:.0f} s", flush=True)
     return 0
 
 

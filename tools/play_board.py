@@ -98,10 +98,10 @@ class Board:
             rook = origin + 3 if steps > 0 else origin - 4
             self.carry(rook, origin + steps // 2, self.codes[rook])
 
-    def clock(self, white: int, black: int, runs: bool = False) -> None:
-        """Both times in seconds, and whether the clock says that it runs."""
+    def clock(self, white: int, black: int, runs: bool = False, lever: bool = False) -> None:
+        """Both times in seconds, whether the clock says that it runs, and on which side its lever is down."""
         groups = [f"{n:02}" for t in (white, black) for n in (t // 3600, t // 60 % 60, t % 60)]
-        self.send(frame(TIME, [*(int(digits, 16) for digits in groups), int(runs)]))
+        self.send(frame(TIME, [*(int(digits, 16) for digits in groups), int(runs) | int(lever) << 1]))
 
 
 @contextlib.contextmanager

@@ -6,6 +6,7 @@ from typing import List, Optional, Tuple
 ALARMS = ("WRONG", "NO-START", "SILENT", "UNPLUGGED")
 HINTS = ("TURNED-ROUND", "OTHER-BOARD")
 HANDLINGS = ("keep", "hold", "other")
+ENDS = ("over", "played", "begins")
 
 
 class NoAnswer(ValueError):
@@ -54,6 +55,8 @@ class Answer:
     kept: bytes = b""  # the capture gets these
     report: Tuple[str, ...] = ()
     game: bytes = b""  # its text, if it was wanted
+    ends: Tuple[str, ...] = ()  # what is said of the end of the game
+    looks: Tuple[str, ...] = ()  # the alarms that are said
     handling: str = ""  # none: a capture of the calls before is answered without it
     other: str = ""  # the serial number of another board
     number: str = ""  # that of the game's board, if it is news
@@ -80,6 +83,10 @@ def with_line(answer: Answer, line: str) -> Answer:
     word, *rest = line.split(" ")
     if word.isdecimal():
         return dataclasses.replace(answer, report=(*answer.report, line))
+    if word in ENDS:
+        return dataclasses.replace(answer, ends=(*answer.ends, line))
+    if word == "look":
+        return dataclasses.replace(answer, looks=(*answer.looks, line))
     if word in HANDLINGS:
         return dataclasses.replace(answer, handling=word, other="".join(rest))
     if word == "number":

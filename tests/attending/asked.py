@@ -183,6 +183,27 @@ def own_number() -> None:
                     same(step["name"], ([number for number in said if number] == [first]), step["is"])
 
 
+def numbers_in_bytes() -> None:
+    """Bytes of a board whose number isn't known; the number that is said, and that of another board behind it, if there is one."""
+    for sent, expected in [
+        (b"\0", ("", "")),
+        (b"\x91\x00\x0801234", ("01234", "")),
+        (b"\x8e\x00\x05\x91\x00\x0801234\x8e", ("01234", "")),
+        (b"\x91\x00\x0801234\x91\x00\x0801235", ("01234", "01235")),
+        (b"\x91\x00\x080123", ("", "")),
+        (b"\x91\x00\x080123\x7f", ("", "")),
+        (b"\x91\x00\x080123 ", ("", "")),
+        (b"\x91\x00\x09012345", ("", "")),
+    ]:
+        for size in (len(sent), 1):
+            with Host() as host:
+                call = begun(host)
+                call.tell(Entry(0, "opened"))
+                answers = [call.tell(brings(100, "heard", sent[at : at + size])) for at in range(0, len(sent), size)]
+                seen = ["".join(answer.number for answer in answers), answers[-1].other]
+                same(f"{sent!r}, {size} at once", tuple(seen), expected)
+
+
 def flooded(name: str, comings: Iterator[Coming], until: int, most: int) -> None:
     """The requests that what comes brings, and the bound."""
     with Host() as host:
@@ -204,4 +225,4 @@ def noise() -> None:
     flooded("a dump and a fault, 100 times a second", worst, 30000, 151)
 
 
-TABLES = [rules, numbered, silent_boards, additions, serials, own_number, noise]
+TABLES = [rules, numbered, silent_boards, additions, serials, own_number, numbers_in_bytes, noise]

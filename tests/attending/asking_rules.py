@@ -7,7 +7,7 @@ import math
 from dataclasses import dataclass, field
 from typing import NamedTuple
 
-from live.device.protocol import DUMP_ID, HEADER, SERIAL_REQUEST, SIZES
+from live.device.protocol import HEADER, SERIAL_REQUEST
 from live.device.protocol import FrameKind, Frames, serial_of
 
 DUMP_REQUEST = b"B"  # 42: a board dump
@@ -20,7 +20,6 @@ BETWEEN = 0.2  # seconds between two requests, at least
 PATIENCE = 1.0  # seconds that a request is open; then it counts as lost
 SILENCE = 5.0  # seconds without a complete dump after which the board is silent
 NUMBER_ASKED = 3  # requests that ask for a number again, if the board is known to have one and hasn't sent it
-LONGEST = SIZES[DUMP_ID]  # bytes that are looked at together
 LOST = 3  # requests without a dump before silence is reported: a recorder that was held up has sent none
 
 
@@ -88,17 +87,8 @@ class Asking:
     def came(self, now: float, sent: bytes) -> Came:
         """The board has sent this. Returns what has ended in it."""
         self._byte_at, dumped, time, serial = now, False, b"", ""
-        at, size = 0, len(sent)
-        while at < size:
-            kind = self._frames.take_whole(sent, at)
-            if kind:
-                at += len(self._frames.whole)
-            else:
-                at += self._frames.take_squares(sent[at : at + LONGEST])
-                if at == size:
-                    break
-                kind = self._frames.take(sent[at])
-                at += 1
+        for byte in sent:
+            kind = self._frames.take(byte)
             if kind is FrameKind.UPDATE:
                 self._updated, self._update_at = True, now
             elif kind is FrameKind.DUMP:

@@ -12,10 +12,11 @@ from attending.answers import Answer, Entry, brings
 from attending.host import Call, Host
 from attending.pictures import Picture, dump, picture, updates, with_codes
 from given.attended import HEADING
+from live.game.times import HEADED, heading
 
 SAMPLE = pathlib.Path(__file__).resolve().parents[2] / "samples" / "long-game"
 OWN, OTHER = b"01234", b"01235"
-NOTED = ("begin", "away", "opened", "gone", "answered", "called", "added", "stopped", "took")  # words that a file of times has
+NOTED = ("begin", "away", "opened", "gone", "answered", "called", "added", "stopped", "took", "ok", "back", "suspect")  # words that a file of times has
 
 
 @functools.lru_cache(maxsize=None)
@@ -90,6 +91,13 @@ class Table:
 
     def evening(self, name: str, options: Sequence[str]) -> Evening:
         return Evening(name, tuple(options), tuple(self.call.told), bytes(self._capture), bytes(self._times), tuple(self._marks))
+
+    def goes_on(self, evening: "Evening", capture: bytes, generation: int) -> None:
+        """The board of an evening goes on with another capture, which has a file of times of its own."""
+        last = evening.marks[-1]
+        self._capture, self._times = bytearray(capture), bytearray(heading(generation, capture[:HEADED]))
+        self._owned, self.shown = last.number, last.shown
+        self.tell(brings(0, "capture", capture))
 
     # What the recorder is told.
 

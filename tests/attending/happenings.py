@@ -2,12 +2,14 @@
 
 import functools
 import random
-from typing import Callable, Dict
+import subprocess
+from typing import Callable, Dict, Tuple
 
 from attending.answers import Entry, brings
 from attending.evenings import OTHER, OWN, SAMPLE, Evening, Table, played
 from attending.host import Host
 from attending.pictures import KINGS, dump, kings, with_codes
+from given.case import program
 
 EMPTY_BOARD = bytes(64)
 TIME = b"\x8d\x00\x0a\x01\x29\x59\x01\x30\x00\x01"
@@ -149,6 +151,13 @@ def next_call(table: Table) -> None:
     table.begins(table.chance.choice([None, 0, 700, 35000]))
 
 
+def alarmed(table: Table, chance: random.Random) -> None:
+    """What concerns alarms, now and then. It has a chance of its own, so that all else of an evening is as it would be without it."""
+    word = chance.choice(["ok", "back", "suspect", *[""] * 5])
+    if word:
+        table.tell(Entry(table.now, word, chance.randrange(1000) if word == "suspect" else None))
+
+
 HAPPENS: Dict[Callable[[Table], None], int] = {  # and how often
     ply: 30, touched: 8, wrong_square: 5, hidden: 4, lost_update: 4, clock: 4, fault: 6, forgotten: 3, knocked: 2,
     silent: 2, called_again: 2, pulled: 3, another: 3, typed: 3, stopped: 2, ended: 1, next_call: 2,
@@ -170,7 +179,7 @@ def at_home(table: Table) -> None:
 @functools.lru_cache(maxsize=None)
 def evening(seed: int) -> Evening:
     """The evening of a seed."""
-    chance = random.Random(f"evening {seed}")
+    chance, alarms = random.Random(f"evening {seed}"), random.Random(f"alarms {seed}")
     options = ["--recover"] if seed % 3 == 2 else []
     with Host(*options) as host:
         table = Table(host, chance, b"" if seed % 5 == 4 else OWN)
@@ -178,8 +187,53 @@ def evening(seed: int) -> Evening:
         table.passes(chance.randrange(2500))
         for _ in range(THINGS):
             chance.choices(list(HAPPENS), list(HAPPENS.values()))[0](table)
+            alarmed(table, alarms)
             table.passes(chance.randrange(1500))
         return table.evening(f"evening {seed}", options)
+
+
+def plies_of(lived: Evening) -> int:
+    """How many plies its game has."""
+    lines = [line for _, answer in lived.told for line in answer.report]
+    return sum(line.split()[1] == "move" for line in lines)
+
+
+def capture_of(lived: Evening, stays: int) -> Tuple[bytes, int]:
+    """Its capture with so many plies; or with fewer, if the board still shows the next one."""
+    done = subprocess.run([program(), "back", *lived.options, f"--to={stays}"], input=lived.capture, stdout=subprocess.PIPE, stderr=subprocess.DEVNULL)
+    return (done.stdout, stays) if done.returncode == 0 else capture_of(lived, stays - 1)
+
+
+@functools.lru_cache(maxsize=None)
+def gone_back(seed: int) -> Evening:
+    """What comes behind an evening whose last plies are taken off: the pieces are put where they belong, and the game goes on."""
+    before, chance = evening(seed), random.Random(f"back {seed}")
+    capture, stays = capture_of(before, chance.randrange(plies_of(before)))
+    return goes_on(before, chance, capture, stays, "back")
+
+
+@functools.lru_cache(maxsize=None)
+def next_game(seed: int) -> Evening:
+    """The next game of a series, on the board of an evening: it begins with a dump of the start, and what came behind it."""
+    before, chance = evening(seed), random.Random(f"series {seed}")
+    return goes_on(before, chance, dump(played()[0]), 0, "the next game of")
+
+
+def goes_on(before: Evening, chance: random.Random, capture: bytes, plies: int, name: str) -> Evening:
+    with Host(*before.options) as host:
+        table = Table(host, chance, before.marks[-1].number)
+        table.goes_on(before, capture, int(name == "back"))
+        table.ply = plies
+        table.begins(0)
+        if name == "back":
+            table.tell(Entry(table.now, "back"))
+        table.passes(chance.randrange(2500))
+        table.shows(table.plies[plies])
+        for _ in range(THINGS // 2):
+            chance.choices(list(HAPPENS), list(HAPPENS.values()))[0](table)
+            alarmed(table, chance)
+            table.passes(chance.randrange(1500))
+        return table.evening(f"{name} {before.name}", before.options)
 
 
 def sample(size: int = 12000) -> Evening:

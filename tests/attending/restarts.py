@@ -1,26 +1,28 @@
-"""A recorder that was killed and begins again says what one says that was not: both are told the same from then on. What is kept for the
-one that begins again is the capture, its file of times and the number of the game's board.
+"""A recorder that was killed and begins again says what one says that was not: the same state, alarms and text. Both are told the same from
+then on. What is kept for the one that begins again is the capture, its file of times and the number of the game's board.
 
 Behind each entry of an evening it is killed. The law is `RestartsAlike` of crates/board_live/specs/Laws.antt. It is about all that was
 kept, and a file of times has no line of a board that is silent: that isn't seen, since a call that begins counts its board as
-answering. Nor has it a line of a wake at which nothing was asked; so nobody was there from its last line on, and `begin` names
-spans that are as much shorter.
+answering. Alarms go by the times of what a board sends, so the same are open. Nor has it a line of a wake at which nothing was asked;
+so nobody was there from its last line on, and `begin` names spans that are as much shorter.
 """
 
 import dataclasses
+import os
 import random
 from typing import Iterator, List, Sequence, Tuple
 
 from attending.answers import Answer, Entry, brings
 from attending.emulated_evenings import emulated_evening
 from attending.evenings import OTHER, OWN, Evening, Mark, number_message
-from attending.happenings import evening, sample
+from attending.happenings import evening, gone_back, next_game, plies_of, sample
 from attending.host import answers
 from attending.pictures import Picture, dump
 from decided.table import same
 
 EVENINGS, EMULATED = 30, 4
-EACH = 4  # of the wakes and reads of an evening so many are passed over, but for one
+BACK, SERIES = 10, 5  # evenings in which plies are taken off, and which go on with the next game of a series
+EACH = int(os.environ.get("EACH_PREFIX", "4"))  # of the wakes and reads of an evening one in so many is tried; 1: each
 AWAY = 35000  # milliseconds from the last thing that the killed one was told to the next call
 
 
@@ -61,7 +63,8 @@ def next_call(mark: Mark, away: int, number: int) -> List[Entry]:
     """What both are told from then on."""
     begun = [Entry(0, "begin", mark.capture), Entry(0, "away", away)]
     owned = [brings(0, "number", mark.number)] if mark.number else []
-    return [*begun, *owned, *NEXT_CALLS[number % len(NEXT_CALLS)](mark)]
+    call = [*NEXT_CALLS[number % len(NEXT_CALLS)](mark)]
+    return [*begun, *owned, Entry(1, "text"), *call, Entry(call[-1].at + 1, "text")]
 
 
 def kept(lived: Evening, mark: Mark) -> List[Entry]:
@@ -116,9 +119,15 @@ def differences(lived: Evening) -> Tuple[int, List[str]]:
 
 def alike() -> None:
     """Behind each entry of the evenings."""
-    for lived in [sample(), *map(evening, range(EVENINGS)), *map(emulated_evening, range(EMULATED))]:
+    back = [seed for seed in range(EVENINGS) if plies_of(evening(seed)) > 0][:BACK]
+    others = [*map(gone_back, back), *map(next_game, range(SERIES)), *map(emulated_evening, range(EMULATED))]
+    evenings = [sample(), *map(evening, range(EVENINGS)), *others]
+    kills = 0
+    for lived in evenings:
         count, wrong = differences(lived)
         same(f"{lived.name}: killed {count} times", wrong[:3], [])
+        kills += count
+    print(f"{len(evenings)} evenings of {sum(len(lived.told) for lived in evenings)} entries, killed behind {kills} of them")
 
 
 def torn() -> None:

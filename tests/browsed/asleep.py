@@ -58,7 +58,7 @@ REPORT = "{ const { held } = program; program.held = null; held.forEach((call) =
 GOES_ON = "clocks.longest = 0; clocks.running += %d; clocks.counting += %d"
 LOOK = "LOOK after 1... e5"
 SECONDS = 5.0  # of a time away
-STOPPED = 7  # seconds
+STOPPED = 12  # seconds
 LINGERS = 12  # seconds after which a result has ended a game
 THROTTLED = 900  # milliseconds between two calls of a timer that wants one each 250
 
@@ -146,7 +146,7 @@ def reported_late(folder: pathlib.Path) -> None:
 
 @with_chromium
 def browser_stopped(folder: pathlib.Path) -> None:
-    """All processes of the browser are stopped for seven seconds: plies that the line has kept are in the game; after four that
+    """All processes of the browser are stopped for twelve seconds: plies that the line has kept are in the game; after four that
     lead back, and that nobody has heard, somebody must look."""
     with Hall(folder) as stage:
         page, port = begin(stage)

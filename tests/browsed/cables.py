@@ -2,7 +2,7 @@
 cards."""
 
 import pathlib
-from typing import Optional
+from typing import List, Optional, Sequence
 
 from browsed.games import QUEENS, QUEENS_SANS, RUY, RUY_SANS, begin, of_record, play, until_agrees
 from browsed.hall import Hall, Port
@@ -11,6 +11,7 @@ from browsed.stage import with_chromium
 from played.stage import same
 
 CARDS = "document.querySelectorAll('a.tile').length"
+STATES = "[...document.querySelectorAll('a.tile .state')].map(({ textContent }) => textContent)"
 
 
 def numbered(port: Port, number: int) -> Port:
@@ -210,6 +211,70 @@ def cables_exchanged(folder: pathlib.Path) -> None:
         same(page.tab.printed(), [])
 
 
+def two_alike(stage: Hall, page: Page, numbers: Sequence[int] = ()) -> List[Port]:
+    """Two boards with the same two plies, which give these numbers or none."""
+    ports = [stage.board() for _ in range(2)]
+    for port, number in zip(ports, numbers):
+        numbered(port, number)
+    for port in ports:
+        page.click("#back") if page.shows("#back") else None
+        stage.add(page, port)
+        stage.enlarge(page, port.number)
+        until_agrees(stage, page)
+        play(stage, page, port, RUY[:2], RUY_SANS[:2])
+    return ports
+
+
+def states(page: Page) -> List[str]:
+    """What the cards of all boards say."""
+    return list(map(str, page.value(STATES)))
+
+
+def hub_fails(stage: Hall, page: Page, ports: Sequence[Port]) -> None:
+    """All these boards go, and come back, which has shown how they stand."""
+    for port in ports:
+        stage.pull(port)
+    stage.until(lambda: all(states(page)[port.number - 1].startswith("UNPLUGGED") for port in ports), "alarms of unplugged boards")
+    for port in ports:
+        stage.plug(port)
+    stage.until(lambda: all(port.holders for port in ports), "all boards to be opened again")
+    for port in ports:
+        stage.until_dumped(page, port)
+    stage.rest(2)
+
+
+@with_chromium
+def exchanged_though_alike(folder: pathlib.Path) -> None:
+    """Two boards without numbers go at the same time and stand alike: their cables may be exchanged, and somebody must look at both. It is
+    kept with the times, so a tab that is killed loses none of it; and once somebody has looked, it is gone. One board alone, and boards
+    with different numbers, have no such alarm."""
+    with Hall(folder) as stage:
+        page = stage.tab()
+        first, second = two_alike(stage, page)
+        third, fourth = two_alike(stage, page, (10003, 10004))
+        page.click("#back")
+        hub_fails(stage, page, [first])
+        hub_fails(stage, page, [third, fourth])
+        same([state for state in states(page) if "cable" in state], [])
+        hub_fails(stage, page, [first, second, third, fourth])
+        same(["LOOK at the cable" in state for state in states(page)], [True, True, False, False])
+        for number, other in ((1, 2), (2, 1)):
+            told = f"it was away together with board {other}, which stands alike, and no serial number tells them apart"
+            assert any(told in line for line in page.messages), page.messages
+            stage.until(lambda: f" suspect {other}\n" in "".join(page.kept_times(number)), f"what board {number} is suspected of")
+        stage.crash(page)
+        page = stage.tab()
+        stage.until(lambda: len(states(page)) == 4 and all(port.holders for port in stage.ports), "all boards to be opened by themselves")
+        stage.rest(2)
+        same(["LOOK at the cable" in state for state in states(page)], [True, True, False, False])
+        for number in (1, 2):
+            page.click("#back") if page.shows("#back") else None
+            stage.enlarge(page, number)
+            page.click("#ok")
+            stage.until(lambda: "LOOK" not in page.text("#state"), "no alarm any more")
+        same(page.tab.printed(), [])
+
+
 @with_chromium
 def another_board(folder: pathlib.Path) -> None:
     """A board is replaced by another one: what that sends is kept back until somebody presses OK, and then the game has all of it."""
@@ -233,7 +298,8 @@ def another_board(folder: pathlib.Path) -> None:
         same((page.moves, len(page.kept(1))), (RUY_SANS[:2], before))
         page.click("#ok")
         stage.until_moves(page, RUY_SANS[:3])
-        stage.until_part(page, "#state", "LOOK at 2. Nf3")  # nobody knows what was played until then
+        unknown = ("LOOK after 1... e5", "LOOK at 2. Nf3")  # the first, if it has shown the position before the move
+        stage.until(lambda: page.text("#state").startswith(unknown), "a word that nobody knows what was played until then")
         play(stage, page, port, RUY[3:5], RUY_SANS[3:5])
         text, capture = stage.saved(page, "#save-game"), stage.saved(page, "#save-capture")
         same(text, of_record(text, capture))

@@ -6,14 +6,16 @@
  * {what: "remove", name}. `folder.permission` is what the page is told: "granted", "prompt" or "denied"; `folder.answers` is what it
  * is given when it asks. `folder.refuses` has the window that asks for a folder refuse it, as Cancel and Don't Allow do.
  * `folder.fails` is the name of the error with which a file can't be written, if it can't: with `folder.failing` only one whose name
- * ends so.
+ * ends so. `folder.edit(name, bytes)` is somebody who writes a file; `folder.written` has for each file that was written its name, how
+ * many bytes of the old one it kept, and how many were written.
  */
 function provideFolder(start) {
   const tell = (message) => window.tellBoards(JSON.stringify(message));
   const bytesIn = (base64) => Uint8Array.from(atob(base64), (letter) => letter.charCodeAt(0));
   const files = new Map(start.files.map(([name, base64]) => [name, bytesIn(base64)])); // what is there
+  const changed = new Map(); // how often each file was written
   let handle = null;
-  window.folder = { permission: start.permission, answers: "granted", refuses: false, fails: "", failing: "", get has() { return handle?.name ?? ""; } };
+  window.folder = { permission: start.permission, answers: "granted", refuses: false, fails: "", failing: "", written: [], edit: put, get has() { return handle?.name ?? ""; } };
 
   addEventListener("dragover", (event) => event.preventDefault(), { capture: true });
   addEventListener(
@@ -52,30 +54,41 @@ function provideFolder(start) {
 
   function put(name, bytes) {
     files.set(name, bytes);
+    changed.set(name, (changed.get(name) ?? 0) + 1);
     tell({ what: "file", name, bytes: base64Of(bytes) });
   }
 
   class Writable {
     #name;
-    #parts = [];
+    #kept;
+    #content;
+    #position = 0;
 
-    constructor(name) {
+    constructor(name, keeps) {
       this.#name = name;
+      this.#content = keeps ? files.get(name) : new Uint8Array();
+      this.#kept = this.#content.length;
     }
 
     async write(given) {
       check(this.#name);
-      const data = given?.type === "write" ? given.data : given;
-      this.#parts.push(data);
+      const { position, data } = given?.type === "write" ? given : { position: this.#position, data: given };
+      const bytes = new Uint8Array(await new Blob([data]).arrayBuffer());
+      const longer = new Uint8Array(Math.max(this.#content.length, position + bytes.length));
+      longer.set(this.#content);
+      longer.set(bytes, position);
+      this.#content = longer;
+      this.#position = position + bytes.length;
+      window.folder.written.push([this.#name, this.#kept, bytes.length]);
     }
 
     async close() {
       check(this.#name);
-      put(this.#name, new Uint8Array(await new Blob(this.#parts).arrayBuffer()));
+      put(this.#name, this.#content);
     }
 
     async abort() {
-      this.#parts = [];
+      this.#content = new Uint8Array();
     }
   }
 
@@ -86,13 +99,13 @@ function provideFolder(start) {
       this.name = name;
     }
 
-    async createWritable() {
+    async createWritable({ keepExistingData = false } = {}) {
       check(this.name);
-      return new Writable(this.name);
+      return new Writable(this.name, keepExistingData);
     }
 
     async getFile() {
-      return new File([files.get(this.name)], this.name);
+      return new File([files.get(this.name)], this.name, { lastModified: changed.get(this.name) ?? 0 });
     }
 
     async move(to) {

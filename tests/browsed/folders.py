@@ -154,6 +154,28 @@ def folder_full(folder: pathlib.Path) -> None:
 
 
 @with_chromium
+def folder_goes_on(folder: pathlib.Path) -> None:
+    """A capture in the folder gets only what has come since it was written last. If somebody has written that file meanwhile, it is
+    written whole."""
+    with Hall(folder) as stage:
+        chosen = Chosen(stage)
+        page, port = begin_in(stage, chosen)
+        chosen.choose(stage, page)
+        play(stage, page, port, RUY[:3], RUY_SANS[:3])
+        until_text(stage, chosen, "board 1.pgn", "1. e4 e5 2. Nf3 *")
+        written = page.value("folder.written.filter(([name]) => name === 'board 1.dgt')")
+        sizes = [kept + new for _, kept, new in written]
+        same([kept for _, kept, _ in written], [0, *sizes[:-1]])
+        assert len(sizes) > 1 and sizes == sorted(sizes), sizes
+        until_recorded_so(stage, chosen, "board 1.pgn")
+        page.value("folder.edit('board 1.dgt', new TextEncoder().encode('x'.repeat(%d)))" % sizes[-1])
+        play(stage, page, port, RUY[3:4], RUY_SANS[3:4])
+        until_text(stage, chosen, "board 1.pgn", "1. e4 e5 2. Nf3 Nc6 *")
+        same(page.value("folder.written.filter(([name]) => name === 'board 1.dgt').at(-1)[1]"), 0)
+        until_recorded_so(stage, chosen, "board 1.pgn")
+
+
+@with_chromium
 def folder_in_order(folder: pathlib.Path) -> None:
     """A capture that can't be written holds up the texts that tell of it, and nothing of other games. When it can, it goes out first:
     so it does after plies were taken off, behind what it was before."""

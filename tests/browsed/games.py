@@ -1,11 +1,13 @@
 """Games on one board and on several, as they are played: the expected moves are written by hand."""
 
 import pathlib
+import re
 from typing import List, Optional, Sequence, Tuple
 
 from browsed.hall import Hall, Port
 from browsed.page import Page
 from browsed.stage import with_chromium
+from play_board import field
 from played.stage import run, same
 
 # What is played: the moves on the board, and in SAN.
@@ -33,12 +35,12 @@ TAGS = {"#event-name": "Club", "#round": "3", "#date": "31.5.2024", "#white": "A
 def play(
     stage: Hall, page: Page, port: Port, moves: Sequence[str], sans: Sequence[str], clock: Optional[List[int]] = None
 ) -> None:
-    """Each move, until the page shows it; with a clock each takes seven seconds."""
+    """Each move, until the page shows it; with a clock each takes seven seconds, and the clock is pressed."""
     shown = page.moves
     for ply, (move, san) in enumerate(zip(moves, sans), len(shown)):
         if clock:
             clock[ply % 2] -= 7
-            port.board.clock(clock[0], clock[1], True)
+            port.board.clock(clock[0], clock[1], True, lever=ply % 2 == 1)
         port.board.play(move)
         shown.append(san)
         stage.until_moves(page, shown)
@@ -91,6 +93,41 @@ def one_board(folder: pathlib.Path) -> None:
         same(port.delivered[: len(capture)], capture)
         same((pathlib.Path(named).suffix, pathlib.Path(stage.saved_as).suffix), (".pgn", ".dgt"))
         same(set(port.board.asked), set(b"EBK"))
+        same(page.tab.printed(), [])
+
+
+STATES = """
+window.states = [];
+new MutationObserver(() => states.push(document.getElementById('state').textContent))
+  .observe(document.getElementById('state'), { childList: true, characterData: true, subtree: true });
+"""
+
+
+@with_chromium
+def named_while_wrong(folder: pathlib.Path) -> None:
+    """Names are typed while a square has been wrong for some time: it stays wrong since then, the board isn't waited for, and the text
+    follows. No byte is lost, and the moves go on."""
+    with Hall(folder) as stage:
+        page, port = begin(stage)
+        until_agrees(stage, page)
+        play(stage, page, port, RUY[:2], RUY_SANS[:2])
+        port.board.lift("a2")
+        stage.until(lambda: page.text("#state").startswith("WRONG: a2, 1"), "the square that is wrong")
+        page.value(STATES)
+        page.type("Anna", "#white")
+        page.type("Ben", "#black")
+        assert b'[White "Anna"]\n[Black "Ben"]' in stage.saved(page, "#save-game")
+        stage.rest(2)
+        states = [*page.value("states"), page.text("#state")]
+        same([text for text in states if not re.fullmatch("WRONG: a2, [1-4][0-9] s", text)], [])
+        port.board.put("a2", port.board.codes[field("b2")])
+        until_agrees(stage, page)
+        play(stage, page, port, RUY[2:4], RUY_SANS[2:4])
+        text = stage.saved(page, "#save-game")
+        stage.rest(0.5)
+        capture = stage.saved(page, "#save-capture")
+        same(text, of_record(text, capture, "--white", "Anna", "--black", "Ben"))
+        same(port.delivered[: len(capture)], capture)
         same(page.tab.printed(), [])
 
 

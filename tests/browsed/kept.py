@@ -1,8 +1,10 @@
-"""What a page has shown is there when it is opened again: its tab is killed in the middle of a frame, or the whole browser."""
+"""What a page has shown is there when it is opened again: its tab is killed in the middle of a frame, or the whole browser. It says the
+same alarms and state then as a recorder that was told the same and never killed."""
 
 import os
 import pathlib
 import random
+import re
 from typing import List
 
 from browsed.games import RUY, RUY_SANS, begin, of_record, play, until_agrees
@@ -10,12 +12,15 @@ from browsed.hall import Hall, Port
 from browsed.page import Page
 from browsed.stage import with_chromium
 from played.games import PARIS
+from played import unkilled
 from played.killing import SANS
 from played.stage import same
 
 KILLS = int(os.environ.get("KILLS", "10"))  # of a tab, in each case
 BROWSERS = 3  # that are killed
 LAST = len(PARIS) - 1  # the mate isn't played
+ALIKE = 30.0  # seconds in which all that was heard is kept, and said
+OK = 0.3  # of the kills, after which somebody has looked
 
 
 def opened_again(stage: Hall, port: Port, shown: List[str]) -> Page:
@@ -28,12 +33,35 @@ def opened_again(stage: Hall, port: Port, shown: List[str]) -> Page:
     return page
 
 
-def killed(folder: pathlib.Path, seed: int) -> None:
-    """Plies are played; with each, the tab is killed while a part of its frames has come, shown or not."""
+def press(stage: Hall, page: Page, port: Port) -> None:
+    """The clock runs and is pressed, and nobody presses it for the next plies."""
+    for lever in (False, True):
+        port.board.clock(600, 600, runs=True, lever=lever)
+    stage.until_dumped(page, port)
+
+
+def says_the_same(stage: Hall, page: Page) -> bool:
+    """It comes to say the same as a recorder that was never killed. Returns whether that is an alarm."""
+    seen: List[unkilled.Said] = []
+
+    def is_alike() -> bool:
+        seen[:] = [unkilled.said(page.kept(1), "".join(page.kept_times(1)).encode())]
+        state = re.sub(r", [0-9].*", "", page.text("#state"))  # without its duration
+        return seen[0].state(seen[0].looks) == state and all(look.text in page.text("#ask") for look in seen[0].looks.open)
+
+    assert stage.comes(is_alike, ALIKE), f"{seen} is what a recorder says that was never killed, and not {page.describe()}"
+    return bool(seen[0].looks.open)
+
+
+def killed(folder: pathlib.Path, seed: int) -> int:
+    """Plies are played; with each, the tab is killed while a part of its frames has come, shown or not. Returns behind how many of them
+    somebody was to look."""
     chance = random.Random(seed)
+    alarms = 0
     with Hall(folder) as stage:
         page, port = begin(stage)
         until_agrees(stage, page)
+        press(stage, page, port)
         plies = sorted(chance.sample(range(LAST), min(KILLS, LAST)))
         for ply in range(LAST):
             if ply in plies:
@@ -48,8 +76,15 @@ def killed(folder: pathlib.Path, seed: int) -> None:
                 same(shown, SANS[: len(shown)])
                 page = opened_again(stage, port, shown)
             stage.until_moves(page, SANS[: ply + 1])
+            if ply in plies:
+                alarms += says_the_same(stage, page)
+                if chance.random() < OK and page.shows("#ok"):
+                    page.click("#ok")
+                    stage.until(lambda: "LOOK" not in page.text("#state"), "that somebody has looked")
+                    press(stage, page, port)
         text, capture = stage.saved(page, "#save-game"), stage.saved(page, "#save-capture")
         same(text, of_record(text, capture))
+    return alarms
 
 
 @with_chromium

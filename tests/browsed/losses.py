@@ -331,7 +331,7 @@ def folder_longer(folder: pathlib.Path) -> None:
         stage.until(lambda: len(chosen.files[capture]) > len(longer), "a longer capture")
         same(chosen.files[capture][: len(longer)], longer)
         stage.crash(page)
-        other = b"\x91\x00\x08NOBOD" + chosen.files[capture]
+        other = b"\x91\x00\x08NOBOD" * 60 + chosen.files[capture]  # longer, though dumps have come that the folder hasn't got yet
         chosen.files[capture] = other
         page = stage.tab([chosen.script()])
         stage.enlarge(page, 1)

@@ -173,7 +173,7 @@ def times_of_the_way_back(folder: pathlib.Path) -> None:
         found = until_times(stage, chosen, "board 1", lambda read: read.gone_back == 1, "the new times")
         before = in_folder(stage, chosen, "board 1.before-1")
         same((before.gone_back, before.numbers("begin")), (0, [0]))
-        same((found.words()[:3], found.numbers("away")), (["begin", "away", "opened"], [0]))
+        same((found.words()[:4], found.numbers("away")), (["begin", "away", "opened", "back"], [0]))
         answered(stage, page, "1-0", "the result 1-0")
         until_over(stage, page)
         until_ends(stage, page, [end_of(page)])
@@ -182,7 +182,7 @@ def times_of_the_way_back(folder: pathlib.Path) -> None:
         answered(stage, page, "*", "goes on, without the result")
         stage.until_moves(page, ["e4", "c5", "Nf3"])
         found = until_ends(stage, page, [])
-        same((found.gone_back, len(found.calls), end_of(page)), (1, 1, None))
+        same((found.gone_back, len(found.calls), end_of(page), found.words().count("back")), (1, 1, None, 2))
         same(said_of_times(page), [])
 
 

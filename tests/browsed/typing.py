@@ -107,7 +107,8 @@ def result_stands(folder: pathlib.Path) -> None:
 @with_chromium
 def result_and_set_up(folder: pathlib.Path) -> None:
     """A result is typed, and the pieces are set up before the ten seconds are over: the game has its result and all its moves, and
-    the next one begins. A result that is typed then is refused, since that game has no move."""
+    the next one begins. A result that is typed then is refused, since that game has no move. One that is typed after a move of the
+    third game counts if it is typed twice, since the second has no result: it may be meant for that."""
     with Hall(folder) as stage:
         chosen = Chosen(stage)
         page, port = begin_in(stage, chosen)
@@ -126,6 +127,33 @@ def result_and_set_up(folder: pathlib.Path) -> None:
         play(stage, page, port, QUEENS[:2], QUEENS_SANS[:2])
         until_text(stage, chosen, "Anna - Ben-2.pgn", "1. d4 d5 *")
         until_text(stage, chosen, "Anna - Ben.pgn", "1. e4 e5 2. Nf3 Nc6 1-0")
+        stage.rest(3)
+        port.board.set_up([])
+        stage.until_moves(page, [])
+        until_agrees(stage, page)
+        play(stage, page, port, RUY[:2], RUY_SANS[:2])
+        answered(stage, page, "1-0", "Anna - Ben-2 has no result yet. If it is the result of Anna - Ben-2, press 1-0 beside that name; "
+                 "if it is that of Anna - Ben-3, type 1-0 again")  # fmt: skip
+        answered(stage, page, "1-0", "added by hand: the result 1-0 after 1... e5, 2 plies")
+        until_text(stage, chosen, "Anna - Ben-3.pgn", "1. e4 e5 1-0")
+        until_text(stage, chosen, "Anna - Ben-2.pgn", "1. d4 d5 *")
+
+
+@with_chromium
+def killed_while_a_result_stands(folder: pathlib.Path) -> None:
+    """A tab is killed while a result stands: opened again, the game is over after ten seconds more."""
+    with Hall(folder) as stage:
+        page, port = begin(stage)
+        until_agrees(stage, page)
+        play(stage, page, port, RUY[:4], RUY_SANS[:4])
+        answered(stage, page, "1-0", "added by hand: the result 1-0")
+        stage.until_dumped(page, port)
+        stage.rest(1)
+        stage.crash(page)
+        page = stage.tab()
+        stage.enlarge(page, 1)
+        stage.until_moves(page, RUY_SANS[:4])
+        stage.until(lambda: page.text("#state").startswith("over"), "the end of the game")
 
 
 @with_chromium
@@ -401,7 +429,7 @@ def look_is_settled(folder: pathlib.Path) -> None:
         stage.until_dumped(page, port)
         answered(stage, page, "back 1... e5", "back to 1... e5; taken off: 2. Nf3. Settled: LOOK at 2. Nf3.")
         stage.until(lambda: "LOOK" not in page.text("#state"), "no alarm any more")
-        same(page.moves, RUY_SANS[:2])
+        stage.until_moves(page, RUY_SANS[:2])
 
 
 def fill(stage: Hall, page: Page, total: int) -> None:

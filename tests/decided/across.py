@@ -2,14 +2,11 @@
 
 from typing import List, Optional, Tuple
 
-from live.device.ended import Ended
 from live.device.line import same_line
 from live.device.network_address import Address, is_network, read_address
 from live.device.trial import Trial
 
 from decided.table import same
-
-DUMP = Ended(dumped=True)
 
 
 def addresses() -> None:
@@ -49,14 +46,14 @@ def addresses() -> None:
 
 def waits_for_a_dump() -> None:
     """What is passed on after each thing that came."""
-    first, second, third = (b"\x8e\x00", Ended()), (b"\x05\x0c", Ended()), (b"dump", DUMP)
+    first, second, third = (b"\x8e\x00", False), (b"\x05\x0c", False), (b"dump", True)
     trial = Trial(0.0)
     same("nothing yet", [trial.passes(first), trial.passes(second)], [[], []])
     same("all in order", trial.passes(third), [first, second, third])
     same("and then at once", trial.passes(first), [first])
     trial = Trial(0.0)
     for number in range(100):
-        same(f"waits {number}", trial.passes((bytes([number]) * 1024, Ended())), [])
+        same(f"waits {number}", trial.passes((bytes([number]) * 1024, False)), [])
     passed = trial.passes(third)
     same("the last four kilobytes", [sent[:1] for sent, _ in passed], [bytes([number]) for number in (96, 97, 98, 99)] + [b"d"])
 
@@ -72,7 +69,7 @@ def what_it_said() -> None:
         (b"", ""),
     ):
         trial = Trial(0.0)
-        trial.passes((sent, Ended()))
+        trial.passes((sent, False))
         same(f"{sent!r}", trial.said, expected)
 
 

@@ -1,19 +1,14 @@
-"""When a board has gone on without its game for too long, when the clock was stopped, and when moves are made after the end."""
+"""When a board has gone on without its game for too long, and when moves are made after the end."""
 
 import math
-import tempfile
-from typing import Any, List
+from typing import Any, List, Tuple
 
-from live.game.after_the_end import AfterTheEnd
-from live.game.alarms import Alarms
-from live.game.course import Course
-from live.game.files import Paths
-from live.game.stopped_clock import StoppedClock, runs
+from live.game.after_the_end import AfterSetUp, AfterTheEnd
 from live.device.protocol import picture_of_placement
-from live.game.report import Event, Line, Move, event_of
+from live.game.report import Event, event_of, line_of
 
 from attending.state_rules import Agreement
-from decided.cases import bytes_of, cases
+from decided.cases import cases
 from decided.table import same
 
 INITIAL = picture_of_placement("rnbqkbnr/pppppppp/8/8/8/8/PPPPPPPP/RNBQKBNR")
@@ -36,49 +31,6 @@ def agreements() -> None:
     same("at 15 s, and not before", (agreement.is_overdue(19.9), agreement.is_overdue(20)), (False, True))
 
 
-def move_of(words: str) -> Move:
-    """That of a line, of its words behind the offset."""
-    move = event_of(words)
-    assert isinstance(move, Move), words
-    return move
-
-
-def clocks() -> None:
-    for data, running in cases("alarms", "runs"):
-        same(data, runs(bytes_of(data)), running)
-    for name, happenings, expected in cases("alarms", "clocks"):
-        clock = StoppedClock()
-        seen: List[str] = []
-        for now, what in happenings:
-            if what.startswith("time "):
-                clock.time(now, bytes_of(what[len("time ") :]))
-            elif what in ("gone", "ok"):
-                clock.gone() if what == "gone" else clock.acknowledged()
-            elif what.startswith("typed "):
-                clock.added(move_of(what.replace("typed", "move")))
-            else:
-                look = clock.moved(now, move_of(what))
-                seen += [look.text] if look else []
-        same(name, seen, expected)
-
-
-def reported_late() -> None:
-    """Time messages come at once, moves when the program reports them: each counts when its bytes came."""
-    for name, happenings, expected in cases("alarms", "reported"):
-        looks: List[str] = []
-        with tempfile.TemporaryDirectory() as folder:
-            alarms = Alarms(Paths(f"{folder}/game"), Course(INITIAL))
-            for offset, now, what in happenings:
-                if what.startswith("time "):
-                    alarms.time(now, bytes_of(what[len("time ") :]), offset)
-                elif what == "gone":
-                    alarms.away(0, False)
-                else:
-                    look = alarms.take(now, Line(offset, move_of(what)), False)
-                    looks += [look.text] if look else []
-        same(name, looks[-1:], expected)
-
-
 def afterwards() -> None:
     for name, lines, expected in cases("alarms", "afterwards"):
         after = AfterTheEnd(INITIAL, "38. Kf2", "1-0")
@@ -89,4 +41,22 @@ def afterwards() -> None:
              [f"LOOK after 38. Kf2: {count} moves were made, and the game is over: 1-0" for count in expected])  # fmt: skip
 
 
-TABLES = [agreements, clocks, reported_late, afterwards]
+# Lines of the report from the start on, and how many moves each alarm names.
+SET_UP: List[Tuple[str, List[str], List[int]]] = [
+    ("nothing but the pieces", ["0 picture rnbqkbnr/pppppppp/8/8/8/8/PPPPPPPP/RNBQKBNR", "0 agrees"], []),
+    ("a move that is put right", ["0 move 1. d4", "9 correction 1. e4"], []),
+    ("two moves", ["0 move 1. d4", "9 move 1... d5"], [2]),
+    ("and more", ["0 move 1. d4", "9 move 1... d5", "20 correction 1... Nf6", "30 move 2. c4"], [2, 2, 3]),
+]
+
+
+def from_the_start() -> None:
+    """Moves after a set-up behind a game without a result."""
+    for name, lines, expected in SET_UP:
+        after = AfterSetUp("38. Kf2")
+        looks = [look for look in (after.take(line.event) for line in map(line_of, lines) if line) if look]
+        same(name, [look.text for look in looks],
+             [f"LOOK after 38. Kf2: {count} moves were made from the start, and the game is over without a result" for count in expected])  # fmt: skip
+
+
+TABLES = [from_the_start, agreements, afterwards]

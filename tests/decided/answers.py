@@ -60,8 +60,8 @@ def sentences() -> None:
         answer = str(refuse(said_of(said), line, place))
         same(f"{said}, {line!r}", answer, expected)
         same(f"{answer[:20]!r} can be printed", answer.isprintable(), True)
-    for said, line, expected in cases("answers", "added"):
-        same(line, meaning(said_of(said), line), expected)
+    for said, line, plies, expected in cases("answers", "added"):
+        same(f"{line} after {plies}", meaning(said_of(said), line, plies), expected)
     for fen, played, line, before, expected in cases("answers", "whose move"):
         same(f"{line} after {played}", whose_move(fen, played, line, before), expected)
     for status, text in cases("answers", "no answer"):

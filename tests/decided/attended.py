@@ -2,8 +2,7 @@
 
 from typing import List
 
-from live.device.protocol import number_in
-from live.game.attended import Answer, Answers, NoAnswer, Stood, entry
+from live.game.attended import Answer, Answers, Doubt, NoAnswer, Stood, entry
 from live.game.times import ANSWERED, CALLED, GONE, OPENED, TOOK, line_after
 
 from decided.table import refused, same
@@ -22,7 +21,7 @@ WRITTEN = [
     (b"keep\nnumber 01234\ndone 9\n", [Answer(handling="keep", number="01234", due=9)]),
     (
         b"kept 14\nkeep\ndone 1\n\n\n151 move 1. e4\n151 agrees\nkeep\nfull\nstate AGREES 0\ndone 85\n",
-        [Answer(b"keep\ndone 1\n\n\n", ["151 move 1. e4", "151 agrees"], "keep", is_full=True, stood=Stood("AGREES", 0), due=85)],
+        [Answer(b"keep\ndone 1\n\n\n", None, ["151 move 1. e4", "151 agrees"], "keep", is_full=True, stood=Stood("AGREES", 0), due=85)],
     ),
     (
         b"keep\nstate WRONG 32000 d5 e2\ndone 7\nkeep\nstate SETTING-UP 10 TURNED-ROUND\ndone -\n",
@@ -31,6 +30,16 @@ WRITTEN = [
             Answer(handling="keep", stood=Stood("SETTING-UP", 10, (), "TURNED-ROUND")),
         ],
     ),
+    (
+        b"151 move 1. e4\ngame 14\nkeep\ndone 1\n\n\nkeep\ndone 5\n",
+        [Answer(game=b"keep\ndone 1\n\n\n", report=["151 move 1. e4"], handling="keep", due=5)],
+    ),
+    (b"kept 2\n\n\ngame 5\nkeep\nhold\ndone 5\n", [Answer(b"\n\n", b"keep\n", handling="hold", due=5)]),
+    (
+        b"keep\nlook at 27 LATE\nlook since 24 STOPPED 3\nlook SUSPECT 5\ndone 5\n",
+        [Answer(handling="keep", doubts=[Doubt("at", 27, "LATE"), Doubt("since", 24, "STOPPED", 3), Doubt("SUSPECT", 5, "SUSPECT")], due=5)],
+    ),
+    (b"keep\nover STOOD 0-1 335 sure\nplayed 2\nbegins 201\ndone 5\n", [Answer(handling="keep", due=5)]),
     (b"74 agrees\ndone -\nkeep\ndone -\n", [Answer(report=["74 agrees"]), Answer(handling="keep")]),
 ]
 HISTORY = b"0 position start\n74 picture one\n74 agrees\ndone -\n90 picture two\n90 differs e2\ndone -\n"
@@ -52,7 +61,7 @@ def answers() -> None:
     for written, expected in WRITTEN:
         same(f"{written!r}", [found for at in range(len(written) + 1) if (found := cut(written, at)) != expected], [])
         same("byte by byte", byte_by_byte(written), expected)
-    for line in (b"what\n", b"done\n", b"state\n", b"\n"):
+    for line in (b"what\n", b"done\n", b"state\n", b"look\n", b"look at LATE\n", b"look before 5 LATE\n", b"\n"):
         refused(f"{line!r}", NoAnswer, Answers().take, line)
 
 
@@ -91,18 +100,4 @@ def of_the_line() -> None:
         same(f"{told}", line, expected)
 
 
-def numbers() -> None:
-    for sent, expected in [
-        (b"", ""),
-        (b"\x91\x00\x0801234", "01234"),
-        (b"\x8e\x00\x05\x91\x00\x0801234\x8e", "01234"),
-        (b"\x91\x00\x0801234\x91\x00\x0801235", "01235"),
-        (b"\x91\x00\x080123", ""),
-        (b"\x91\x00\x080123\x7f", ""),
-        (b"\x91\x00\x080123 ", ""),
-        (b"\x91\x00\x09012345", ""),
-    ]:
-        same(f"{sent!r}", number_in(sent), expected)
-
-
-TABLES = [entries, answers, known, of_the_line, numbers]
+TABLES = [entries, answers, known, of_the_line]

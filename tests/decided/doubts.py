@@ -1,95 +1,58 @@
-"""Which news of a game somebody is to look at: what the board shows when, and what is told of it."""
+"""What somebody is to look at, in words, and how it is kept."""
 
+import tempfile
 from typing import List, Tuple
 
-from live.game.doubts import AFTER_GAP, SIDES, Doubts, Gap, elsewhere, is_late
+from live.game.alarms import Alarms, kept_looks
+from live.game.attended import Answers, Doubt
+from live.game.doubted import byte_of, look_of
+from live.game.files import Paths
 from live.game.looks import OVER, Look, Looks
-from live.device.protocol import SQUARES, picture_of_placement
-from live.game.report import Event, Move, event_of
+from live.game.report import Move
 
-from decided.cases import cases
 from decided.table import same
 
-# In most cases Black's queen goes from g4 to f3 with check. In some Kg1 Qg4+ Kh1 Qf3+ come then, once shown whole, and once so
-# that the queen is lifted before the king stands on g1: no picture shows Kg1 whole, and both stand elsewhere then.
+PLIES = [Move("1.", "e4"), Move("1...", "e5"), Move("2.", "Nf3", "0:09:58")]
+# Lines of the program, and what they say on the screen in a game of these plies.
+SAID: List[Tuple[str, str]] = [
+    ("look at 3 LATE", "LOOK at 2. Nf3: it corrects a move late, so moves may be missing: compare with the score sheets"),
+    ("look at 1 ELSEWHERE", "LOOK at 1. e4: pieces of the other side were on other squares before it, so moves may be missing: compare with the score sheets"),
+    ("look after 2 BOTH-ELSEWHERE", "LOOK after 1... e5: pieces of both sides were on other squares, so moves may be missing: compare with the score sheets"),
+    ("look after 3 AFTER-GAP", "LOOK after 2. Nf3: the board wasn't heard for a time, so moves may be missing: compare with the score sheets"),
+    ("look at 3 TAKEN-BACK", "LOOK at 2. Nf3: both players went straight back: if they took their moves back, take them off here too"),
+    ("look at 3 UNPRESSED", "LOOK at 2. Nf3: six moves were made and nobody pressed the clock: if the game is over, take them off here"),
+    ("look at 3 OTHER-TIME", "LOOK at 2. Nf3: players think while the other side's time runs: the clock may lie the other way round"),
+    ("look at 3 NEW-WORD", "LOOK at 2. Nf3: moves may be missing: compare with the score sheets"),
+    ("look after 4 LATE", "LOOK after ply 4: it corrects a move late, so moves may be missing: compare with the score sheets"),
+    ("look since 2 STOPPED 1", "LOOK since 1... e5: a move was made while the clock was stopped: if the players only tried it, take it off here"),
+    ("look since 2 STOPPED 3", "LOOK since 1... e5: 3 moves were made while the clock was stopped: if the players only tried them, take them off here"),
+    ("look since 0 STOPPED 2", "LOOK since the start: 2 moves were made while the clock was stopped: if the players only tried them, take them off here"),
+]
 
 
-def event(words: str) -> Event:
-    """That of a line, of its words behind the offset."""
-    found = event_of(words)
-    assert found, words
-    return found
+def words() -> None:
+    """What is said of the program's lines."""
+    for text, expected in SAID:
+        (answer,) = Answers().take(f"keep\n{text}\ndone -\n".encode())
+        same(text, [look_of(doubt, PLIES).text for doubt in answer.doubts], [expected])
+    (answer,) = Answers().take(b"keep\nlook at 3 LATE\nlook SUSPECT 3\ndone 5\n")
+    same("two of them", answer.doubts, [Doubt("at", 3, "LATE"), Doubt("SUSPECT", 3, "SUSPECT")])
+    two, three = (look_of(Doubt("since", 2, "STOPPED", count), PLIES) for count in (2, 3))
+    same("another move while the clock is stopped", Looks().with_one_more(two).with_one_more(three).open, (three,))
 
 
-def told() -> None:
-    """Of the events of each case, what is to be looked at."""
-    for name, lines, expected in cases("doubts", "told"):
-        doubts = Doubts()
-        seen: List[List[str]] = []
-        for line in lines:
-            when, words = line.split(" ", 1)
-            if when in ("away", "restart"):
-                doubts.away(float(words), when == "restart")
-                continue
-            if when == "back":
-                doubts.put_back(picture_of_placement(words))
-                continue
-            if words == "stands":
-                look = doubts.stands(float(when))
-            else:
-                look = doubts.take(float(when), event(words))
-            seen += [[look.what, look.why]] if look else []
-        same(name, seen, expected)
-
-
-def paces() -> None:
-    """A gap hides a move where it is as long as a ply: the median of the last eight."""
-    gaps: List[Tuple[float, List[Tuple[str, str]]]] = [(9.9, []), (10, [("at 6... Kb8", AFTER_GAP)])]
-    for gap, expected in gaps:
-        doubts = Doubts()
-        seen: List[Tuple[str, str]] = []
-        doubts.take(0, event("position k7/8/8/8/8/8/8/K7 w - - 0 1"))
-        now = 0.0
-        for ply in range(12):
-            white = "position k7/8/8/8/8/8/8/K7 w - - 0 1"
-            now += (3, 90, 10)[0 if ply < 3 else 1 if ply < 6 else 2]  # of the last eight three took 90 s, and five 10 s
-            if ply == 11:
-                doubts.away(gap)
-            move = f"move {1 + ply // 2}{'...' if ply % 2 else '.'} Kb{8 if ply % 2 else 1}"
-            look = doubts.take(now, event(move))
-            doubts.take(now, event(white))
-            seen += [(look.what, look.why)] if look else []
-        same(f"a gap of {gap} s at 10 s a ply", seen, expected)
-
-
-def after_a_restart() -> None:
-    """Two kings have repeated a position, ten seconds a ply, and the recorder was away for a minute. If the board shows the game's
-    position at its first dump, four plies may have led back there; if it doesn't, the gap lasts until the next move."""
-    kings = ["k7/8/8/8/8/8/8/K7 w", "k7/8/8/8/8/8/8/1K6 b", "1k6/8/8/8/8/8/8/1K6 w", "1k6/8/8/8/8/8/8/K7 b", "k7/8/8/8/8/8/8/K7 w"]
-    for name, shown, expected in cases("doubts", "restarts"):
-        picture = picture_of_placement(shown) if shown else None
-        last = event("move 2... Ka8")
-        assert isinstance(last, Move)
-        doubts = Doubts.going_on([f"{fen} - - 0 1" for fen in kings], last, [10.0, 20.0, 30.0, 40.0], picture)
-        doubts.away(60, True)
-        looks = [doubts.stands(101)]
-        looks += [doubts.take(102, event(words)) for words in ("picture k7/8/8/8/8/8/8/1K6", "move 3. Kb1")]
-        same(name, [[look.what, look.why] for look in looks if look], expected)
-
-
-def limits() -> None:
-    """The three limits, each by itself."""
-    for seconds, expected in cases("doubts", "late"):
-        same(f"a correction after {seconds} s is late", is_late(seconds), expected)
-    for gap, pace, expected in cases("doubts", "gaps"):
-        same(f"{gap} s at {pace} s a ply hide a move", Gap(gap).may_hide(True, pace, False), expected)
-        same(f"{2 * gap} s at {pace} s a ply lead back", Gap(2 * gap).may_hide(False, pace, False), expected)
-        same(f"{gap} s at {pace} s a ply, repeated", Gap(gap, True).may_hide(False, pace, True), expected)
-        same(f"{gap} s at {pace} s a ply, a restart", Gap(gap, True).may_hide(True, pace, False), False)
-    for placement, shown, *expected in cases("doubts", "elsewhere"):
-        position, picture = picture_of_placement(placement), picture_of_placement(shown)
-        found = [sorted(SQUARES[square] for square in elsewhere(position, picture, side)) for side in SIDES]
-        same("White's and Black's pieces elsewhere", found, expected)
+def places() -> None:
+    """With which byte each came, where the plies came with the bytes 70, 140 and 210."""
+    for where, plies, expected in (("at", 3, 210), ("at", 1, 70), ("after", 2, 141), ("since", 2, 210), ("since", 0, 70), ("at", 4, 0), ("after", 0, 0)):
+        same(f"{where} {plies}", byte_of(Doubt(where, plies, "LATE"), [70, 140, 210]), expected)
+    with tempfile.TemporaryDirectory() as folder:
+        alarms = Alarms(Paths(f"{folder}/game"))
+        for name, byte in (("at 1. e4", 70), ("after 1. e4", 71), ("at 1... e5", 140), ("the cable", 0)):
+            same(name, (alarms.add(Look(name, "why"), byte), alarms.add(Look(name, "why"), byte)), (True, False))
+        alarms.end(71)
+        same("the game has 71 bytes", [look.what for look in alarms.looks.open], ["at 1. e4", "the cable"])
+        same("seen", alarms.acknowledge(), "LOOK at 1. e4: why; LOOK the cable: why")
+        same("none is kept", kept_looks(Paths(f"{folder}/game")), Looks())
 
 
 def kept() -> None:
@@ -111,4 +74,4 @@ def kept() -> None:
     same("an old file", Looks.of_content(b"what is this?\n").short, "LOOK at the game")
 
 
-TABLES = [told, paces, after_a_restart, limits, kept]
+TABLES = [words, places, kept]

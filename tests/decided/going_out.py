@@ -8,11 +8,14 @@ import sys
 import tempfile
 import threading
 import time
-from typing import Callable, List, Optional, Tuple
+import zlib
+from dataclasses import replace
+from typing import Callable, List, Optional, Sequence, Tuple
 
 from live.broadcast import kept
+from live.broadcast.fronts import Fronts
 from live.broadcast.going_out import GoingOut, delay_of, read_command, read_delay
-from live.broadcast.history import ALWAYS, History, Shot, due
+from live.broadcast.history import ALWAYS, Front, History, Shot, due
 from live.broadcast.late import Late
 from live.broadcast.publishing import Plan, last_line, run
 from live.broadcast.running import Clocks, Running, seconds_of, side_between
@@ -26,10 +29,12 @@ from decided.table import refused, same
 
 TOP = pathlib.Path(__file__).resolve().parents[2]
 START, AFTER_E4, AFTER_E5 = "start", "after e4", "after e5"
-QUIET = Shot(positions=(START,), text=b"[White]\n\n*\n\n")
-E4 = Shot("*", (Ply("e4", "1:29:55"),), (START, AFTER_E4), b"[White]\n\n1. e4 *\n\n", Clocks("1:29:55", "1:30:00", "b", 100.0))
-E5 = Shot("*", (Ply("e4", "1:29:55"), Ply("e5")), (START, AFTER_E4, AFTER_E5), b"[White]\n\n1. e4 e5 *\n\n")
-WON = Shot("1-0", E5.moves, E5.positions, b"[White]\n\n1. e4 e5 1-0\n\n")
+FRONTS = [Front("01", size, size % 7) for size in (67, 100, 110, 177)]
+QUIET = Shot(positions=(START,), text=b"[White]\n\n*\n\n", front=FRONTS[0])
+E4 = Shot("*", (Ply("e4", "1:29:55"),), (START, AFTER_E4), b"[White]\n\n1. e4 *\n\n", Clocks("1:29:55", "1:30:00", "b", 100.0), "", FRONTS[1], 100.0)
+E5 = Shot("*", (Ply("e4", "1:29:55"), Ply("e5")), (START, AFTER_E4, AFTER_E5), b"[White]\n\n1. e4 e5 *\n\n", front=FRONTS[2])
+WON = Shot("1-0", E5.moves, E5.positions, b"[White]\n\n1. e4 e5 1-0\n\n", front=FRONTS[3])
+SAID = {shot.front: replace(shot, clocks=replace(shot.clocks, runs="", at=0.0), front=None) for shot in (QUIET, E4, E5, WON) if shot.front}
 
 
 def shown_when() -> None:
@@ -94,33 +99,66 @@ def game_goes_by() -> None:
     same("without a delay it is shown at once", plain.shot, E4)
 
 
+def read_again(content: bytes, boot: str, now: float, lost: Sequence[Front] = ()) -> History:
+    """What a restart has, if these bytes of the capture are lost."""
+    found = kept.read(content, boot, now)
+    return found.history(900.0, [None if stamp.front in lost else SAID.get(stamp.front) for stamp in found.stamps])
+
+
 def restarts() -> None:
     """What a process kept before it was killed, read by the next one, at any moment, as far as it was written."""
     whole = History(900.0)
     for now, shot in ((0.0, QUIET), (60.0, E4), (100.0, E5), (130.0, WON)):
         whole.take(now, shot)
     content = kept.content_of(whole, "this start")
-    again = kept.read(content, "this start", 140.0, 900.0)
+    again = read_again(content, "this start", 140.0)
     same("all of it", (again.entries, again.shown), (whole.entries, 0))
+    same("with no move, clock or result", [word for word in (b"e4", b"e5", b"1:29", b"1-0", b"White", b"start,") if word in content], [])
     for now, text in ((140.0, QUIET), (959.0, QUIET), (960.0, E4), (1000.0, E5), (1030.0, WON)):
-        again = kept.read(content, "this start", now, 900.0)
+        again = read_again(content, "this start", now)
         again.look(now)
         same(f"killed, and read at {now}", again.shot, text)
-    again = kept.read(content + kept.shown_line(2), "another start", 5.0, 900.0)
+        renewed = read_again(kept.content_of(again, "this start"), "this start", now)
+        renewed.look(now)
+        same("and killed once more", (renewed.shot, renewed.entries), (again.shot, again.entries))
+    again = read_again(content + kept.shown_line(2), "another start", 5.0)
     again.look(5.0)
     same("after a start of the computer what was shown stays", again.shot.text, E4.text)
     same("its clock stands", again.shot.clocks, Clocks("1:29:55", "1:30:00"))
     same("and the rest came just now", [entry.came for entry in again.entries], [ALWAYS, 5.0, 5.0])
-    again = kept.read(content, "this start", 50.0, 900.0)
+    again = read_again(kept.content_of(again, "this start"), "this start", 6.0)
+    again.look(6.0)
+    same("also after a kill", (again.shot.text, [entry.came for entry in again.entries]), (E4.text, [ALWAYS, 5.0, 5.0]))
+    again = read_again(content, "this start", 50.0)
     same("times that are still to come are another clock's", [entry.came for entry in again.entries], [50.0] * 4)
+    for lost, shown, at_last in ((FRONTS[1:2], QUIET, WON), (FRONTS[:2], QUIET, WON), (FRONTS[3:], E4, E5), (FRONTS[1:], QUIET, QUIET), (FRONTS, Shot(), Shot())):
+        again = read_again(content, "this start", 960.0, lost)
+        again.look(960.0)
+        then = read_again(content, "this start", 2000.0, lost)
+        then.look(2000.0)
+        same(f"without {len(lost)} of its fronts", (again.shot, then.shot), (shown, at_last))
+    for lost, shown in ((FRONTS[2:3], E4), (FRONTS[1:3], QUIET), (FRONTS[:3], QUIET)):
+        again = read_again(content + kept.shown_line(3), "this start", 500.0, lost)
+        again.look(500.0)
+        same(f"of what is shown {len(lost)} have other bytes", (again.shot, again.next_at), (shown, 1030.0))
     sizes = []
     for size in range(len(content)):
-        cut = kept.read(content[:size], "this start", 2000.0, 900.0)
+        cut = read_again(content[:size], "this start", 2000.0)
         same(f"the first {size} bytes are the first entries", cut.entries, whole.entries[: len(cut.entries)])
         sizes.append(len(cut.entries))
     same("one more for each line", sorted(set(sizes)), [0, 1, 2, 3, 4])
-    for damaged in (b"", b"\x00\xff\n", b"{}\n", b"[]\n", b'{"boot":1}\n{"came":"x"}\n', content.replace(b'"moves":[1', b'"moves":["1"')):
-        same(f"what can't be read: {damaged[:20]!r}", len(kept.read(damaged, "this start", 2000.0, 900.0).entries) < 4, True)
+    earlier = b'{"came":60.0,"result":"*","moves":[0,["e4",""]],"positions":[0,"start"],"text":[0,"x"],"clocks":["","","",0.0]}\n{"shown":1}\n'
+    for damaged in (b"", b"\x00\xff\n", b"{}\n", b"[]\n", b'{"boot":1}\n{"came":"x"}\n', content.replace(b'"of":["01",110', b'"of":["01"'), earlier):
+        same(f"what can't be read: {damaged[:20]!r}", len(kept.read(damaged, "this start", 2000.0).stamps) < 4, True)
+    same("what an earlier version has hidden stays hidden", read_again(earlier, "this start", 2000.0).entries, [])
+
+
+def said_late(paths: Paths, delay: float, now: float) -> Late:
+    """The next process: the program has said again what was kept."""
+    late = Late(paths, delay, now)
+    same("before that nothing is shown", (late.shot, late.history.next_at), (Shot(), None))
+    late.said(now, SAID)
+    return late
 
 
 def on_the_disk() -> None:
@@ -128,19 +166,22 @@ def on_the_disk() -> None:
     with tempfile.TemporaryDirectory() as folder:
         paths = Paths(f"{folder}/01")
         late = Late(paths, 900.0, 0.0)
+        same("nothing was said before", late.to_say, [])
         for now, shot in ((0.0, QUIET), (60.0, E4)):
             late.take(now, shot)
         same("the first process", (late.shot, late.history.next_at), (QUIET, 960.0))
         late = Late(paths, 900.0, 500.0)
+        same("what must be said again", (late.to_say, late.ends_at), (FRONTS[:2], 960.0))
+        late = said_late(paths, 900.0, 500.0)
         same("the next one", (late.shot, late.history.next_at), (QUIET, 960.0))
         late.take(520.0, E5)
-        late = Late(paths, 900.0, 1000.0)
+        late = said_late(paths, 900.0, 1000.0)
         same("and one more", (late.shot, late.history.next_at), (E4, 1420.0))
         late.look(1420.0)
         same("up to the end", (late.shot, late.history.is_hidden), (E5, False))
-        late = Late(paths, 900.0, 1430.0)
+        late = said_late(paths, 900.0, 1430.0)
         same("what was shown is shown", late.shot, E5)
-        late = Late(paths, 3600.0, 1430.0)
+        late = said_late(paths, 3600.0, 1430.0)
         same("with a longer delay too", late.shot, E5)
         os.unlink(paths.delayed)
         late = Late(paths, 900.0, 1500.0)
@@ -149,6 +190,26 @@ def on_the_disk() -> None:
         late = Late(paths, 0.0, 1600.0)
         late.take(1600.0, WON)
         same("without a delay all is shown", (late.shot, os.path.exists(paths.delayed)), (WON, False))
+
+
+def how_far_a_capture_has_come() -> None:
+    """It grows, ends, goes on, is cut, and another one takes its place: its front is always that of the file."""
+    with tempfile.TemporaryDirectory() as folder:
+        paths, fronts = Paths(f"{folder}/01"), Fronts()
+        same("none", fronts.now(paths), None)
+        capture, end = pathlib.Path(paths.capture), pathlib.Path(paths.end)
+        for content, mark in ((b"", b""), (b"abc", b""), (b"abcdef", b""), (b"abcdefghi", b"4\n"), (b"abcdefghi", b""), (b"xyz", b""), (b"xyz", b"99\n")):
+            capture.write_bytes(content)
+            end.write_bytes(mark)
+            size = min(int(mark or 99), len(content))
+            same(f"{content!r}, ends at {mark!r}", fronts.now(paths), Front("01", size, zlib.crc32(content[:size])))
+        capture.rename(paths.before_back(1))
+        capture.write_bytes(b"other")
+        same("another one", fronts.now(paths), Front("01", 5, zlib.crc32(b"other")))
+        capture.unlink()
+        capture.symlink_to(paths.before_back(1))
+        os.mkfifo(f"{folder}/02.dgt")
+        same("a pipe", fronts.now(Paths(f"{folder}/02")), None)
 
 
 def kept_delays() -> None:
@@ -429,5 +490,5 @@ def for_spectators() -> None:
     ))  # fmt: skip
 
 
-TABLES = [shown_when, game_goes_by, restarts, on_the_disk, kept_delays, clocks_run, runs_of_a_command, one_run_at_a_time,
+TABLES = [shown_when, game_goes_by, restarts, on_the_disk, how_far_a_capture_has_come, kept_delays, clocks_run, runs_of_a_command, one_run_at_a_time,
           scripts_of_the_docs, for_spectators]  # fmt: skip

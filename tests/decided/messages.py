@@ -394,8 +394,8 @@ AT_THE_START = {
     "board": "asked_first attended_game board cable disk lingering on_the_way plan recorder recording single standing state typed_lines whose",
     "device": "connection ended line network_address protocol serial_line",
     "doors": "calls dgt_live door",
-    "game": "alarms attended attending control course doubts edited ending file_names files forfeiting front game log looks making_pgn names opening options "
-    "program reading reply report stopped_clock tags timed times",
+    "game": "alarms attended attending control course doubted edited ending file_names files forfeiting front game log looks making_pgn names opening options "
+    "program reading reply report tags timed times",
     "terminal": "columns screen terminal",
 }
 HEAVY = ["pathlib", "urllib", "hashlib", "json", "email", "traceback", "datetime", "zlib", "zipfile", "shlex"]

@@ -28,6 +28,7 @@ def words() -> None:
         options = Options(**given)
         same(f"record {given}", list(options.of_record()), of_recording)
         same(f"watch {given}", list(options.of_board()), of_reading)
+        same(f"live {given}", sorted(options.of_live()), sorted(of_recording + ["--recover"] * bool(options.recover)))
         same(f"{given} is kept", Options.of_text(options.text()), options)
         same(f"{given} as it is typed", Options.of_words(as_typed(options.words())), options.begun(None))
 

@@ -108,8 +108,8 @@ def kept() -> None:
     options = Options.of_words(("--rotated", "--recover", "--white", "Anna"))
     same("of record", options.of_record(), ("--rotated", "--white=Anna"))
     same("of the board", options.of_board(), ("--rotated",))
-    same("of live", options.of_live(), ("--rotated", "--recover"))
-    same("of live, strict", Options.of_words(("--strict", "--white", "Anna")).of_live(), ())
+    same("of live", options.of_live(), ("--rotated", "--recover", "--white=Anna"))
+    same("of live, strict", Options.of_words(("--strict", "--white", "Anna")).of_live(), ("--white=Anna",))
     same("no longer", options.recovering(False).words(), ("--rotated", "--white=Anna"))
 
 

@@ -1,7 +1,5 @@
 """Frames, dumps, placements: worked by hand from FORMATS, 'What the board sends'."""
 
-from typing import List
-
 from live.device.protocol import FrameKind, Frames
 from live.device.protocol import differing, picture_of_placement, serial_of
 
@@ -28,20 +26,6 @@ def streams() -> None:
         same(text + ", unfinished", bool(frames.under_way), unfinished)
 
 
-def whole_frames() -> None:
-    """Frames that are taken at once are those that are taken byte by byte."""
-    for text, expected, unfinished in cases("protocol", "streams"):
-        frames, sent, at = Frames(), bytes_of(text), 0
-        seen: List[List[object]] = []
-        while at < len(sent):
-            kind = frames.take_whole(sent, at)
-            at += len(frames.whole) if kind else 1
-            kind = kind or frames.take(sent[at - 1])
-            seen += [[at - 1, kind.value]] if kind else []
-        same(text + ", at once", seen, expected)
-        same(text + ", at once, unfinished", bool(frames.under_way), unfinished)
-
-
 def pictures() -> None:
     """The codes of a placement."""
     for name, text, first, codes in cases("protocol", "placements"):
@@ -53,4 +37,4 @@ def pictures() -> None:
     same("requests", [DUMP_REQUEST.decode(), START_REQUEST.decode()], cases("protocol", "requests"))
 
 
-TABLES = [serials, streams, whole_frames, pictures]
+TABLES = [serials, streams, pictures]

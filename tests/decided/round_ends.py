@@ -34,8 +34,10 @@ TOLD = [
     (Question(0.0, hidden=True), "spectators see the last moves at 15:20: leave it running until then. To end it now, type q again"),
 ]
 ANSWERS: List[Tuple[Answer, str]] = [
-    ((DONE, "added to round/02: the result 1-0"), "2: added to round/02: the result 1-0. If another board was meant, type 2 *"),
-    ((DONE, "added to round/02: the result 1/2-1/2"), "2: added to round/02: the result 1/2-1/2. If another board was meant, type 2 *"),
+    ((DONE, "added to round/02: the result 1-0 after 1. e4, 1 ply"),
+     "2: added to round/02: the result 1-0 after 1. e4, 1 ply. If another board was meant, type 2 *"),
+    ((DONE, "added to round/02: the result 1/2-1/2 before the first move"),
+     "2: added to round/02: the result 1/2-1/2 before the first move. If another board was meant, type 2 *"),
     ((DONE, "added to round/02: Nf3 Nc6"), "2: added to round/02: Nf3 Nc6"),
     ((DONE, "added to round/02: Nf3; the result 1-0 is gone: add it again"), "2: added to round/02: Nf3; the result 1-0 is gone: add it again"),
     ((REFUSED, "refused: 2-0: neither a move nor a result"), "2 refused: 2-0: neither a move nor a result"),

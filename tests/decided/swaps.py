@@ -58,7 +58,7 @@ def told_at_once() -> None:
     cable = Cable(guard, NO_PROGRAM, Screen(None), "/dev/none", False, ITS_OWN, hears)
     cable.plugged()
     own, other = (Told(0.0, HEARD, b"\x91\x00\x08" + number.encode()) for number in (ITS_OWN, THE_OTHER))
-    is_own, is_other = Answer(handling=KEEP), Answer(handling=OTHER, other=THE_OTHER)
+    is_own, is_other = Answer(own.sent, handling=KEEP), Answer(handling=OTHER, other=THE_OTHER)
     for name, hears_it, message, answer, told, on_it in (
         ("its own", cable.answered, own, is_own, [], ""),
         ("another", cable.answered, other, is_other, [f"another {THE_OTHER}", "missing"], THE_OTHER),
@@ -73,13 +73,18 @@ def told_at_once() -> None:
 
 
 def its_own_number() -> None:
-    """A game whose board's number isn't known has the first one, also if it comes in parts."""
+    """A game whose board's number isn't known has the one that the program says."""
     guard = Guard(Loop(), lambda error: None, lambda error: None)
     hears = Hears()
     cable = Cable(guard, NO_PROGRAM, Screen(None), "/dev/none", False, "", hears)
-    for part, told in ((b"\x86\x00\x91\x00\x080", []), (b"000", []), (b"1\x86", [f"numbered {ITS_OWN}"]), (b"\x91\x00\x0800002", [])):
+    for part, said, told in (
+        (b"\x86\x00\x91\x00\x080", "", []),
+        (b"000", "", []),
+        (b"1\x86", ITS_OWN, [f"numbered {ITS_OWN}"]),
+        (b"\x91\x00\x0800001", "", []),
+    ):
         hears.told.clear()
-        cable.answered(Told(0.0, HEARD, part), Answer(handling=KEEP))
+        cable.answered(Told(0.0, HEARD, part), Answer(part, handling=KEEP, number=said))
         same(f"{part!r}", hears.told, told)
     same("its number", cable.number, ITS_OWN)
 

@@ -32,8 +32,8 @@ export function sentences(counts, cases) {
   for (const [said, text, place, expected] of cases("sentences")) {
     counts.same(said, refuse(answer(1, `add: ${said}\n`), text, place).message, expected);
   }
-  for (const [said, text, expected] of cases("added")) {
-    counts.same(said, meaning(answer(0, `add: ${said}\n`), text), expected);
+  for (const [said, text, plies, expected] of cases("added")) {
+    counts.same(said, meaning(answer(0, `add: ${said}\n`), text, plies), expected);
   }
   for (const [fen, played, text, before, expected] of cases("whose move")) {
     counts.same(`${text} after ${played}`, whoseMove(fen, played, text, before), expected);

@@ -1,5 +1,5 @@
 /** Options: the words of a call of the program, and what is typed for a tag. */
-import { ofBoard, ofRecord, optionsOf, withTag, written } from "/web/game/options.js";
+import { ofBoard, ofLive, ofRecord, optionsOf, withTag, written } from "/web/game/options.js";
 
 /** `x*101` is so many letters. */
 function expanded(text) {
@@ -12,6 +12,8 @@ export function words(counts, cases) {
     const options = optionsOf(given);
     counts.same(`record ${JSON.stringify(given)}`, ofRecord(options), ofRecording);
     counts.same(`watch ${JSON.stringify(given)}`, ofBoard(options), ofReading);
+    const ofAttending = options.recover ? [...ofRecording, "--recover"] : ofRecording;
+    counts.same(`live ${JSON.stringify(given)}`, ofLive(options).toSorted(), ofAttending.toSorted());
   }
 }
 

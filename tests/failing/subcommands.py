@@ -71,7 +71,7 @@ TURNS = [
     (b"95 heard 8\n" + NUMBER, b"kept 8\n" + NUMBER + b"keep\nnumber 01234\ndone 910\n"),
     (
         b"120 heard 67\n" + INITIAL,
-        b"kept 67\n" + INITIAL + b"74 picture rnbqkbnr/pppppppp/8/8/8/8/PPPPPPPP/RNBQKBNR\n74 agrees\nkeep\nstate AGREES 0\ndone 85\n",
+        b"kept 67\n" + INITIAL + b"74 picture rnbqkbnr/pppppppp/8/8/8/8/PPPPPPPP/RNBQKBNR\n74 agrees\nkeep\nstate AGREES 0\ndone 885\n",
     ),
     (b"1005 text\n", b"game 99\n" + pgn(white="Anna") + b"keep\nask B\ndone 1000\n"),
 ]

@@ -1,11 +1,11 @@
 """What `live` answers. Times of requests are a second apart, the next one half a second after an update; a square that differs is in a
 player's hand for its first ten seconds."""
 
-from typing import Any, Iterable, Tuple
+from typing import Any, Iterable, List, Tuple
 
 from decided.table import same
-from given.case import Case, but, leave, leave_by_bytes, left_by, pgn, updates
-from given.messages import E2_EMPTY, E4_PAWN, INITIAL, TURNED, TWO_KINGS
+from given.case import Case, but, dump, leave, leave_by_bytes, left_by, pgn, updates
+from given.messages import E2_EMPTY, E4_PAWN, INITIAL, KINGS_PAWN, TIME, TURNED, TWO_KINGS
 from given.recorded import LONG_NAME
 from given.recovered import BISHOP, HIDDEN
 from given.watched import START
@@ -47,10 +47,10 @@ CALL = [
     (b"0 begin 0\n", b"keep\nstate WAITS -\ndone -\n"),
     (b"5 opened\n", b"keep\nask EBK\ndone 1000\n"),
     (b"95 heard 8\n" + NUMBER, b"kept 8\n" + NUMBER + b"keep\nnumber 01234\ndone 910\n"),
-    (b"120 heard 67\n" + INITIAL, b"kept 67\n" + INITIAL + SHOWN + b"keep\nstate AGREES 0\ndone 85\n"),
+    (b"120 heard 67\n" + INITIAL, b"kept 67\n" + INITIAL + SHOWN + b"keep\nstate AGREES 0\ndone 885\n"),
     (b"1005 wake\n", b"keep\nask B\ndone 1000\n"),
-    (b"1100 heard 5\n" + E2_EMPTY, b"kept 5\n" + E2_EMPTY + LIFTED + b"keep\nstate IN-HAND 0 e2\ndone 500\n"),
-    (b"1500 gone\n", b"keep\nstate UNPLUGGED 0\ndone 100\n"),
+    (b"1100 heard 5\n" + E2_EMPTY, b"kept 5\n" + E2_EMPTY + LIFTED + b"keep\nstate IN-HAND 0 e2\ndone 905\n"),
+    (b"1500 gone\n", b"keep\nstate UNPLUGGED 0\ndone -\n"),
 ]
 
 # The next call, 35 s later: another board is on the cable until the arbiter takes it.
@@ -111,12 +111,12 @@ MOVED = (
 # The first call but its last entry; then the pawn is set down.
 PLAYED = [
     *CALL[:6],
-    (b"1200 text\n", game(pgn()) + b"keep\ndone 400\n"),
+    (b"1200 text\n", game(pgn()) + b"keep\ndone 805\n"),
     (
         b"1300 heard 5\n" + E4_PAWN,
-        b"kept 5\n" + E4_PAWN + MOVED + b"keep\nstate AGREES 0\ndone 500\n",
+        b"kept 5\n" + E4_PAWN + MOVED + b"keep\nstate AGREES 0\ndone 705\n",
     ),
-    (b"1400 text\n", game(pgn("1. e4 *")) + b"keep\ndone 400\n"),
+    (b"1400 text\n", game(pgn("1. e4 *")) + b"keep\ndone 605\n"),
 ]
 
 TAGS = ["--event", "Open", "--site", "Oslo", "--date", "2024.??.??", "--round", "1", "--white", 'Anna "A"', "--black", ""]
@@ -176,6 +176,91 @@ KEPT = [
     turns([(kept(b"", b""), b"keep\ndone -\ndone -\n"), *CALL]),
 ]
 
+# ---- alarms
+
+# What the host suspects is said once, and again when a call begins, until somebody has looked.
+SUSPECTED = [
+    *CALL[:4],
+    (b"200 suspect 3\n", b"look SUSPECT 3\nkeep\ndone 805\n"),
+    (b"210 suspect 7\n", b"look SUSPECT 7\nkeep\ndone 795\n"),
+    (b"220 wake\n", b"keep\ndone 785\n"),
+    (b"230 ok\n", b"keep\ndone 775\n"),
+    (b"240 suspect 9\n", b"look SUSPECT 9\nkeep\ndone 765\n"),
+    (b"250 back\n", b"keep\ndone 755\n"),
+    (b"1500 gone\n", b"keep\nstate UNPLUGGED 0\ndone -\n"),
+    (b"0 begin 75\n", b"look SUSPECT 9\nkeep\nstate UNPLUGGED 0\ndone -\n"),
+    (b"0 ok\n", b"keep\ndone -\n"),
+    (b"0 begin 75\n", b"keep\nstate UNPLUGGED 0\ndone -\n"),
+]
+
+ALARMS = [
+    turns(SUSPECTED),
+    # of calls before: the answer to their capture says none
+    turns([(kept(TIMES + b"1600 suspect 3\n1700 ok\n1800 suspect 7\n"), REPORT), (b"0 begin 80\n", b"look SUSPECT 7\nkeep\nstate UNPLUGGED 300\ndone -\n")]),
+]
+
+# A pawn goes to e4, and to e3 more than ten seconds later. In between the board is heard.
+PAWN = INITIAL + updates("e2- e4P e4P e4- e3P")
+AT_E4 = HEADING + b"0 begin 0\n5 opened\n120 heard 67\n1300 heard 10\n6000 heard 5\n"
+
+# 1. e4 e5, and nothing more until the board shows the black pawn again.
+BOTH = INITIAL + updates("e2- e4P e7- e5p e5p")
+PLAYED_BOTH = HEADING + b"0 begin 0\n5 opened\n120 heard 67\n1300 heard 10\n2300 heard 10\n"
+
+# A clock runs, and is stopped. Then the knights are moved.
+RUNS, STANDS = TIME[:-1] + b"\x01", TIME
+TRIED = INITIAL + RUNS + updates("e2- e4P e7- e5p") + STANDS + updates("g1- f3N b8- c6n")
+STOPPED = HEADING + b"0 begin 0\n5 opened\n120 heard 67\n200 heard 10\n1300 heard 10\n2300 heard 10\n3000 heard 10\n6000 heard 10\n7000 heard 10\n"
+
+# A file of times and its capture; what the next call says of them when it begins.
+LOOKS = [
+    ("a late correction", AT_E4 + b"11301 heard 10\n", PAWN, [b"look at 1 LATE"]),
+    ("one in time", AT_E4 + b"11300 heard 10\n", PAWN, []),
+    ("one that was added", AT_E4 + b"11301 added 10\n", PAWN, []),
+    ("somebody has looked", AT_E4 + b"11301 heard 10\n12000 ok\n", PAWN, []),
+    ("the line was gone", PLAYED_BOTH + b"2400 gone\n62400 opened\n62500 heard 5\n", BOTH, [b"look after 2 AFTER-GAP"]),
+    ("nothing came for ten seconds", PLAYED_BOTH + b"12300 heard 5\n", BOTH, [b"look after 2 AFTER-GAP"]),
+    ("for less", PLAYED_BOTH + b"12299 heard 5\n", BOTH, []),
+    ("a stopped clock", STOPPED, TRIED, [b"look since 2 STOPPED 1", b"look since 2 STOPPED 2"]),
+    ("and a suspicion", STOPPED + b"8000 suspect 3\n", TRIED, [b"look since 2 STOPPED 1", b"look since 2 STOPPED 2", b"look SUSPECT 3"]),
+]
+
+# ---- how a game ends
+
+BOTH_PAWNS = dump("rnbqkbnr/pppp1ppp/8/4p3/4P3/8/PPPP1PPP/RNBQKBNR")
+KNIGHT = dump("rnbqkbnr/pppp1ppp/8/4p3/4P3/5N2/PPPP1PPP/RNBQKB1R")
+BLACK_WINS = dump("rnbq1bnr/pppppppp/8/4k3/3KP3/8/PPPP1PPP/RNBQ1BNR")  # after 1. e4
+HALF = dump("8/8/8/8/8/8/PPPPPPPP/RNBQKBNR")  # of the pieces are off the board
+
+
+def heard(at: int, sent: bytes) -> bytes:
+    return b"%d heard %d\n%s" % (at, len(sent), sent)
+
+
+def captured(*sent: bytes) -> List[bytes]:
+    """A capture of the calls before without times, and the beginning of a call."""
+    capture = b"".join(sent)
+    return [b"0 capture %d\n%s" % (len(capture), capture), b"0 begin %d\n" % len(capture)]
+
+
+SIGNED = [b"0 begin 0\n", heard(100, INITIAL), heard(1100, KINGS_PAWN), heard(3100, BLACK_WINS)]
+
+# What a host tells; in which answer what is said of the end.
+ENDS = [
+    ("the kings", [*SIGNED, b"13099 wake\n", b"13100 wake\n", b"13200 wake\n"], [(5, b"over STOOD 0-1 201 sure")]),
+    ("another move", [*SIGNED, heard(5000, BOTH_PAWNS)], [(4, b"over PLAYS-ON 0-1 201 sure")]),
+    ("two moves after it", [*SIGNED, heard(20000, BOTH_PAWNS), heard(25000, KNIGHT)], [(4, b"over STOOD 0-1 201 sure"), (5, b"played 2")]),
+    ("the start again", [*SIGNED, heard(9000, INITIAL)], [(4, b"over SET-UP 0-1 201 sure")]),
+    (
+        "no result",
+        [*SIGNED[:3], heard(21100, BOTH_PAWNS), heard(41100, HALF), heard(45000, INITIAL)],
+        [(5, b"over UNFINISHED * 201 sure")],
+    ),
+    ("a move of the set-up", [b"0 begin 0\n", heard(100, HALF), heard(1100, KINGS_PAWN), heard(5000, INITIAL)], [(3, b"begins 201")]),
+    ("a call before", captured(INITIAL, KINGS_PAWN, HALF, INITIAL), [(1, b"over UNFINISHED * 134 unsure")]),
+    ("a result of one", [*captured(INITIAL, KINGS_PAWN, BLACK_WINS), b"9999 wake\n", b"10000 wake\n"], [(3, b"over STOOD 0-1 201 sure")]),
+]
+
 # ---- what is no entry
 
 REFUSED = but(LIVE, status=1, err=b"input: no entry\n")
@@ -190,6 +275,8 @@ NO_ENTRIES = [
         b"5 opened 3\n",
         b"5 text 3\n",
         b"5 heard\n",
+        b"5 ok 3\n",
+        b"5 suspect\n",
         b"18446744073709551616 opened\n",  # 2^64
         b"0 capture 67108865\n",  # more than a capture may have
         b"12 heard 3\nab",  # it ends within an entry
@@ -252,8 +339,28 @@ LARGEST = but(LIVE, sent=b"0 capture 67108864\n", more=67108864, out=START + b"0
 
 def live() -> None:
     """`live` whole, and where a read gives one byte."""
-    leave("live", ATTENDED, NUMBERS, TEXTS, KEPT, NO_ENTRIES, BEFORE_NO_ENTRY, FAILING, CUT_OFF, OPTIONS, [UNTOLD, LARGEST])
-    leave_by_bytes("live byte by byte", ATTENDED, NUMBERS, TEXTS, KEPT, NO_ENTRIES, BEFORE_NO_ENTRY)
+    leave("live", ATTENDED, NUMBERS, TEXTS, KEPT, ALARMS, NO_ENTRIES, BEFORE_NO_ENTRY, FAILING, CUT_OFF, OPTIONS, [UNTOLD, LARGEST])
+    leave_by_bytes("live byte by byte", ATTENDED, NUMBERS, TEXTS, KEPT, ALARMS, NO_ENTRIES, BEFORE_NO_ENTRY)
+
+
+def ends() -> None:
+    """What is said of the end of a game, and when."""
+    for name, told, expected in ENDS:
+        _, out, _, _ = left_by(but(LIVE, sent=b"".join(told)))
+        answers, found = 0, []
+        for line in out.split(b"\n"):
+            answers += line.startswith(b"done ")
+            if line.startswith((b"over ", b"played ", b"begins ")):
+                found.append((answers, line))
+        same(name, found, expected)
+
+
+def looks() -> None:
+    """The alarms of the calls before that are open when a call begins."""
+    for name, times, capture, expected in LOOKS:
+        told = kept(times, capture) + b"0 begin %d\n" % len(capture)
+        _, out, _, _ = left_by(but(LIVE, sent=told))
+        same(name, [line for line in out.split(b"\n") if line.startswith(b"look")], expected)
 
 
 def recovers() -> None:
@@ -296,4 +403,4 @@ def offsets() -> None:
         same(f"{told[:12]!r}", lines, WITH_PAIRS)
 
 
-TABLES = [live, recovers, offsets]
+TABLES = [live, looks, ends, recovers, offsets]

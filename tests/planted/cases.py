@@ -5,6 +5,7 @@ from typing import Callable, Dict, List, Sequence, Tuple
 
 from decided.table import same
 from planted import checking, verdict, wrong_body, wrong_definition
+from planted.bare import bare
 from planted.rounds import next_round
 from planted.trying import tried
 from planted.wrong_body import Change, WrongBody
@@ -61,6 +62,83 @@ def places() -> None:
     same("a folder of modules", wrong_body.function_at("board", "src/a/b.rt", "fn f() {", 8), "board::a::b::f")
 
 
+BARE = """use std::io;
+
+const LIMIT: usize = 4;
+
+pub fn first(n: u64) -> u64
+    ensures { result ≡ n }
+{
+    n
+}
+
+impl Watch {
+    pub(crate) fn note(&mut self) {
+        loop {}
+    }
+}
+
+impl<W: Write> io::Write for Watch<W> {
+    fn flush(&mut self) -> Result<(), Error> {
+        loop {}
+    }
+}
+
+impl<'a> Line<'a> {
+    fn has(&self) -> bool {
+        loop {}
+    }
+}
+
+fn last() {}
+"""
+LONG = """const fn limit() -> usize {
+    4
+}
+
+fn long(
+    one: u64,
+    other: u64,
+) -> u64
+    requires sum {
+        one + other < 4
+    }
+{
+    if one < other {
+        other
+    } else {
+        one
+    }
+}
+
+fn plain(
+    one: u64,
+) -> u64 {
+    one
+}
+
+trait Named {
+    fn name(&self) -> u64;
+}
+"""
+LONG_BARE = LONG.replace("    if one < other {\n        other\n    } else {\n        one\n    }\n", "    loop {}\n").replace("    one\n}", "    loop {}\n}")
+HOLE = """use Rattle.board.proofs.streams.Line.has.Statement.{statement}
+
+pub has_spec : {M : Type 1} → statement M
+has_spec = ?
+"""
+
+
+def without_bodies() -> None:
+    answers = "proofs/streams/Line/has/Answers.antt", "proofs/streams/first/Answers.antt", "proofs/Lines.antt"
+    sources = {"src/streams.rt": SOURCE, **{it: "proved" for it in answers}}
+    left = bare("board", sources, {"board::streams::first"})
+    same("its body stays, the others go", left["src/streams.rt"], BARE)
+    same("its proof stays, and the lemmas", [left[it] for it in answers[1:]], ["proved", "proved"])
+    same("another one's proof is a hole", (left.get(answers[0]), left["proofs/streams/Line/has/Proof.antt"]), (None, HOLE))
+    same("long headings; a constant's value; what has no body", bare("c", {"src/lib.rt": LONG}, ())["src/lib.rt"], LONG_BARE)
+
+
 def edits() -> None:
     sources = {"src/lib.rt": "fn f() { 1 }\nfn g() { 1 + 2 }\n"}
     read: Callable[[str], object] = lambda text: wrong_body.read("c", "name", text, sources)
@@ -114,6 +192,13 @@ def verdicts() -> None:
     same("the goal is named", verdict.reason(said, "c::lines::add"), ", `returns-clause-items`")
     same("a refusal that no edit explains", verdict.others(said, frozenset({"c::lines::add"})), ["c::lines::Line::has"])
     same("it has ended", said.ended, True)
+    named = verdict.read("c", "./proofs/f/Answers.antt:1:1: error: `Rattle.c.g` is not in scope\nfn c::f: not proved\nonly=1 holes=0\n")
+    same("only a name is gone", [verdict.names_alone(it, name) for it, name in [(named, "c::f"), (said, "c::lines::add")]], [True, False])
+    calls = "fn c::f: no proof: `search` did not prove `returns`; it calls `c::g`, which is not proved\nonly=1 holes=0\n"
+    said = verdict.read("c", calls)
+    same("a goal without a proof file", (verdict.is_refused(said, "c::f"), verdict.reason(said, "c::f")), (True, ", `returns`"))
+    hole = verdict.read("c", "fn c::f: depends on a hole in `Rattle.c.proofs.g.Proof.g_spec`\nonly=1 holes=1\n")
+    same("a hole below refuses nothing", (hole.ended, verdict.is_refused(hole, "c::f")), (True, False))
     same("it has not", verdict.read("c", "error[E0308]: mismatched types\n").ended, False)
 
 
@@ -225,4 +310,4 @@ def libraries() -> None:
     same("what is below", checking.below(uses, "high"), ["low", "middle"])
 
 
-TABLES: Sequence[Callable[[], None]] = [places, edits, together, verdicts, plans, definitions, libraries]
+TABLES: Sequence[Callable[[], None]] = [places, without_bodies, edits, together, verdicts, plans, definitions, libraries]

@@ -37,8 +37,10 @@ def is_built(crates: pathlib.Path, uses: Dict[str, List[str]], name: str) -> boo
     return built.is_dir() and newest <= built.stat().st_mtime
 
 
-def words(top: pathlib.Path, crates: Dict[str, List[str]], name: str, only: Sequence[str], kept: pathlib.Path) -> List[str]:
-    """The words of a check of this crate, in its folder or a copy of it: whole, or only these functions."""
+def words(
+    top: pathlib.Path, crates: Dict[str, List[str]], name: str, only: Sequence[str], kept: pathlib.Path, *, has_holes: bool = False
+) -> List[str]:
+    """The words of a check of this crate, in its folder or a copy of it: whole, or only these functions; past holes, if it has any."""
     root = "src/main.rt" if (top / "crates" / name / "src" / "main.rt").is_file() else "src/lib.rt"
     said = [str(KIT / "bin" / "rattle"), "check", "--crate-name", name, root]
     own = [it for it in crates[name] if it in crates]
@@ -53,6 +55,8 @@ def words(top: pathlib.Path, crates: Dict[str, List[str]], name: str, only: Sequ
     said += ["--jobs", "1", "--links", f"{name}=", "--incremental", str(kept)]
     for function in only:
         said += ["--only", function]
+    if has_holes:
+        said.append("--allow-holes")
     return said
 
 

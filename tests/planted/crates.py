@@ -10,6 +10,7 @@ from typing import Callable, Dict, Iterator, List, Sequence
 
 import outside
 from planted import checking, verdict
+from planted.bare import bare
 from planted.trying import Check, Tried
 
 TOP = pathlib.Path(__file__).resolve().parents[2]
@@ -32,10 +33,20 @@ def files(crate: str, folder: str, names: Sequence[str]) -> Iterator[pathlib.Pat
 
 
 def check_in(crate: str, uses: Uses) -> Check:
-    """A check of functions of this crate."""
+    """A check of functions of this crate, with all that they call."""
 
     def check(texts: Dict[str, str], functions: List[str], kept: pathlib.Path) -> verdict.Said:
         return verdict.read(crate, checking.check(checking.words(TOP, uses, crate, functions, kept), texts))
+
+    return check
+
+
+def bare_check_in(crate: str, uses: Uses) -> Check:
+    """A check of functions of this crate without the bodies of all others."""
+
+    def check(texts: Dict[str, str], functions: List[str], kept: pathlib.Path) -> verdict.Said:
+        words = checking.words(TOP, uses, crate, functions, kept, has_holes=True)
+        return verdict.read(crate, checking.check(words, bare(crate, texts, functions)))
 
     return check
 

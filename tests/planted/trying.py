@@ -14,18 +14,21 @@ Check = Callable[[Dict[str, str], List[str], Path], verdict.Said]  # of sources:
 
 @dataclasses.dataclass(frozen=True)
 class Tried:
-    """A wrong body: whether the prover refuses it, and what to say of it."""
+    """A wrong body: whether the prover refuses it, and what to say of it; whether a goal of its own is refused, and not only a name
+    in its proof."""
 
     name: str
     refused: bool
     said: str
+    by_a_goal: bool = False
 
 
 def of_one(body: WrongBody, said: verdict.Said) -> Tried:
     """What a check says of one of its bodies that waits for no other."""
     refused = [it for it in sorted(body.functions) if verdict.is_refused(said, it)]
     if refused:
-        return Tried(body.name, True, f"refused: {refused[0]}{verdict.reason(said, refused[0])}")
+        by_a_goal = any(not verdict.names_alone(said, it) for it in refused)
+        return Tried(body.name, True, f"refused: {refused[0]}{verdict.reason(said, refused[0])}", by_a_goal)
     known = [it for it in sorted(body.functions) if it in said.statuses]
     return Tried(body.name, False, f"NOT REFUSED: {known[0]} is proved" if known else f"NO SUCH FUNCTION: {sorted(body.functions)}")
 
@@ -45,7 +48,7 @@ def halves(bodies: Sequence[WrongBody]) -> List[List[WrongBody]]:
 def tried(bodies: Sequence[WrongBody], sources: Dict[str, str], check: Check) -> Iterator[Tried]:
     """Tries these bodies: as many together as change different functions; in halves where a check has no verdict, since two of
     them may not compile together; once more without what it calls, where a function rests on another one with a wrong body."""
-    groups: List[Tuple[List[WrongBody], bool]] = [(list(bodies), False)]
+    groups: List[Tuple[List[WrongBody], bool]] = [(list(bodies), False)] if bodies else []
     with tempfile.TemporaryDirectory() as kept:
         while groups:
             group, is_last = groups.pop(0)

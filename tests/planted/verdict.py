@@ -4,9 +4,10 @@ import dataclasses
 import re
 from typing import Dict, FrozenSet, List, Tuple
 
-STATUS = re.compile(r"(?m)^fn (\S+): (proved|not proved|no proof|could not tell)(.*)$")
+STATUS = re.compile(r"(?m)^fn (\S+): (proved|not proved|no proof|could not tell|no holes|depends on a hole)(.*)$")
 WAITS = re.compile(r"it calls|it passes|a call of")
 OWN = re.compile(r"(?m)^(?:\./)?proofs/(\S+)/(?:Answers|Invariants|Proof)\.antt:\d+:\d+: error: (.*)$")
+OPEN = re.compile(r"`search` did not prove (`[^`]+`)")  # a goal of a function that has no proof file
 LOST = re.compile(r"has no field|is not in scope|has no `|was not admitted")
 
 
@@ -29,7 +30,7 @@ def read(crate: str, text: str) -> Said:
     return Said(
         {name: (status, more) for name, status, more in STATUS.findall(text)},
         {name: tuple(it) for name, it in errors.items()},
-        re.match(r"only=\d+ proved=\d+$|logic=not-proved|logic=proved", last) is not None,
+        re.match(r"only=\d+ (proved|holes)=\d+$|logic=not-proved|logic=proved", last) is not None,
         text,
     )
 
@@ -39,14 +40,25 @@ def is_refused(said: Said, function: str) -> bool:
     status, more = said.statuses.get(function, ("", ""))
     if status not in ("not proved", "no proof"):
         return False
-    return not WAITS.search(more) or any(not LOST.search(it) for it in said.errors.get(function, ()))
+    return not WAITS.search(more) or bool(goals(said, function))
+
+
+def goals(said: Said, function: str) -> List[str]:
+    """The goals of this function's proof that were refused."""
+    own = [it for it in said.errors.get(function, ()) if not LOST.search(it)]
+    return [it.partition(":")[0] for it in own] + OPEN.findall(said.statuses.get(function, ("", ""))[1])
+
+
+def names_alone(said: Said, function: str) -> bool:
+    """Whether this function isn't proved only since a proof file names what isn't there any more."""
+    return bool(said.errors.get(function)) and not goals(said, function)
 
 
 def reason(said: Said, function: str) -> str:
     """The first goal of this function's proof that was refused, to be put behind its name; nothing where it has none of its own."""
-    own = [it for it in said.errors.get(function, ()) if not LOST.search(it)]
+    own = goals(said, function)
     if own:
-        return f", {own[0].partition(':')[0]}"
+        return f", {own[0]}"
     return " (a proof file names what the edit took away)" if said.errors.get(function) else ""
 
 

@@ -5,8 +5,10 @@ import pathlib
 import re
 from typing import List
 
+from live.broadcast.history import Shot
 from played import words
 from played.boards import Board
+from played.hidden import hidden_shots
 from played.recorder import Live
 from played.stage import (
     RUY, RUY_TEXT, a_board, begun, bytes_of, ended, holds_within, kill, refuses, same, stop, until, until_game, until_line,
@@ -14,14 +16,16 @@ from played.stage import (
 from rounds.going_out import Clock
 from rounds.hall import plain
 
-from live.broadcast import kept
-
 LAST = "spectators see the last moves at "
 WAITS, AGAIN = "it goes on until then", "To end it now, Ctrl-C again"
 REST = "spectators get what they haven't seen of it"
 LEFT = "spectators haven't seen all moves. Start it again to show them, the last ones at "
 WON = RUY_TEXT.replace("*", "1-0")
 DRAWN = RUY_TEXT.replace("*", "1/2-1/2")
+EARLIER = b"""{"boot":"","delay":900.0}
+{"came":null,"result":"*","moves":[0],"positions":[0,"start"],"text":[0,"[]\\n\\n*\\n\\n"],"clocks":["","","",0.0]}
+{"shown":1}
+"""  # of an earlier version
 
 
 class Game:
@@ -52,8 +56,11 @@ class Game:
         until(lambda: self._kept()[-1:] == [text], f"{text}, kept", 0.02)
 
     def _kept(self) -> List[str]:
-        entries = kept.read(bytes_of(f"{self.name}.delayed"), "", 0.0, 0.0).entries
-        return [text_of(entry.shot.text) for entry in entries]
+        return [text_of(shot.text) for shot in self.hidden()]
+
+    def hidden(self) -> List[Shot]:
+        """What is shown and what is hidden, as a restart would have it."""
+        return hidden_shots(pathlib.Path(f"{self.name}.delayed"), self.folder)
 
     @property
     def shown(self) -> List[str]:
@@ -229,7 +236,7 @@ def away_at_the_end(folder: pathlib.Path) -> None:
 
 
 def list_lost(folder: pathlib.Path) -> None:
-    """It is killed, and the list of what is hidden is empty or gone: nothing goes out that --add or an option makes, and the same
+    """It is killed, and the list of what is hidden is empty, gone or an earlier version's: nothing goes out that --add or an option makes, and the same
     command hides the game for fifteen minutes more."""
     game = Game(folder)
     live = game.record()
@@ -237,8 +244,8 @@ def list_lost(folder: pathlib.Path) -> None:
     kill(live)
     game.board.pull()
     hidden = pathlib.Path(f"{game.name}.delayed")
-    for options, spoil in ((("--add", "1-0"), "empty"), (("--tag", "Section=A"), "gone"), (("--add", "*"), "gone"), (("--add", "1-0"), "gone")):
-        hidden.write_bytes(b"")
+    for options, spoil in ((("--add", "1-0"), "empty"), (("--tag", "Section=A"), "gone"), (("--add", "*"), "gone"), (("--add", "1-0"), "earlier")):
+        hidden.write_bytes(EARLIER if spoil == "earlier" else b"")
         if spoil == "gone":
             hidden.unlink()
         same(ended(Live("", game.name, *options)), 0)

@@ -75,18 +75,20 @@ def put_right_by_options(folder: pathlib.Path) -> None:
 
 
 def put_right_while_it_records(folder: pathlib.Path) -> None:
-    """`name White=Anna` while it records: the text follows, no byte of the board is missed, and it stays so after a kill. So do
-    the same options of another call, and the same line when the game is over."""
+    """`name White=Anna` while it records: the text follows, the board is asked once more, no byte of it is missed, and it is never said to
+    be waited for. It stays so after a kill. So do the same options of another call, and the same line when the game is over."""
     board, live = begin_game(folder, "--white", "Anne", "--black", "Ben", "--tag", "WhiteElo=2050", typed=True)
-    asked = board.asked.count(b"K")
+    asked, waited, sent = board.asked.count(b"K"), live.lines().count("waits for"), bytes_of(live.name + ".dgt")
     live.type("name White=Anna Event=Club cup")
     until_line(live, "White is now Anna, and was Anne; its event is now Club cup")
     until_tags(live.name, 'White "Anna"', 'Event "Club cup"')
     until(lambda: has(f"{live.name}.broadcast.pgn", 'White "Anna"', 'WhiteElo "2050"'), "the name in what is published")
-    same(board.asked.count(b"K"), asked)
+    until(lambda: board.asked.count(b"K") == asked + 1, "a request")
     board.play("g1f3")
     until_game(live.name, "1. e4 e5 2. Nf3 *")
     assert has(f"{live.name}.pgn", 'White "Anna"', 'Black "Ben"', 'Event "Club cup"')
+    same((board.asked.count(b"K"), live.lines().count("waits for")), (asked + 1, waited))
+    same(bytes_of(live.name + ".dgt")[: len(sent)], sent)
     for line, told in {
         "name Anna": "refused: name Anna: 'Anna' has no =",
         "name Date=last Sunday": "'last Sunday' can't be read",

@@ -196,7 +196,8 @@ def without_moves(folder: pathlib.Path) -> None:
 
 
 def result_of_the_game_before(folder: pathlib.Path) -> None:
-    """A result is typed when the next game of a series has just begun: it is asked which game is meant, and none ends."""
+    """A result is typed when the next game of a series has just begun, and once more after its first move: it is asked which game is
+    meant, and none ends, as long as the game before has no result; also when the recorder was started again meanwhile."""
     board = a_board(folder)
     live = Live(board.device, folder / "round", "--series", "--linger", "1", typed=True)
     begun(live)
@@ -210,12 +211,23 @@ def result_of_the_game_before(folder: pathlib.Path) -> None:
     one, two = f"{folder}/round-1", f"{folder}/round-2"
     answered(live, "0-1", f"refused: {two} has no move yet. Type 0-1 {one}, or 0-1 {two}")
     same((movetext(one), movetext(two)), (RUY_TEXT, "*"))
-    answered(live, f"0-1 {one}", "added by hand to")
-    until_game(one, RUY_TEXT.replace("*", "0-1"))
     board.play("d2d4")
     until_game(two, "1. d4 *")
+    answered(live, "0-1", f"refused: {one} has no result yet. Type 0-1 {one}, or 0-1 {two}")
+    same((movetext(one), movetext(two)), (RUY_TEXT, "1. d4 *"))
     same(stop(live), 0)
+    live = Live(board.device, folder / "round", "--series", "--linger", "1", typed=True)
+    until_line(live, words.AGREES)
+    answered(live, "0-1", f"refused: {one} has no result yet. Type 0-1 {one}, or 0-1 {two}")
+    same((movetext(one), movetext(two)), (RUY_TEXT, "1. d4 *"))
+    answered(live, f"0-1 {one}", "added by hand to")
+    until_game(one, RUY_TEXT.replace("*", "0-1"))
+    board.play("d7d5")
+    until_game(two, "1. d4 d5 *")
     assert words.SETTING_UP not in live.lines().rpartition("1. d4")[2], live.lines()
+    answered(live, "1-0", "added by hand: the result 1-0 after 1... d5, 2 plies")
+    until_game(two, "1. d4 d5 1-0")
+    same(stop(live), 0)
 
 
 def full_with_pairs(folder: pathlib.Path) -> None:

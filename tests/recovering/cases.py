@@ -112,6 +112,8 @@ CASES: Tuple[Case, ...] = (
         "1. Nf3 Nc6 2. e4 e5 3. Bc4 d6 *",
         (f"96 {PAIR}", "126 recovered 2... e5 3. Bc4"),
     ),
+    Case("a square that reads as empty for a while", f"{START} a2 g1 f3N b8 a2P c6n e2 e4P {PUT_IN}", GAME, (f"106 {PAIR}",)),
+    Case("a piece that is put right after the reply", f"{START} g1 g3N b8 c6n g3 f3N e2 e4P {PUT_IN}", GAME, (f"106 {PAIR}",)),
     Case(
         "a castling whose rook comes last",
         "4k3/7p/8/8/8/8/P7/4K2R e1 g1K h7 h1 f1R h6p a2 a3P"

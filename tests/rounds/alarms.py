@@ -1,15 +1,18 @@
 """Records of a round that somebody is to look at: in the row, on the page and in the files, until he has."""
 
 import pathlib
+import re
+from typing import Sequence
 
 from played import words
 from played.ports import free_port
 from played.recorder import Live, has_open
-from played.stage import bytes_of, rest, same, stop, until, until_dumped, until_line
+from played.stage import Stage, bytes_of, rest, same, stop, until, until_dumped, until_line
 from rounds.hall import Hall
 from rounds.rounds import boards_of
 
 LOOK = "LOOK at 1... e6"
+AWAY = "LOOK at the cable: it was away together with"
 
 
 def says(live: Live, number: int, answer: str) -> None:
@@ -58,6 +61,108 @@ def looked_at(folder: pathlib.Path) -> None:
     until(lambda: [board["alarm"] for board in boards_of(port)] == [False, False], "no alarm on the page", 0.05)
     same(bytes_of(hall.name(1) + ".look"), b"")
     same(stop(again), 0)
+
+
+def away_together(folder: pathlib.Path) -> None:
+    """Two boards without a number are unplugged at the same time, and stand alike: their cables may be exchanged, and no square
+    shows it. Somebody must look at both. A third one stands otherwise, a fourth is unplugged alone, before, and a fifth and a sixth have
+    numbers: they have no such alarm. What is suspected is kept with the times, and is still open after a restart, until somebody has
+    looked."""
+    hall = Hall(folder, 6)
+    for number in (5, 6):
+        hall.boards[number - 1].serial_number = b"%05d" % number
+    live = hall.record(typed=True)
+    hall.begun(live)
+    for board, reply in zip(hall.boards, ("e7e5", "e7e5", "c7c5", "e7e5", "e7e5", "e7e5")):
+        board.play("e2e4")
+        board.play(reply)
+    for number, moves in ((1, "1. e4 e5 *"), (2, "1. e4 e5 *"), (3, "1. e4 c5 *"), (4, "1. e4 e5 *"), (5, "1. e4 e5 *"), (6, "1. e4 e5 *")):
+        hall.until_text(number, moves)
+    goes(hall, live, [4])
+    for number in (4, 1, 2):  # so it isn't away at the same time as the others
+        until_dumped(hall.boards[number - 1], hall.name(number))
+    goes(hall, live, [1, 2, 3, 5, 6])
+    for number, other in ((1, 2), (2, 1)):
+        until_line(live, f"  {number}  {AWAY} board {other}, which stands alike, and no serial number tells them apart: see that each board")
+    hall.boards[2].play("g1f3")
+    hall.until_text(3, "1. e4 c5 2. Nf3 *")
+    live.type("1 ok")
+    until_line(live, "1: acknowledged: LOOK at the cable")
+    same(stop(live), 0)
+    for number in range(1, 7):
+        log, times = (bytes_of(f"{hall.name(number)}.{ending}").decode() for ending in ("log", "times"))
+        same((number, AWAY in log, re.findall(r" suspect (.*)", times)), (number, number < 3, {1: ["2"], 2: ["1"]}.get(number, [])))
+    pathlib.Path(hall.name(2) + ".look").unlink()  # its times have it too
+    again = hall.record(typed=True)
+    hall.begun(again)
+    until_line(again, f"  2  {AWAY} board 1, which stands alike")
+    until_line(again, "  2  LOOK at the cable; agrees")
+    again.type("2 ok")
+    until_line(again, f"2: acknowledged: {AWAY} board 1")
+    same((stop(again), again.lines().count(AWAY)), (0, 2))
+    once_more = hall.record()
+    hall.begun(once_more)
+    same((stop(once_more), once_more.lines().count("LOOK at the cable")), (0, 0))
+
+
+def exchanged_as_they_stand_alike(folder: pathlib.Path) -> None:
+    """The cables of two boards without a number are exchanged, and no square shows it; a player has just made a move, or has a piece in
+    his hand: they stand alike still. Without the alarm each game would get the moves of the other board, and nobody would know."""
+    for name, reply in (("alike", ""), ("a_move_more", "e7e5"), ("in_a_hand", "e7")):
+        (folder / name).mkdir()
+        hall = Hall(folder / name, 2)
+        live = hall.record(typed=True)
+        hall.begun(live)
+        for number, board in enumerate(hall.boards, 1):
+            board.play("e2e4")
+            hall.until_text(number, "1. e4 *")
+        one, other = hall.boards
+        for board in hall.boards:
+            board.pull()
+        for number in (1, 2):
+            until_line(live, f"{number:>3}  UNPLUGGED")
+        if len(reply) == 4:
+            one.play(reply)
+        elif reply:
+            one.lift(reply)
+        one.codes, other.codes = other.codes, one.codes  # so each is at the other's cable
+        for board in hall.boards:
+            board.plug()
+        for number, partner in ((1, 2), (2, 1)):
+            until_line(live, f"  {number}  {AWAY} board {partner}, which stands alike")
+        same(stop(live), 0)
+        for board in hall.boards:
+            board.end()
+            Stage.boards.remove(board)
+
+
+def three_away_together(folder: pathlib.Path) -> None:
+    """Three boards that stand alike, on one hub that fails: each alarm names the two others, and one `ok` for each is enough. The hub fails
+    again: somebody must look again."""
+    hall = Hall(folder, 3)
+    live = hall.record(typed=True)
+    hall.begun(live)
+    for number, board in enumerate(hall.boards, 1):
+        board.play("e2e4")
+        hall.until_text(number, "1. e4 *")
+    for times in (1, 2):
+        goes(hall, live, [1, 2, 3], times)
+        for number, others in ((1, "2 and 3"), (2, "1 and 3"), (3, "1 and 2")):
+            until_line(live, f"  {number}  {AWAY} boards {others}, which stand alike, and no serial number tells them apart", times)
+            live.type(f"{number} ok")
+            until_line(live, f"{number}: acknowledged: {AWAY} boards {others}", times)
+    same(stop(live), 0)
+
+
+def goes(hall: Hall, live: Live, numbers: Sequence[int], times: int = 1) -> None:
+    """The cables of these boards are pulled, and put in again."""
+    for number in numbers:
+        hall.boards[number - 1].pull()
+    for number in numbers:
+        until_line(live, f"{number:>3}  UNPLUGGED", times)
+    for number in numbers:
+        hall.boards[number - 1].plug()
+    until(lambda: all(hall.boards[number - 1].asked_for_updates for number in numbers), "a request on each board")
 
 
 def result_of_another_board(folder: pathlib.Path) -> None:

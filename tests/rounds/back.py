@@ -79,6 +79,58 @@ def set_up_and_back(folder: pathlib.Path) -> None:
     assert words.WRONG not in again.lines(), again.lines()
 
 
+def played_after_a_set_up(folder: pathlib.Path) -> None:
+    """Somebody tries some moves before the game, and sets the pieces up: the board is over, and heard all the same. The real game
+    begins there: after two moves somebody must look, and the game gets them. On another board nothing more is played: no alarm; but
+    it is heard too when the round is started again, and its game begins then."""
+    hall = Hall(folder, 2)
+    live = hall.record(typed=True)
+    hall.begun(live)
+    for board in hall.boards:
+        for move in ("e2e4", "e7e5", "g1f3"):
+            board.play(move)
+    for number, board in enumerate(hall.boards, 1):
+        hall.until_text(number, "1. e4 e5 2. Nf3 *")
+        until_dumped(board, hall.name(number))
+        board.set_up([])
+    for number in (1, 2):
+        until_line(live, f"{number:>3}  {hall.name(number)} is over: the pieces are at the start again. Type its result, as {number} 1-0")
+    for move in ("d2d4", "d7d5"):
+        hall.boards[0].play(move)
+        rest(0.3)
+    until_line(live, "  1  LOOK after 2. Nf3: 2 moves were made from the start, and the game is over without a result. Look at it, and type 1 ok;")
+    until_line(live, "if the game begins only now, type 1 back 0: it has these moves then")
+    hall.boards[0].play("c2c4")
+    rest(0.3)
+    live.type("1 back 0")
+    until_line(live, "1: takes off 3 plies, from 1. e4: type it again")
+    live.type("1 back 0")
+    until_line(live, "back to the start; taken off: 1. e4 e5 2. Nf3. Settled: LOOK after 2. Nf3. What the board had sent is kept in")
+    until_line(live, "The game begins with the moves made since the start")
+    hall.until_text(1, "1. d4 d5 2. c4 *")
+    hall.boards[0].play("e7e6")
+    hall.until_text(1, "1. d4 d5 2. c4 e6 *")
+    says(live, 2, "over, no result; ")
+    same(hall.text(2), "1. e4 e5 2. Nf3 *")
+    same(stop(live), 0)
+    again = hall.record(typed=True)
+    until_line(again, f"records {hall.boards[0].device}")
+    hall.boards[0].play("b1c3")
+    hall.until_text(1, "1. d4 d5 2. c4 e6 3. Nc3 *")
+    says(again, 2, "over, no result; ")
+    until_dumped(hall.boards[1], hall.name(2))
+    for move in ("d2d4", "d7d5"):
+        hall.boards[1].play(move)
+        rest(0.3)
+    until_line(again, "  2  LOOK after 2. Nf3: 2 moves were made from the start, and the game is over without a result. Look at it, and type 2 ok;")
+    for _ in range(2):
+        again.type("2 back 0")
+    hall.until_text(2, "1. d4 d5 *")
+    hall.boards[1].play("c2c4")
+    hall.until_text(2, "1. d4 d5 2. c4 *")
+    same(stop(again), 0)
+
+
 def back_after_set_up(folder: pathlib.Path) -> None:
     """A result was typed, the pieces have been set up, and only then a ply too many is found: exactly that one goes, whatever the
     board shows, though all plies were made in a moment. The result is typed again; it is all there after a restart."""

@@ -9,6 +9,7 @@ import time
 from typing import Dict, List, Optional, Tuple
 
 from played import TOP
+from played.hidden import hidden_shots
 from played.ports import free_port
 from played.recorder import Live
 from played.stage import bytes_of, ended, kill, program, refuses, same, stop, until, until_line
@@ -16,12 +17,11 @@ from rounds.going_out import Clock
 from rounds.hall import ROUND, Hall, quits
 from rounds.witness import Witness, served, texts_of
 
-from live.broadcast import kept
-
 DELAY = 900.0  # seconds
 FIRST, SECOND = ("1. e4 *", "1. e4 e5 *", "1. e4 e5 2. Nf3 *", "1. e4 e5 2. Nf3 Nc6 *"), ("1. d4 *", "1. d4 d5 *", "1. d4 d5 2. c4 *", "1. d4 d5 2. c4 e6 *")
-# A program that waits, in the subcommand that a file names, for as long as that file is there.
+# A program that waits, in the subcommand that a file names, for as long as that file is there; or fails in the one that another names.
 STUCK = """#!/bin/sh
+[ "$(cat '{stuck}.fails' 2> /dev/null)" = "$1" ] && exit 9
 while [ "$(cat '{stuck}' 2> /dev/null)" = "$1" ]; do sleep 0.05; done
 exec '{program}' "$@"
 """
@@ -125,8 +125,8 @@ def each_file_lost_or_old(folder: pathlib.Path) -> None:
 
 def hidden_texts(hall: Hall, number: int) -> List[str]:
     """The movetexts that are kept of a game, hidden or shown."""
-    entries = kept.read(bytes_of(f"{hall.name(number)}.delayed"), "", 0.0, 0.0).entries
-    return [text for entry in entries for text in texts_of(entry.shot.text)]
+    shots = hidden_shots(pathlib.Path(f"{hall.name(number)}.delayed"), hall.games)
+    return [text for shot in shots for text in texts_of(shot.text)]
 
 
 class Start:
@@ -161,6 +161,47 @@ class Start:
         if self._live.runs:
             same(stop(self._live) in (0, 3), True)  # 3 if a game couldn't be opened
         self._witness.see(bytes_of(self._folder / "broadcast.pgn"), f"broadcast.pgn, {self._spoiled[0]} lost,")
+
+
+def stuck_as_it_is_said_again(folder: pathlib.Path) -> None:
+    """A round is killed when two plies are out and two are hidden, and the program gets stuck before it has said again what they were,
+    or fails: until it goes on nothing goes out, and what went out stays."""
+    round_ = Delayed(folder)
+    hall, witness = round_.hall, round_.witness
+    goes_out, two = hall.games / "broadcast.pgn", [FIRST[1], SECOND[1]]
+    witness.begin()
+    live = round_.record("--delay", "15")
+    hall.begun(live)
+    round_.play(0, 2)
+    until(lambda: [hidden_texts(hall, number)[-1:] for number in (1, 2)] == [[text] for text in two], "two plies, hidden", 0.02)
+    round_.clock.be(910)
+    until(lambda: texts_of(bytes_of(goes_out)) == two, "two plies", 0.02)
+    round_.play(2, 4)
+    until(lambda: [hidden_texts(hall, number)[-1:] for number in (1, 2)] == [[FIRST[3]], [SECOND[3]]], "four plies, hidden", 0.02)
+    kill(live)
+    before, lists = bytes_of(goes_out), {number: bytes_of(f"{hall.name(number)}.delayed") for number in (1, 2)}
+    command, stuck = stuck_program(folder, folder / "stuck"), folder / "stuck"
+    for how in ("killed", "fails", "goes on"):
+        marks = stuck.with_name("stuck.fails" if how == "fails" else "stuck")
+        marks.write_text("live")
+        port = free_port()
+        live = round_.record("--page", str(port), program=command)
+        until_line(live, "the round is shown at")
+        until(lambda: "live" in words_of(live) or live.says("live ended with status 9"), "a call of live")
+        time.sleep(1.5)
+        same((bytes_of(goes_out), json.loads(served(port, "/state.json"))["boards"]), (before, []))
+        if how != "killed":
+            marks.unlink()
+            until(lambda: len(json.loads(served(port, "/state.json"))["boards"]) == 2, "both boards", 0.05)
+            until(lambda: texts_of(served(port, "/round.pgn")) == two, "two plies on the page", 0.05)
+            same(texts_of(bytes_of(goes_out)), two)
+        if how == "goes on":
+            round_.clock.be(1820)
+            until(lambda: texts_of(bytes_of(goes_out)) == [FIRST[3], SECOND[3]], "four plies", 0.02)
+        kill(live)
+        marks.unlink(missing_ok=True)
+        same([bytes_of(f"{hall.name(number)}.delayed") == lists[number] for number in (1, 2)], [how == "killed"] * 2)
+    witness.end()
 
 
 def recorded_by_itself(folder: pathlib.Path) -> None:
@@ -218,4 +259,4 @@ def named_as_others(folder: pathlib.Path) -> None:
     same(sorted(path.name for path in hall.games.glob("broadcast*")), ["broadcast.pgn"])
 
 
-CASES = [ended_while_opened, each_file_lost_or_old, recorded_by_itself, named_as_others]
+CASES = [ended_while_opened, each_file_lost_or_old, stuck_as_it_is_said_again, recorded_by_itself, named_as_others]

@@ -1,6 +1,9 @@
 """How a round ends: what `q` asks first, what is said when spectators have seen all, and what answers say of a result."""
 
+import json
 import pathlib
+import time
+from typing import List, Tuple
 
 from played.ports import free_port
 from played.stage import bytes_of, ended, same, stop, until, until_line
@@ -8,6 +11,7 @@ from rounds.delayed import hidden_texts
 from rounds.going_out import Clock
 from rounds.hall import Hall, quits
 from rounds.rounds import boards_of
+from rounds.witness import served
 
 ASKS = ". To end the round all the same, type q again within a minute"
 PLAYING = "1 game is still being played" + ASKS
@@ -46,6 +50,41 @@ def asked_before_the_end(folder: pathlib.Path) -> None:
     live.end_typing()  # that alone ends nothing
     hall.play(3, 4, [1])
     same((hall.text(2), stop(live)), ("1. d4 d5 2. c4 e6 *", 0))
+
+
+def unfinished_slide(folder: pathlib.Path) -> None:
+    """A pawn is set down on c3 and slides on to c4 a second later: the screen has both, spectators never see c3. With --hold 0 they
+    see it. A reply shows the move before it at once."""
+    given: List[Tuple[Tuple[str, ...], List[str]]] = [((), []), (("--hold", "0"), ["c3"])]
+    for option, seen in given:
+        place = folder / ("at_once" if seen else "held")
+        place.mkdir()
+        hall = Hall(place, 1)
+        port = free_port()
+        live = hall.record("--page", str(port), *option, typed=True)
+        hall.begun(live)
+        shown: List[str] = []
+
+        def shows(sans: str) -> bool:
+            boards = json.loads(served(port, "/state.json"))["boards"]
+            text = " ".join(move["san"] for board in boards for move in board["moves"])
+            shown.extend([text] if [text] != shown[-1:] else [])
+            return bool(boards) and text == sans
+
+        until(lambda: shows(""), "the board on the page", 0.02)
+        hall.boards[0].play("c2c3")
+        hall.until_text(1, "1. c3 *")
+        began = time.monotonic()
+        until(lambda: shows("c3") or time.monotonic() - began > 1.0, "a second", 0.02)
+        hall.boards[0].play("c3c4")
+        hall.until_text(1, "1. c4 *")
+        until(lambda: shows("c4"), "c4 on the page", 0.02)
+        hall.boards[0].play("e7e5")
+        began = time.monotonic()
+        until(lambda: shows("c4 e5"), "e5 on the page", 0.02)
+        same((option, time.monotonic() - began > 1.5), (option, not option))
+        same([text for text in shown if text not in ("", "c4", "c4 e5")], seen)
+        same(stop(live), 0)
 
 
 def seen_by_spectators(folder: pathlib.Path) -> None:
@@ -89,7 +128,7 @@ def of_another_board(folder: pathlib.Path) -> None:
     live.type("1 Nf3 Nc6")
     until_line(live, "1: added to ")
     live.type("1 0-1")
-    until_line(live, "the result 0-1. If another board was meant, type 1 *")
+    until_line(live, "the result 0-1 after 2... Nc6, 4 plies. If another board was meant, type 1 *")
     hall.until_text(1, "1. e4 e5 2. Nf3 Nc6 0-1")
     live.type("1 *")
     until_line(live, "goes on, without the result")
@@ -98,4 +137,4 @@ def of_another_board(folder: pathlib.Path) -> None:
     quits(live)
 
 
-CASES = [asked_before_the_end, seen_by_spectators, of_another_board]
+CASES = [asked_before_the_end, seen_by_spectators, unfinished_slide, of_another_board]

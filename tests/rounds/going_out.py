@@ -14,14 +14,13 @@ import urllib.request
 from typing import Dict, List, Optional, Tuple
 
 from played import TOP
+from played.hidden import hidden_shots
 from played.ports import free_port
 from played.recorder import Live, processes
 from played.stage import bytes_of, check, kill, movetext, same, stop, until, until_line
 from rounds.crowds import page_of
 from rounds.hall import Hall, games_of, plain, quits
 from rounds.rounds import boards_of, fetch
-
-from live.broadcast import kept
 
 PATHS = ["/", "/state.json", "/round.pgn", "/01.pgn", "/02.pgn", "/03.pgn", "/nothing", "/page.js", "/broadcast.pgn", "/01.delayed"]
 # Starts the recorder with a clock that is ahead of the computer's by as many seconds as a file says. It publishes quickly, and a
@@ -142,8 +141,8 @@ def both_have(files: List[pathlib.Path], wanted: List[List[str]]) -> None:
 
 def hidden(hall: Hall) -> List[str]:
     """The newest text that is kept of each of the two games, shown or not."""
-    histories = [kept.read(bytes_of(f"{hall.name(number)}.delayed"), "", 0.0, 0.0) for number in (1, 2)]
-    return [text for one in histories for text in texts_of(one.entries[-1].shot.text if one.entries else b"")]
+    shots = [hidden_shots(pathlib.Path(f"{hall.name(number)}.delayed"), hall.games) for number in (1, 2)]
+    return [text for one in shots for text in texts_of(one[-1].text if one else b"")]
 
 
 def sans(port: int, number: int = 0) -> str:
@@ -198,7 +197,7 @@ def fifteen_minutes_late(folder: pathlib.Path) -> None:
     has_none(served, FIFTH)
     is_for_spectators(served, folder)
     same(bytes_of(files[0]).split(b"\n\n")[1], four.split(b"\n\n")[1])  # as NAME.pgn had it then, to the byte
-    same(fetch(port, "/round.pgn"), bytes_of(files[0]))
+    until(lambda: fetch(port, "/round.pgn") == served["file"], "the file's text on the spectators' page", 0.05)
     until(lambda: sans(arbiters) == "e4 e5 Nf3 Nc6 Bb5 a6", "six plies on the arbiter's page", 0.05)
     live.type("1 1-0")
     hall.until_over(live, 1, "1-0")

@@ -7,14 +7,13 @@ import sys
 import time
 from typing import Callable, Dict, List, Optional, Tuple
 
+from played.hidden import hidden_shots
 from played.recorder import Live
 from played.stage import bytes_of, holds_within, kill, refuses, same, stop, until, until_line
 from rounds.delayed import FIRST, SECOND
 from rounds.going_out import Clock
 from rounds.hall import ROUND, Hall, quits
 from rounds.witness import Witness, texts_of
-
-from live.broadcast import kept
 
 # Copies what it is given to a folder, one file for each run, whose name has the number of the run and the recorder's time after that.
 CARRIES = """\
@@ -97,8 +96,8 @@ class Outputs:
         until(lambda: [self.hidden(name, number) for number in (1, 2)] == [FIRST[ply - 1], SECOND[ply - 1]], f"ply {ply}, hidden in {name}", 0.02)
 
     def hidden(self, name: str, number: int) -> str:
-        entries = kept.read(bytes_of(self.place(name) / f"{number:02}.delayed"), "", 0.0, 0.0).entries
-        return "".join(texts_of(entries[-1].shot.text)) if entries else ""
+        shots = hidden_shots(self.place(name) / f"{number:02}.delayed", self.hall.games)
+        return "".join(texts_of(shots[-1].text)) if shots else ""
 
     def until_out(self, name: str, ply: int) -> None:
         """An output has so many plies of both games, and its command has carried them away."""
@@ -369,7 +368,9 @@ def in_a_tournament(folder: pathlib.Path) -> None:
     until(lambda: texts_of(bytes_of(pages[0] / "round.pgn")) == [FIRST[1], SECOND[1]], "two plies in the first site", 0.05)
     until(lambda: texts_of(bytes_of(cup / "all.pgn")) == [FIRST[1], SECOND[1]], "two plies in all.pgn", 0.05)
     until(lambda: texts_of(bytes_of(pages[1] / "round.pgn")) == UNPLAYED, "the unplayed games in the other site", 0.05)
-    same([b'"late":"15 minutes"' in bytes_of(page / "state.json") for page in pages], [False, True])
+    late = b'"late":"15 minutes"'
+    until(lambda: late in bytes_of(pages[1] / "state.json"), "how late the other site is", 0.05)
+    same(late in bytes_of(pages[0] / "state.json"), False)
     kill(live)
     refuses(record("--output", "agency=no"), 1, "there is no output agency: there is public")
     witness.end()
@@ -411,7 +412,7 @@ def one_board(folder: pathlib.Path) -> None:
 
 def kept_texts(path: pathlib.Path) -> Callable[[], List[str]]:
     """What is kept of a game's texts in a file, hidden or shown."""
-    return lambda: [text for entry in kept.read(bytes_of(path), "", 0.0, 0.0).entries for text in texts_of(entry.shot.text)]
+    return lambda: [text for shot in hidden_shots(path, path.parent.parent) for text in texts_of(shot.text)]
 
 
 def where_sites_are(folder: pathlib.Path) -> None:

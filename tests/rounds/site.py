@@ -18,7 +18,7 @@ from paged.devtools import Shared, Tab
 from paged.legible import faults
 from played.ports import free_port
 from played.recorder import Live
-from played.stage import Skipped, bytes_of, kill, same, stop, until, until_line
+from played.stage import Skipped, bytes_of, kill, rest, same, stop, until, until_line
 from rounds.delayed import DELAY, Delayed
 from rounds.going_out import Clock
 from rounds.hall import Hall, games_of, quits
@@ -244,6 +244,11 @@ def live_or_not(folder: pathlib.Path) -> None:
             asked = len(tab.requests())
             until(lambda: tab.value("true") and len(tab.requests()) > asked, "that the page asks for news", 0.05)
 
+        def clocks_stand() -> bool:
+            stands = tab.value(CLOCKS)
+            time.sleep(2.5)
+            return tab.value(CLOCKS) == stands
+
         tab.open(f"{url}round/index.html")
         until_says("Live")
         before = state_of(www / "round")["written"]
@@ -262,9 +267,7 @@ def live_or_not(folder: pathlib.Path) -> None:
             until_asked()
             tab.value(LATER)
         until_says("Nothing heard since ")
-        stands = tab.value(CLOCKS)
-        time.sleep(2.5)
-        same(tab.value(CLOCKS), stands)
+        until(clocks_stand, "that the clocks stand", 0.05)
         Quiet.ahead = 120.0
         try:
             tab.open(f"{url}round/index.html")
@@ -359,6 +362,12 @@ def full_site(folder: pathlib.Path) -> None:
     def until_there(moves: str) -> None:
         until(lambda: texts_of(bytes_of(www / "round" / "round.pgn")) == [moves], f"{moves} in the site", 0.05)
         until(lambda: (www / "index.html").exists(), "the list", 0.05)
+        until(stays, "a site of which each file is written")
+
+    def stays() -> bool:
+        before = files_of(www)
+        rest(0.5)
+        return files_of(www) == before and not any(name.endswith(".new") for name in before)
 
     live = record()
     hall.begun(live)

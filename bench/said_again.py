@@ -1,0 +1,60 @@
+#!/usr/bin/env python3
+"""said_again.py [MIB [PLACES]]: how long it takes after a restart until the program has said again what a game was at so many places of
+its capture. The capture is samples/long-game.dgt with so many dumps in it that it has MIB MiB; 4 and 3,000 without them."""
+
+import pathlib
+import sys
+import tempfile
+import time
+import zlib
+from typing import List
+
+TOP = pathlib.Path(__file__).resolve().parents[1]
+sys.dont_write_bytecode = True
+sys.path[:0] = [str(TOP / "tests"), str(TOP)]
+from live.broadcast.history import Front  # noqa: E402
+from live.broadcast.said_again import said_again  # noqa: E402
+from live.game.program import Program  # noqa: E402
+from played.stage import program  # noqa: E402
+
+HEAD, DUMP, UPDATE, CLOCK = 3, 0x86, 0x8E, 0x8D  # bytes before a frame's content; kinds of frames
+SHOWN = (UPDATE, CLOCK)
+
+
+def grown(sample: bytes, size: int) -> bytes:
+    """A capture with some dumps behind each update and each time, as a board sends them that is asked often."""
+    frames: List[bytes] = []
+    at, codes = 0, bytearray()
+    while at < len(sample):
+        frame = sample[at : at + (sample[at + 1] << 7 | sample[at + 2])]
+        at += len(frame)
+        if frame[0] == DUMP:
+            codes = bytearray(frame[HEAD:])
+            head = frame[:HEAD]
+        elif frame[0] == UPDATE:
+            codes[frame[HEAD]] = frame[HEAD + 1]
+        frames.append(frame)
+        if frame[0] in SHOWN:
+            frames.append(head + codes)
+    dumps = sum(frame[0] == DUMP for frame in frames)
+    times = max(1, (size - len(sample)) // (dumps * (HEAD + len(codes))))
+    return b"".join(frame * (times if frame[0] == DUMP else 1) for frame in frames)
+
+
+def main(words: List[str]) -> int:
+    size, places = int(float(words[0]) * (1 << 20)) if words else 4 << 20, int(words[1]) if words[1:] else 3000
+    capture = grown((TOP / "samples" / "long-game.dgt").read_bytes(), size)
+    ends = [len(capture) * (place + 1) // places for place in range(places)]
+    with tempfile.TemporaryDirectory() as folder:
+        pathlib.Path(folder, "01.dgt").write_bytes(capture)
+        fronts = [Front("01", end, zlib.crc32(memoryview(capture)[:end])) for end in ends]
+        began = time.monotonic()
+        said = said_again(Program(program()), folder, fronts)
+        seconds = time.monotonic() - began
+    plies = len(said[fronts[-1]].moves)
+    print(f"{len(capture) / (1 << 20):.2f} MiB, {len(said)} places, {plies} plies at the last one: {seconds:.2f} s")
+    return 0
+
+
+if __name__ == "__main__":
+    sys.exit(main(sys.argv[1:]))

@@ -1,0 +1,17 @@
+/** Whether the cables of two boards may have been exchanged, and what is said then. */
+import { toldOfExchange } from "/web/game/alarms.js";
+import { textOfLook } from "/web/game/looks.js";
+import { mayBeExchanged } from "/web/hall/exchanged.js";
+
+const returned = ([heardAt, cameAt, number, placement]) => ({ heardAt, cameAt, number, placement });
+
+export function boards(counts, cases) {
+  for (const [name, first, second, expected] of cases("boards")) {
+    const [one, other] = [returned(first), returned(second)];
+    counts.same(name, [mayBeExchanged(one, other), mayBeExchanged(other, one)], [expected, expected]);
+  }
+}
+
+export function told(counts, cases) {
+  for (const [others, expected] of cases("told")) counts.same(expected, textOfLook(toldOfExchange(others)), expected);
+}

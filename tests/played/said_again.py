@@ -1,0 +1,163 @@
+"""What goes out late is said again after a restart, from the captures: by bytes of a capture that was replaced too, over the games of
+a series, and in no other words than the program says of the bytes that had come by then."""
+
+import os
+import pathlib
+import time
+import zlib
+from typing import List
+
+from live.broadcast.history import Front
+from live.broadcast.said_again import said_again
+from live.game.files import Paths
+from live.game.game import put_options
+from live.game.options import Options
+from live.game.program import Program
+from live.game.report import Clock, Move, Position, line_of
+from play_board import BLACK, KING
+from played import TOP
+from played.back import answered
+from played.late import AGAIN, DRAWN, WAITS, WON, Game
+from played.stage import RUY_TEXT, begun, bytes_of, ended, kill, program, rest, run, same, stop, until, until_dumped, until_line
+
+
+def said_at_each_front(folder: pathlib.Path) -> None:
+    """Of each front of a game that ends at one of its bytes, the program says its `record` and its `watch`, however many are asked for
+    at once; also of one whose capture was replaced, and of none that is another's."""
+    sample = (TOP / "samples" / "long-game.dgt").read_bytes()
+    paths, other = Paths(f"{folder}/01"), Paths(f"{folder}/02")
+    pathlib.Path(paths.before_back(1)).write_bytes(sample[:900])
+    pathlib.Path(paths.capture).write_bytes(sample[:500] + sample[600:])
+    pathlib.Path(other.capture).write_bytes(sample)
+    pathlib.Path(other.capture).chmod(0o600)
+    options = Options.of_words(["--white=Anna", "--event=Club", "--first=black", "--recover"])
+    put_options(other, options)
+    sizes = [0, 1, 66, 67, 68, *range(100, len(sample), 97), len(sample)]
+    fronts = [Front("02", size, zlib.crc32(sample[:size])) for size in sizes]
+    said = said_again(Program(program()), str(folder), [*reversed(fronts), *fronts])
+    same(set(said), set(fronts))
+    for front in fronts:
+        shot, sent = said[front], sample[: front.size]
+        same((front.size, shot.text), (front.size, run("record", *options.of_record(), given=sent).stdout))
+        lines = [line_of(text) for text in run("watch", *options.of_board(), given=sent).stdout.decode().splitlines()]
+        events = [line.event for line in lines if line]
+        plies: List[Move] = []
+        for event in events:
+            if isinstance(event, Move):
+                plies[len(plies) - event.corrects :] = [event]
+        same((front.size, [ply.san for ply in shot.moves]), (front.size, [ply.san for ply in plies]))
+        same((front.size, shot.positions[-1:]), (front.size, tuple(event.fen for event in events if isinstance(event, Position))[-1:]))
+        clocks = [event for event in events if isinstance(event, Clock)][-1:]
+        same((front.size, shot.clocks.white, shot.clocks.black), (front.size, *([clocks[0].white, clocks[0].black] if clocks else ["", ""])))
+    mine = [Front("01", size, zlib.crc32(sample[:size])) for size in (300, 500, 700, 900, 901)]
+    same(set(said_again(Program(program()), str(folder), mine)), set(mine[:4]))
+    same(said_again(Program(program()), str(folder), [Front("03", 0, 0), Front("", 0, 0), Front("01", 300, 7)]), {})
+    os.unlink(paths.capture)
+    os.symlink(other.capture, paths.capture)
+    same(set(said_again(Program(program()), str(folder), [Front("01", 901, 1), *mine[:1]])), {mine[0]})
+
+
+def back_and_killed(folder: pathlib.Path) -> None:
+    """Plies are taken off, so that the game has another capture, and it is killed: spectators see first what they would have seen of
+    the old one, and then the new one. What is kept of both has no move."""
+    game = Game(folder)
+    live = game.record()
+    game.play(live)
+    game.clock.be(300)
+    for move in ("b5f1", "c6b8", "f3g1"):
+        game.board.play(move)
+    until_dumped(game.board, live.name)
+    answered(live, "back 1... e5", "takes off 3 plies, from 2. Nf3: type it again")
+    answered(live, "back 1... e5", "back to 1... e5; taken off: 2. Nf3 Nc6 3. Bb5")
+    game.until_kept("1. e4 e5 *")
+    kill(live)
+    hidden = bytes_of(f"{game.name}.delayed")
+    same((b'"shown":' in hidden, [word for word in (b"1. e4", b"Nf3", b"1:2", b"rnbq") if word in hidden]), (True, []))
+    for seconds, shown in ((600, "*"), (910, RUY_TEXT), (1000, RUY_TEXT), (1210, "1. e4 e5 *")):
+        game.clock.be(seconds)
+        live = game.record(delay="")
+        begun(live)
+        game.until_shown(shown)
+        rest(0.5)
+        same((seconds, game.shown), (seconds, [shown] * 2))
+        kill(live)
+
+
+def series_killed(folder: pathlib.Path) -> None:
+    """A series goes out late and is killed in its second game: spectators see the rest of the first one, and then the second."""
+    game = Game(folder)
+    game.name = folder / "blitz"
+    live = game.record("--series")
+    begun(live)
+    game.until_shown("*")
+    game.board.play("e2e4")
+    game.until_kept("1. e4 *")
+    game.clock.be(300)
+    game.board.kings_in_centre("e4", "d5")
+    game.until_kept("1. e4 1-0")
+    game.clock.be(400)
+    game.board.set_up(last=(KING, BLACK + KING))
+    game.until_kept("*")
+    game.clock.be(600)
+    game.board.play("d2d4")
+    game.until_kept("1. d4 *")
+    kill(live)
+    for seconds, shown in ((700, "*"), (910, "1. e4 *"), (1210, "1. e4 1-0"), (1310, "*"), (1510, "1. d4 *")):
+        game.clock.be(seconds)
+        live = game.record("--series", delay="")
+        begun(live)
+        game.until_shown(shown)
+        rest(0.5)
+        same((seconds, game.shown), (seconds, [shown] * 2))
+        if seconds % 100 == 0:
+            live.send(2)
+            until_line(live, AGAIN)
+            same(stop(live), 0)
+        else:
+            kill(live)
+
+
+def clocks_run_again(folder: pathlib.Path) -> None:
+    """Black's clock runs, and Black moves: a restart has the clock as it was read last, and that it has run since then."""
+    game = Game(folder)
+    live = game.record()
+    begun(live)
+    began = time.monotonic()
+    game.board.clock(5400, 5400)
+    game.board.play("e2e4")
+    game.until_kept("1. e4 *")
+    game.clock.be(10)
+    game.board.clock(5400, 5390)
+    until(lambda: [shot.clocks.runs for shot in game.hidden()][-1:] == ["b"], "a clock that runs")
+    game.board.play("e7e5")
+    game.until_kept("1. e4 e5 *")
+    kill(live)
+    running = [shot.clocks for shot in game.hidden() if shot.clocks.runs]
+    same({(clocks.white, clocks.black, clocks.runs) for clocks in running}, {("1:30:00", "1:29:50", "b")})
+    same([began + 10 <= clocks.at <= time.monotonic() + 10 for clocks in running], [True] * len(running))
+
+
+def result_put_right(folder: pathlib.Path) -> None:
+    """A result that is shown is put right, so that the capture has other bytes at its end, and it is killed: the moves stay, and the
+    right result comes at its time."""
+    game = Game(folder)
+    live = game.record()
+    game.play(live)
+    game.clock.be(300)
+    live.type("1-0")
+    game.until_kept(WON)
+    game.clock.be(1210)
+    game.until_shown(WON)
+    live.type("1/2-1/2")
+    game.until_kept(DRAWN)
+    kill(live)
+    game.clock.be(1300)
+    live = game.record(delay="")
+    until_line(live, WAITS)
+    rest(1)
+    same([text.rpartition(" ")[0] for text in game.shown], [RUY_TEXT.rpartition(" ")[0]] * 2)
+    game.clock.be(2120)
+    same((ended(live), game.shown), (0, [DRAWN] * 2))
+
+
+CASES = [said_at_each_front, back_and_killed, series_killed, clocks_run_again, result_put_right]
