@@ -4,12 +4,12 @@
 _dgt() {
     local command=${1##*/} word=${COMP_WORDS[COMP_CWORD]} before=${COMP_WORDS[COMP_CWORD - 1]} words=
     local game='--rotated --first --fen' tags='--date --round --white --black'
-    local shown='--linger --page --page-host --arbiter-page --delay --publish --tag --recover --strict --help --version'
+    local shown='--linger --page --page-host --arbiter-page --delay --publish --hold --tag --recover --strict --help --version'
     COMPREPLY=()
     case $command,$before in
         *,--first) words='white black' ;;
         *,--fen | *,--event | *,--place | *,--site | *,--date | *,--round | *,--white | *,--black | *,--tag | *,--add | *,--back | *,--line | *,--to) return ;;
-        *,--linger | *,--page | *,--page-host | *,--arbiter-page | *,--delay | *,--publish | *,--output | *,--encoding | *,--matches | *,--embed) return ;;
+        *,--linger | *,--page | *,--page-host | *,--arbiter-page | *,--delay | *,--publish | *,--hold | *,--output | *,--encoding | *,--matches | *,--embed) return ;;
         dgt_live,*) words="--series --once --add --back --devices --pack $game --event --place $tags $shown" ;;
         dgt_round,*) words="--new --encoding --matches --embed --web --output --event --place --site --date --round $shown" ;;
         dgt_replay,*)
