@@ -1,4 +1,8 @@
-"""Plays cases, each in a process of its own, some of them at once, and counts them."""
+"""Plays cases, each in a process of its own, some of them at once, and counts them.
+
+Where all are played, up to three that fail are played once more, each alone: on a busy machine a browser or a line may stand still
+for no fault of ours. Such a case has passed if it passes then, and that is said. If more fail, something is broken.
+"""
 
 import dataclasses
 import os
@@ -10,7 +14,7 @@ import tempfile
 import time
 import traceback
 import types
-from typing import Callable, Dict, List, Optional, Sequence
+from typing import Callable, Dict, Iterator, List, Optional, Sequence
 
 import outside
 from played import TOP
@@ -19,6 +23,7 @@ from played.stage import LIMIT, PROGRAM, Skipped, Stage
 
 Case = Callable[[pathlib.Path], None]
 PASSED, FAILED, SKIPPED = 0, 1, 3
+MOST_AGAIN = 3  # cases that failed and are played once more
 
 
 class OutOfTime(AssertionError):
@@ -70,12 +75,12 @@ def play(case: Case) -> int:
         try:
             case(place)
         except Skipped as skipped:
-            status, outcome = (FAILED, "FAILED") if outside.no_skips() else (SKIPPED, "skipped")
+            status, outcome = (FAILED, "failed") if outside.no_skips() else (SKIPPED, "skipped")
             print(outside.skip_line(case.__name__, str(skipped)))
         except Exception:
             traceback.print_exc(file=sys.stdout)
             tell_what_was_said()
-            status, outcome = FAILED, "FAILED"
+            status, outcome = FAILED, "failed"
         finally:
             signal.alarm(0)
             clear()
@@ -108,6 +113,19 @@ class Playing:
             self.process.terminate()
         return False
 
+    @property
+    def outcome(self) -> int:
+        """How it has ended."""
+        status = self.process.returncode
+        return status if status in (PASSED, SKIPPED) else FAILED
+
+    @property
+    def said(self) -> str:
+        """What it has printed."""
+        status = self.process.returncode
+        text = self.output.read_text(errors="replace")
+        return text if status in (PASSED, FAILED, SKIPPED) else f"{text}failed {self.name}: its process ended with status {status}\n"
+
 
 def environment(folder: pathlib.Path) -> Dict[str, str]:
     """That of a case. Each recorder is run by this Python, takes what was compiled for all of them, and finds none of the boards
@@ -132,32 +150,50 @@ def begin(script: str, name: str, folder: pathlib.Path) -> Playing:
     return Playing(name, output, process, time.monotonic())
 
 
-def play_all(script: str, names: Sequence[str], at_once: int) -> Dict[int, int]:
-    """How many there are of each outcome. Each case's lines are printed as it ends."""
-    outcomes = {PASSED: 0, FAILED: 0, SKIPPED: 0}
+def play_some(script: str, names: Sequence[str], at_once: int, place: pathlib.Path) -> Iterator[Playing]:
+    """Plays these cases, and gives each as it ends."""
     waiting = list(names)
     playing: List[Playing] = []
-    with tempfile.TemporaryDirectory(prefix="dgt_live.") as place:
-        compile_modules(pathlib.Path(place))
-        try:
-            while waiting or playing:
-                while waiting and len(playing) < at_once:
-                    playing.append(begin(script, waiting.pop(0), pathlib.Path(place)))
-                for one in [one for one in playing if one.is_over]:
-                    playing.remove(one)
-                    status = one.process.returncode
-                    outcomes[status if status in outcomes else FAILED] += 1
-                    sys.stdout.write(one.output.read_text(errors="replace"))
-                    if status not in outcomes:
-                        print(f"FAILED {one.name}: its process ended with status {status}")
-                    sys.stdout.flush()
-                time.sleep(0.02)
-        finally:
-            for one in playing:
-                one.process.terminate()
-            for one in playing:
-                one.process.wait()
-    return outcomes
+    try:
+        while waiting or playing:
+            while waiting and len(playing) < at_once:
+                playing.append(begin(script, waiting.pop(0), place))
+            for one in [one for one in playing if one.is_over]:
+                playing.remove(one)
+                yield one
+            time.sleep(0.02)
+    finally:
+        for one in playing:
+            one.process.terminate()
+        for one in playing:
+            one.process.wait()
+
+
+def played_again(failed: Sequence[str], counts: bool) -> List[str]:
+    """Of the cases that have failed, those that are played once more. `counts` says that no single cases were wanted."""
+    return list(failed) if counts and len(failed) <= MOST_AGAIN else []
+
+
+def play_all(script: str, names: Sequence[str], at_once: int, plays_again: bool) -> Dict[int, int]:
+    """How many there are of each outcome. Each case's lines are printed as it ends."""
+    ended: Dict[str, Playing] = {}
+    with tempfile.TemporaryDirectory(prefix="dgt_live.") as folder:
+        place = pathlib.Path(folder)
+        compile_modules(place)
+        for one in play_some(script, names, at_once, place):
+            ended[one.name] = one
+            print(one.said, end="", flush=True)
+        failed = [name for name, one in ended.items() if one.outcome == FAILED]
+        for one in play_some(script, played_again(failed, plays_again), 1, place):
+            ended[one.name] = one
+            print(one.said, end="", flush=True)
+            if one.outcome == PASSED:
+                print(f"AT THE SECOND TRY {one.name}")
+        for name in failed:
+            if ended[name].outcome == FAILED:
+                print(f"FAILED{ended[name].said.splitlines()[-1].replace('failed', '', 1)}")
+    outcomes = [one.outcome for one in ended.values()]
+    return {outcome: outcomes.count(outcome) for outcome in (PASSED, FAILED, SKIPPED)}
 
 
 def count(outcomes: Dict[int, int]) -> str:
@@ -195,6 +231,6 @@ def main(script: str, cases: Sequence[Case], arguments: Sequence[str]) -> int:
         return 2
     signal.signal(signal.SIGTERM, lambda *_: sys.exit(143))
     names = wanted or list(named)
-    outcomes = {PASSED: 0, FAILED: len(names), SKIPPED: 0} if lacks() else play_all(script, names, at_once)
+    outcomes = {PASSED: 0, FAILED: len(names), SKIPPED: 0} if lacks() else play_all(script, names, at_once, not wanted)
     print(count(outcomes))
     return int(outcomes[FAILED] > 0)

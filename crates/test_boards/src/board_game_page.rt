@@ -6,7 +6,7 @@ use board_game::Game;
 use board_standing::Kind;
 use std::alloc::{AllocError, Global};
 
-/// Whether a board stands wrongly ten seconds after it has sent these bytes.
+/// Whether a board stands wrongly a minute after it has sent these bytes.
 fn is_wrong(alloc: Global, method: &Method, bytes: &[u8]) -> Result<bool, AllocError> {
     let mut game = Game::new(alloc, method);
     let mut lines = Vec::new(alloc);
@@ -15,5 +15,5 @@ fn is_wrong(alloc: Global, method: &Method, bytes: &[u8]) -> Result<bool, AllocE
         is_added: false,
     };
     game.take(when, bytes, &mut lines)?;
-    Ok(game.state(10_000).kind == Kind::Wrong)
+    Ok(game.state(60_000).kind == Kind::Wrong)
 }
