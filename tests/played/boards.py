@@ -69,6 +69,7 @@ class Board(play_board.Board):
 
     def plug(self) -> None:
         """Into the computer, under the device's name and, where it has a cable's name, under this too."""
+        self._let_number_go()
         self.line, self.slave = os.openpty()
         os.set_blocking(self.line, False)
         tty.setraw(self.slave)
@@ -77,18 +78,24 @@ class Board(play_board.Board):
             os.symlink(os.path.relpath(self.device, self.cable.parent), self.cable)
 
     def pull(self) -> None:
-        """Out of the computer, from which it has its power."""
+        """Out of the computer, from which it has its power. The number of its pseudo-terminal stays its own: else the board of another
+        case may get it, and a recorder that opens it hears that one."""
         os.unlink(self.device)
         if self.cable is not None:
             os.unlink(self.cable)
-        os.close(self.slave)
         os.close(self.line)
         self.line = -1
         self.forget()
 
+    def _let_number_go(self) -> None:
+        if self.slave >= 0:
+            os.close(self.slave)
+        self.slave = -1
+
     def end(self) -> None:
         if self.plugged:
             self.pull()
+        self._let_number_go()
 
     def forget(self) -> None:
         self.asked_for_updates = False
