@@ -2,7 +2,9 @@
 ghost use Rattle.std.specs.Prelude.{◌≡◌, ◌↔◌, ◌||◌, ◌&&◌, ◌==◌, ◌+◌, ◌<◌, ℕ, List, [], IsTrue, length};
 ghost use Rattle.std.specs.Str.{bytes_eq};
 ghost use Rattle.chess_rules.specs.declared.parts.Parts.{Parts};
+ghost use Rattle.chess_rules.specs.Picture.{picture};
 ghost use Rattle.settle_core.specs.declared.plies.Ply.{Ply as PlyOf};
+ghost use Rattle.board_alarms.specs.Plies.{position};
 ghost use Rattle.board_endings.specs.Keeping.{Grows, IsNext, KeepsCourse};
 ghost use Rattle.board_endings.specs.Moves.{TellsMove, brings_home as brings_home_of, brings_rook as brings_rook_of, castles_by, goes_two, is_king as is_king_of, is_rook as is_rook_of, last_ply, move_of};
 
@@ -19,6 +21,8 @@ pub struct Course {
     last: Option<Ply>,
     /// The last one is castling.
     castled: bool,
+    /// The game's position is that at its start.
+    is_at_start: bool,
     /// The codes of the position at the start.
     pub start: [u8; 64],
     /// Those of the position that the plies lead to.
@@ -118,6 +122,12 @@ fn brings_home(start: &[u8; 64], here: &[u8; 64], last: &Option<Ply>) -> bool
     }
 }
 
+fn is_board(one: &[u8; 64], other: &[u8; 64]) -> bool
+    ensures { result ≡ bytes_eq one.now other.now }
+{
+    *one == *other
+}
+
 fn is_count(one: u64, other: u64) -> bool
     ensures { result ≡ (one == other) }
 {
@@ -134,6 +144,7 @@ impl Course {
             count: 0,
             last: None,
             castled: false,
+            is_at_start: is_board(&picture, &picture),
             start: picture,
             here: picture,
         }
@@ -156,10 +167,12 @@ impl Course {
         let last = last_of(settler);
         let here = settler.position().picture();
         let castled = castles(&here, &last);
+        let is_at_start = is_board(&here, &self.start);
         Course {
             count,
             last,
             castled,
+            is_at_start,
             start: self.start,
             here,
         }
@@ -224,8 +237,8 @@ impl Course {
 
     /// Whether the game's position is that at its start.
     pub fn is_at_start(&self) -> bool
-        ensures { result ≡ bytes_eq self.now.here self.now.start }
+        ensures { (start : Parts) (plies : List PlyOf) → KeepsCourse self.now start plies → result ≡ bytes_eq (position start plies) (picture start) }
     {
-        self.here == self.start
+        self.is_at_start
     }
 }
