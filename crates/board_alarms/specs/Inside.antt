@@ -7,6 +7,8 @@ use Rattle.dgt_frame.specs.declared.First.{First}
 use Rattle.settle_core.specs.declared.plies.Ply.{Ply}
 use Rattle.board_events.specs.History.{reading_at}
 use Rattle.board_looks.specs.declared.look.Told.{Told}
+use Rattle.board_alarms.specs.declared.news.Sight.{Sight}
+use Rattle.board_alarms.specs.declared.news.Sight.TheVariants.{Another}
 use Rattle.board_alarms.specs.Clock.{clock_of, counts_of, lever_at, lever_said, presses_of, runs_said}
 use Rattle.board_alarms.specs.Hearing.{with_heard}
 
@@ -30,3 +32,8 @@ abbrev pub with_clock : ℕ → Bool → ℕ → First → Event → List Event 
 with_clock at added plies first event past told = with_heard at added plies (clock_of (runs_said event))
     (with_heard at added plies (presses_of (lever_said event) (lever_at past))
     (with_heard at added plies (counts_of (reading_at first past) (reading_at first (event ∷ past))) told))
+
+-- An event shows another picture.
+abbrev pub shows_another : Sight → Bool
+shows_another Another = true
+shows_another other = false

@@ -7,10 +7,10 @@ use Rattle.board_alarms.specs.Hearing.{agrees, shown_at}
 use Rattle.board_alarms.specs.Keeping.{KeepsCourse}
 use Rattle.board_alarms.proofs.event_heard.tell_plies.Goals as goal
 
-pub returns-then-is_at : goal.returns-then-is_at
-returns-then-is_at c = λ start old told keeps same grows looks.
+pub returns-then-stays : goal.returns-then-stays
+returns-then-stays c = λ start old told keeps same grows none looks.
     let shown = shown_at c.args.sight c.args.picture.now in
-    let stay = (c.is_at.ensures start old keeps grows).0 c.if-is_at.true in
+    let stay = (c.stays.ensures start old keeps grows none).0 c.if-stays.true in
     let agree = c.agrees-agrees.ensures start old keeps ∙ ap (λ (plies : List Ply). agrees start plies shown) (sym stay) in
     let C : List Ply → Type 0 = λ plies. KeepsCourse c.args.course.now start plies in
     on_ok_weaker c.tell_agreement.result (λ looks. (
@@ -22,9 +22,9 @@ returns-then-is_at c = λ start old told keeps same grows looks.
     )) (c.tell_agreement.ensures told looks)
 
 pub returns : goal.returns
-returns c = λ start old told keeps same grows looks.
+returns c = λ start old told keeps same grows none looks.
     let plies = c.args.settler.now.score.plies in
-    let other : plies ≢ old = λ e. let no = c.if-is_at.false in let t = (c.is_at.ensures start old keeps grows).1 e in absurd cc in
+    let other : plies ≢ old = λ e. let no = c.if-stays.false in let t = (c.stays.ensures start old keeps grows none).1 e in absurd cc in
     let hears = c.go_on-heard.ensures.heard start (agrees start plies (shown_at c.args.sight c.args.picture.now)) old keeps same grows other in
     on_ok_weaker c.tell-2.result (λ looks. (c.go_on-heard.result.news, c.go_on-heard.result.ply, hears, c.go_on-heard.ensures.keeps start old keeps same grows, looks))
     (c.tell-2.ensures _ (c.in_ok-tell.ensures told looks))
