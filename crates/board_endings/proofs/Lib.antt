@@ -1,4 +1,5 @@
 mod CourseLemmas
 mod DueLemmas
+mod MaskLemmas
 mod OnceLemmas
 mod TakeLemmas
