@@ -12,7 +12,7 @@ ghost use Rattle.board_looks.specs.declared.look.Told.{Told as ToldOf};
 ghost use Rattle.board_looks.specs.Keeping.{StandsFor as LooksStandFor};
 ghost use Rattle.board_alarms.specs.Clock.{lever_at};
 ghost use Rattle.board_alarms.specs.Hearing.{HearsPicture, HearsResult, agrees as agrees_with, away_of, shown_at, with_heard};
-ghost use Rattle.board_alarms.specs.Inside.{Grows, is_time, shows_another as shows_another_of, with_clock};
+ghost use Rattle.board_alarms.specs.Inside.{Grows, ShowsLast, is_time, shows_another as shows_another_of, with_clock};
 ghost use Rattle.board_alarms.specs.Keeping.{KeepsCourse};
 ghost use Rattle.board_alarms.specs.Plies.{HearsPlies};
 
@@ -132,13 +132,14 @@ pub fn tell_plies(
     picture: &[u8; 64],
 ) -> Result<(), AllocError>
     ensures { (start : Parts) (old : List PlyOf) (told : List ToldOf) → KeepsCourse course.old start old → settler.now.start ≡ start
-        → Grows old settler.now.score.plies → (shows_another_of sight ≡ false → settler.now.score.plies ≡ old) → LooksStandFor looks.old told → OnOk result ((news ply : Option HeardOf)
+        → Grows old settler.now.score.plies → (shows_another_of sight ≡ false → settler.now.score.plies ≡ old)
+        → ShowsLast sight settler.now.last picture.now → LooksStandFor looks.old told → OnOk result ((news ply : Option HeardOf)
         × HearsPlies start (agrees_with start settler.now.score.plies (shown_at sight picture.now)) old settler.now.score.plies news ply
         × KeepsCourse course.new start settler.now.score.plies
         × LooksStandFor looks.new (with_heard when.at when.is_added course.new.count ply (with_heard when.at when.is_added course.new.count news told))) }
 {
     if stays(course, settler, sight) {
-        let agrees = course.agrees(sight, picture);
+        let agrees = course.agrees(sight, settler.differs(), picture);
         return tell_agreement(looks, when, course.count, agrees);
     }
     let heard = course.go_on(settler);

@@ -1,5 +1,4 @@
 mod CourseLemmas
 mod DueLemmas
-mod MaskLemmas
 mod OnceLemmas
 mod TakeLemmas

@@ -1,4 +1,4 @@
-use Rattle.board_endings.proofs.MaskLemmas.{same_if_none}
+use Rattle.board_alarms.proofs.MaskLemmas.{same_if_none}
 use Rattle.board_endings.proofs.course.is_none.Goals as goal
 
 pub returns : goal.returns

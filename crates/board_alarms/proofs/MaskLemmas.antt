@@ -1,5 +1,5 @@
 -- Two pictures are the same if they differ on no square.
-use Rattle.std.proofs.Common.{◌≡◌, ◌<◌, ◌^◌, ◌==◌, inl, inr, ℕ, Bool, false, not, List, length, slice_index, sym, ap, ◌∙◌, arith}
+use Rattle.std.proofs.Common.{◌≡◌, ◌<◌, ◌^◌, ◌==◌, inl, inr, ℕ, Bool, false, not, List, Option, Some, length, slice_index, sym, ap, ◌∙◌, arith}
 use Rattle.std.specs.Int.{bit_at}
 use Rattle.std.specs.Str.{bytes_eq}
 use Rattle.std.proofs.lemmas.Bool.{cases_eq, eq-eqb, ne_eqb, true≢false}
@@ -9,6 +9,10 @@ use Rattle.std.proofs.lemmas.Slice.Eq.{bytes_eq-Decides}
 use Rattle.square_runs.specs.Squares.{Marks, some_square}
 use Rattle.square_runs.proofs.Squares.{any_none, marks_some}
 use Rattle.settle_core.specs.Masks.{IsDiff}
+use Rattle.board_alarms.specs.declared.news.Sight.{Sight}
+use Rattle.board_alarms.specs.declared.news.Sight.TheVariants.{Nothing, Again, Another}
+use Rattle.board_alarms.specs.Hearing.{last_shown, shown_at}
+use Rattle.board_alarms.specs.Inside.{DiffersBy, ShowsLast}
 use Rattle.settle_core.proofs.Stages.{differ_false}
 use Rattle.settle_core.proofs.Visiting.{unset_same}
 
@@ -37,3 +41,15 @@ same_if_none mask xs ys fits lx ly d =
       | inl none ↦ eq-eqb mask 0 none ∙ sym ((bytes_eq-Decides ys xs).1 (same mask xs ys lx ly d none))
       | inr some ↦ ne_eqb mask 0 some ∙ sym (differ_false ys xs (λ e. true≢false (sym (marks_some mask (differ xs ys) fits some (marks mask xs ys d)) ∙ nowhere xs ys e)))
     ]
+
+-- The last picture differs from a position on these squares.
+pub differs_by : (sight : Sight) (mask : ℕ) (last : Option (List ℕ)) (position seen : List ℕ) → ((picture : List ℕ) → last ≡ Some picture → IsDiff mask position picture)
+    → ShowsLast sight last seen → DiffersBy sight mask position seen
+differs_by Nothing mask last position seen differs shows = tt
+differs_by Again mask last position seen differs shows = differs seen shows
+differs_by Another mask last position seen differs shows = differs seen shows
+
+pub shows_last : (sight : Sight) (last before : Option (List ℕ)) (seen : List ℕ) → last_shown (shown_at sight seen) before ≡ last → ShowsLast sight last seen
+shows_last Nothing last before seen is = tt
+shows_last Again last before seen is = sym is
+shows_last Another last before seen is = sym is
