@@ -1,3 +1,4 @@
+pub mod MaskLemmas
 mod OnceLemmas
 mod PlyLemmas
 mod TakeLemmas

@@ -3,9 +3,10 @@ ghost use Rattle.std.specs.Prelude.{◌≡◌, ◌≢◌, ◌↔◌, ◌∷◌, 
 ghost use Rattle.std.specs.Str.{bytes_eq};
 ghost use Rattle.chess_rules.specs.declared.parts.Parts.{Parts};
 ghost use Rattle.settle_core.specs.declared.plies.Ply.{Ply as PlyOf};
+ghost use Rattle.settle_core.specs.Masks.{IsDiff};
 ghost use Rattle.board_doubts.specs.declared.heard.Heard.TheVariants.{Shows};
 ghost use Rattle.board_alarms.specs.Hearing.{SeesApart, agrees as agrees_with, shown_at, stands as stands_on};
-ghost use Rattle.board_alarms.specs.Inside.{Grows, first_of};
+ghost use Rattle.board_alarms.specs.Inside.{DiffersBy, Grows, first_of};
 ghost use Rattle.board_alarms.specs.Keeping.{KeepsCourse, KeepsPositions};
 ghost use Rattle.board_alarms.specs.Plies.{HearsPlies, heard_ply, is_black as is_black_of, position, repeats as repeats_of};
 
@@ -103,6 +104,20 @@ fn either(one: bool, other: bool) -> bool
     ensures { result ≡ (one || other) }
 {
     one || other
+}
+
+/// For its clause: there are 64 squares.
+fn count_squares(picture: &[u8; 64])
+    ensures { length picture.now ≡ 64 }
+{}
+
+/// Whether two pictures are the same, if they differ on these squares.
+fn is_none(differs: u64, one: &[u8; 64], other: &[u8; 64]) -> bool
+    ensures { IsDiff differs one.now other.now → result ≡ bytes_eq other.now one.now }
+{
+    count_squares(one);
+    count_squares(other);
+    differs == 0
 }
 
 impl Positions {
@@ -251,14 +266,15 @@ impl Course {
         seen(&played, picture)
     }
 
-    /// Whether an event shows the game's position, if this is the last picture then.
-    pub fn agrees(&self, sight: Sight, picture: &[u8; 64]) -> bool
-        ensures { (start : Parts) (plies : List PlyOf) → KeepsCourse self.now start plies → result ≡ agrees_with start plies (shown_at sight picture.now) }
+    /// Whether an event shows the game's position, if this is the last picture then, and differs from it on these squares.
+    pub fn agrees(&self, sight: Sight, differs: u64, picture: &[u8; 64]) -> bool
+        ensures { (start : Parts) (plies : List PlyOf) → KeepsCourse self.now start plies → DiffersBy sight differs (position start plies) picture.now
+            → result ≡ agrees_with start plies (shown_at sight picture.now) }
     {
         match sight {
             Sight::Nothing => false,
-            Sight::Again => *picture == self.positions.here,
-            Sight::Another => *picture == self.positions.here,
+            Sight::Again => is_none(differs, &self.positions.here, picture),
+            Sight::Another => is_none(differs, &self.positions.here, picture),
         }
     }
 

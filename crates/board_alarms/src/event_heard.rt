@@ -1,5 +1,5 @@
 //! What is heard of one event, told to the alarms.
-ghost use Rattle.std.specs.Prelude.{◌≡◌, ◌↔◌, ◌∷◌, IsTrue, List, None, OnOk, Option, Some, if◌then◌else◌, is_some};
+ghost use Rattle.std.specs.Prelude.{◌≡◌, ◌↔◌, ◌∷◌, IsTrue, false, List, None, OnOk, Option, Some, if◌then◌else◌, is_some};
 ghost use Rattle.chess_rules.specs.declared.parts.Parts.{Parts};
 ghost use Rattle.dgt_frame.specs.declared.events.Event.{Event as EventOf};
 ghost use Rattle.settle_core.specs.declared.plies.Ply.{Ply as PlyOf};
@@ -12,7 +12,7 @@ ghost use Rattle.board_looks.specs.declared.look.Told.{Told as ToldOf};
 ghost use Rattle.board_looks.specs.Keeping.{StandsFor as LooksStandFor};
 ghost use Rattle.board_alarms.specs.Clock.{lever_at};
 ghost use Rattle.board_alarms.specs.Hearing.{HearsPicture, HearsResult, agrees as agrees_with, away_of, shown_at, with_heard};
-ghost use Rattle.board_alarms.specs.Inside.{Grows, is_time, with_clock};
+ghost use Rattle.board_alarms.specs.Inside.{Grows, ShowsLast, is_time, shows_another as shows_another_of, with_clock};
 ghost use Rattle.board_alarms.specs.Keeping.{KeepsCourse};
 ghost use Rattle.board_alarms.specs.Plies.{HearsPlies};
 
@@ -104,6 +104,24 @@ fn tell_agreement(looks: &mut Looks, when: When, plies: u64, agrees: bool) -> Re
     }
 }
 
+fn shows_another(sight: Sight) -> bool
+    ensures { result ≡ shows_another_of sight }
+{
+    matches!(sight, Sight::Another)
+}
+
+/// Whether the game has the plies of the settler, which has come on from here with an event that shows this. Without another picture
+/// they stay.
+fn stays(course: &Course, settler: &Settler, sight: Sight) -> bool
+    ensures { (start : Parts) (old : List PlyOf) → KeepsCourse course.now start old → Grows old settler.now.score.plies
+        → (shows_another_of sight ≡ false → settler.now.score.plies ≡ old) → IsTrue result ↔ (settler.now.score.plies ≡ old) }
+{
+    if !shows_another(sight) {
+        return true;
+    }
+    course.is_at(settler)
+}
+
 /// Tells what is heard of the plies, and lets the game go on to those of the settler.
 pub fn tell_plies(
     looks: &mut Looks,
@@ -114,13 +132,14 @@ pub fn tell_plies(
     picture: &[u8; 64],
 ) -> Result<(), AllocError>
     ensures { (start : Parts) (old : List PlyOf) (told : List ToldOf) → KeepsCourse course.old start old → settler.now.start ≡ start
-        → Grows old settler.now.score.plies → LooksStandFor looks.old told → OnOk result ((news ply : Option HeardOf)
+        → Grows old settler.now.score.plies → (shows_another_of sight ≡ false → settler.now.score.plies ≡ old)
+        → ShowsLast sight settler.now.last picture.now → LooksStandFor looks.old told → OnOk result ((news ply : Option HeardOf)
         × HearsPlies start (agrees_with start settler.now.score.plies (shown_at sight picture.now)) old settler.now.score.plies news ply
         × KeepsCourse course.new start settler.now.score.plies
         × LooksStandFor looks.new (with_heard when.at when.is_added course.new.count ply (with_heard when.at when.is_added course.new.count news told))) }
 {
-    if course.is_at(settler) {
-        let agrees = course.agrees(sight, picture);
+    if stays(course, settler, sight) {
+        let agrees = course.agrees(sight, settler.differs(), picture);
         return tell_agreement(looks, when, course.count, agrees);
     }
     let heard = course.go_on(settler);

@@ -4,7 +4,7 @@ use Rattle.std.specs.Int.{bit_at}
 use Rattle.std.proofs.lemmas.Bool.{cases_eq, ne_eqb}
 use Rattle.std.proofs.lemmas.Nat.Bits.{bit_at-zero}
 use Rattle.square_runs.specs.Squares.{Marks, some_square}
-use Rattle.square_runs.proofs.Squares.{any_none, nor_zero}
+use Rattle.square_runs.proofs.Squares.{any_none, any_some, nor_zero}
 use Rattle.board_doubts.specs.Elsewhere.{is_of}
 
 -- one mask is the other without this square
@@ -99,3 +99,29 @@ none_marked mask differs test marks empty only s low = ap (λ n. n == 1) (bit_at
 
 pub none_met : (mask : ℕ) (differs test : ℕ → Bool) → Marks mask differs → mask ≡ 0 → ((s : ℕ) → differs s ≡ false → test s ≡ false) → false ≡ some_square test
 none_met mask differs test marks empty only = sym (any_none 64 test (λ s low. only s (nowhere mask differs marks empty s low)))
+
+-- where no other piece stands
+
+pub other_last : (p q : ℕ) → not (q == p) ≡ false → (not (q == 0) && not (q == p)) ≡ false
+other_last p q e = nor_last (not (q == 0)) (not (q == p)) e
+
+pub nor_landed : (black : Bool) (q : ℕ) (d : Bool) → (not (q == 0) && d) ≡ false → (is_of black q && d) ≡ false
+nor_landed black q d e =
+    elim (cases_eq q 0) [
+      | inl none ↦ ap (λ n. is_of black n && d) none ∙ ap (λ x. x && d) (nor_zero_piece black)
+      | inr some ↦ nor_last (is_of black q) d (sym (ap (λ x. not x && d) (ne_eqb q 0 some)) ∙ e)
+    ]
+
+pub nor_gone : (a b c : Bool) → a ≡ false → ((a && b) && c) ≡ false
+nor_gone a b c e = ap (λ x. (x && b) && c) e
+
+pub nor_out : (a b c d : Bool) → a ≡ false → c ≡ false → (((a && b) || c) && d) ≡ false
+nor_out a b c d e h = ap (λ x. ((x && b) || c) && d) e ∙ ap (λ x. x && d) h
+
+at_none : (test : ℕ → Bool) (s : ℕ) → s < 64 → (b : Bool) → test s ≡ b → some_square test ≡ false → test s ≡ false
+at_none test s low true is none = absurd (let never : true ≡ false = sym (any_some 64 test s low is) ∙ none in cc)
+at_none test s low false is none = is
+
+-- No square meets the test.
+pub none_at : (test other : ℕ → Bool) → some_square test ≡ false → ((s : ℕ) → test s ≡ false → other s ≡ false) → Marks 0 other
+none_at test other none only s low = ap (λ n. n == 1) (bit_at-zero s) ∙ sym (only s (at_none test s low (test s) refl none))

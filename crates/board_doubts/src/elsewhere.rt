@@ -1,7 +1,7 @@
 //! What a picture shows apart from the game's position. Pictures and positions are the codes of the 64 squares, as
 //! `Position::picture` of `chess_rules` has them.
 ghost use Rattle.std.specs.Prelude.{◌≡◌, ◌<◌, ◌==◌, ◌&&◌, ◌||◌, ◌↔◌, not, ℕ, IsTrue, slice_index};
-ghost use Rattle.square_runs.specs.Squares.{Marks};
+ghost use Rattle.square_runs.specs.Squares.{Marks, some_square};
 ghost use Rattle.board_doubts.specs.Elsewhere.{Sees, comes as comes_of, differs as differs_of, elsewhere, is_astray as is_astray_of, is_gone as is_gone_of, is_lifted as is_lifted_of, is_of as is_of_side, may_have_gone as may_have_gone_of};
 ghost use Rattle.board_doubts.specs.Ways.{can_go as can_go_of};
 
@@ -230,6 +230,30 @@ fn is_lifted(black: bool, position: &[u8; 64], picture: &[u8; 64], mask: u64) ->
     false
 }
 
+/// Whether another piece stands here than the position has here.
+fn is_other(position: u8, shown: u8) -> bool
+    ensures { result ≡ (not (shown == 0) && not (shown == position)) }
+{
+    both(shown != 0, differ(position, shown))
+}
+
+/// Whether one does on some square: else pieces were lifted at most.
+fn lands(position: &[u8; 64], picture: &[u8; 64], mask: u64) -> bool
+    requires { Marks mask (differs_of position.now picture.now) }
+    ensures { result ≡ some_square (λ s. not (slice_index picture.now s == 0) && differs_of position.now picture.now s) }
+{
+    let mut left = mask;
+    'left: while 0 < left {
+        let square = first_square(left);
+        let i = square as usize;
+        if is_other(position[i], picture[i]) {
+            return true;
+        }
+        left = without(left, square);
+    }
+    false
+}
+
 fn is_picture(one: &[u8; 64], other: &[u8; 64]) -> bool
     ensures { IsTrue result ↔ (one.now ≡ other.now) }
 {
@@ -255,20 +279,34 @@ pub fn seen(played: &Played, picture: &[u8; 64]) -> Seen
             in_hand: false,
         };
     }
+    let is_off = is_gone(!black, played.before, position, position, picture, mask);
+    let was_drawn = is_gone(
+        black,
+        played.earlier,
+        played.before,
+        position,
+        picture,
+        mask,
+    );
+    let in_hand = is_lifted(!black, position, picture, mask);
+    if !lands(position, picture, mask) {
+        return Seen {
+            own: 0,
+            others: 0,
+            astray: 0,
+            is_off,
+            is_back,
+            was_drawn,
+            in_hand,
+        };
+    }
     Seen {
         own: gone_to(black, position, played.before, picture, mask),
         others: gone_to(!black, position, position, picture, mask),
         astray: astray(black, played.before, position, picture, mask),
-        is_off: is_gone(!black, played.before, position, position, picture, mask),
+        is_off,
         is_back,
-        was_drawn: is_gone(
-            black,
-            played.earlier,
-            played.before,
-            position,
-            picture,
-            mask,
-        ),
-        in_hand: is_lifted(!black, position, picture, mask),
+        was_drawn,
+        in_hand,
     }
 }

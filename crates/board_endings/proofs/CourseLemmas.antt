@@ -1,5 +1,5 @@
 -- How a game goes on with an event.
-use Rattle.std.proofs.Common.{◌≡◌, ◌&&◌, inl, inr, Bool, true, false, not, if◌then◌else◌, List, [], ◌∷◌, drop, length, sym, ap, subst, ◌∙◌, arith}
+use Rattle.std.proofs.Common.{◌≡◌, ◌&&◌, inl, inr, Bool, true, false, not, if◌then◌else◌, List, [], ◌∷◌, drop, length, Some, refl, sym, ap, subst, ◌∙◌, arith}
 use Rattle.std.proofs.lemmas.Option.{same_Some}
 use Rattle.chess_rules.specs.declared.parts.Parts.{Parts}
 use Rattle.chess_rules.specs.Valid.{Valid}
@@ -7,11 +7,12 @@ use Rattle.dgt_frame.specs.declared.events.Event.{Event}
 use Rattle.settle_core.specs.declared.plies.Ply.{Ply}
 use Rattle.settle_core.specs.declared.plies.Seen.{Seen}
 use Rattle.settle_core.specs.declared.plies.Seen.TheVariants.{Same, Moved, Sign, Replaced, Waits}
-use Rattle.settle_core.specs.Entries.{Entry, deduplicated, repeats}
+use Rattle.settle_core.specs.Entries.{Entry, deduplicated, last_picture, repeats}
 use Rattle.settle_core.specs.Folding.{Folds, Score, moves_of, score_after, time_of}
 use Rattle.settle_core.specs.Settling.{reached}
 use Rattle.settle_core.proofs.Once.{folds_once}
 use Rattle.board_events.specs.Entries.{entry_at, is_entry}
+use Rattle.board_events.specs.History.{picture_of}
 use Rattle.board_events.specs.Session.{entries_in}
 use Rattle.board_events.specs.Settings.{Setting}
 use Rattle.board_endings.specs.Keeping.{Grows}
@@ -69,3 +70,18 @@ pub stays : (setting : Setting) (past : List Event) (event : Event) (old new : S
     → Folds setting.start (deduplicated (entries_in setting past)) old → Folds setting.start (deduplicated (entries_in setting (event ∷ past))) new → new ≡ old
 stays setting past event old new valid none f g =
     none_new setting.start (entry_at setting.first setting.rotated (event ∷ past)) (entries_in setting past) (is_entry event past) old new valid none f g
+
+entry_if : (given : Bool) (entry : Entry) (past : List Entry) → given ≡ true → last_picture (if given then entry ∷ past else past) ≡ Some entry.picture
+entry_if true entry past h = refl
+entry_if false entry past h = absurd cc
+
+is_given : (given other : Bool) → (given && other) ≡ true → given ≡ true
+is_given true other h = refl
+is_given false other h = h
+
+-- The last picture is the other one.
+pub last_is_new : (setting : Setting) (past : List Event) (event : Event) → is_new setting past event ≡ true
+    → last_picture (entries_in setting (event ∷ past)) ≡ Some (picture_of setting.rotated (event ∷ past))
+last_is_new setting past event h =
+    entry_if (is_entry event past) (entry_at setting.first setting.rotated (event ∷ past)) (entries_in setting past)
+    (is_given (is_entry event past) (not (repeats (picture_of setting.rotated (event ∷ past)) (entries_in setting past))) h)

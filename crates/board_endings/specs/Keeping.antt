@@ -1,5 +1,6 @@
 -- What the parts stand for. A reader needs none of it: the contracts hold for whatever this says.
 use Rattle.std.specs.Prelude.{◌≡◌, ◌≢◌, ◌⊎◌, Bool, true, ℕ, List, ◌∷◌, drop, length, Option, Some, None}
+use Rattle.std.specs.Str.{bytes_eq}
 use Rattle.chess_rules.specs.declared.parts.Parts.{Parts}
 use Rattle.chess_rules.specs.Picture.{picture}
 use Rattle.chess_rules.specs.Valid.{Valid}
@@ -27,6 +28,7 @@ pub record KeepsCourse (course : Course) (start : Parts) (plies : List Ply) : Ty
   pub counted : course.count ≡ length plies
   pub last_is : course.last ≡ last_ply plies
   pub castled_is : course.castled ≡ castles start plies
+  pub at_start : course.is_at_start ≡ bytes_eq (position start plies) (picture start)
   pub start_is : course.start ≡ picture start
   pub here_is : course.here ≡ position start plies
 

@@ -2,7 +2,10 @@
 ghost use Rattle.std.specs.Prelude.{◌≡◌, ◌↔◌, ◌||◌, ◌&&◌, ◌==◌, ◌+◌, ◌<◌, ℕ, List, [], IsTrue, length};
 ghost use Rattle.std.specs.Str.{bytes_eq};
 ghost use Rattle.chess_rules.specs.declared.parts.Parts.{Parts};
+ghost use Rattle.chess_rules.specs.Picture.{picture};
 ghost use Rattle.settle_core.specs.declared.plies.Ply.{Ply as PlyOf};
+ghost use Rattle.settle_core.specs.Masks.{IsDiff};
+ghost use Rattle.board_alarms.specs.Plies.{position};
 ghost use Rattle.board_endings.specs.Keeping.{Grows, IsNext, KeepsCourse};
 ghost use Rattle.board_endings.specs.Moves.{TellsMove, brings_home as brings_home_of, brings_rook as brings_rook_of, castles_by, goes_two, is_king as is_king_of, is_rook as is_rook_of, last_ply, move_of};
 
@@ -19,6 +22,8 @@ pub struct Course {
     last: Option<Ply>,
     /// The last one is castling.
     castled: bool,
+    /// The game's position is that at its start.
+    is_at_start: bool,
     /// The codes of the position at the start.
     pub start: [u8; 64],
     /// Those of the position that the plies lead to.
@@ -118,6 +123,26 @@ fn brings_home(start: &[u8; 64], here: &[u8; 64], last: &Option<Ply>) -> bool
     }
 }
 
+/// For its clause: there are 64 squares.
+fn count_squares(picture: &[u8; 64])
+    ensures { length picture.now ≡ 64 }
+{}
+
+fn is_board(one: &[u8; 64], other: &[u8; 64]) -> bool
+    ensures { result ≡ bytes_eq one.now other.now }
+{
+    *one == *other
+}
+
+/// Whether two pictures are the same, if they differ on these squares.
+fn is_none(differs: u64, one: &[u8; 64], other: &[u8; 64]) -> bool
+    ensures { IsDiff differs one.now other.now → result ≡ bytes_eq other.now one.now }
+{
+    count_squares(one);
+    count_squares(other);
+    differs == 0
+}
+
 fn is_count(one: u64, other: u64) -> bool
     ensures { result ≡ (one == other) }
 {
@@ -134,6 +159,7 @@ impl Course {
             count: 0,
             last: None,
             castled: false,
+            is_at_start: is_board(&picture, &picture),
             start: picture,
             here: picture,
         }
@@ -156,10 +182,12 @@ impl Course {
         let last = last_of(settler);
         let here = settler.position().picture();
         let castled = castles(&here, &last);
+        let is_at_start = is_board(&here, &self.start);
         Course {
             count,
             last,
             castled,
+            is_at_start,
             start: self.start,
             here,
         }
@@ -215,17 +243,17 @@ impl Course {
         }
     }
 
-    /// Whether a picture shows the game's position.
-    pub fn agrees(&self, picture: &[u8; 64]) -> bool
-        ensures { result ≡ bytes_eq picture.now self.now.here }
+    /// Whether a picture shows the game's position, if it differs from it on these squares.
+    pub fn agrees(&self, differs: u64, picture: &[u8; 64]) -> bool
+        ensures { IsDiff differs self.now.here picture.now → result ≡ bytes_eq picture.now self.now.here }
     {
-        *picture == self.here
+        is_none(differs, &self.here, picture)
     }
 
     /// Whether the game's position is that at its start.
     pub fn is_at_start(&self) -> bool
-        ensures { result ≡ bytes_eq self.now.here self.now.start }
+        ensures { (start : Parts) (plies : List PlyOf) → KeepsCourse self.now start plies → result ≡ bytes_eq (position start plies) (picture start) }
     {
-        self.here == self.start
+        self.is_at_start
     }
 }

@@ -92,8 +92,10 @@ impl Endings {
         if !is_another {
             return Ok(());
         }
-        let moved = self.course.go_on(when.is_added, session.settler());
-        let told = told_of(&self.course, moved, picture, self.result, outcome);
+        let settler = session.settler();
+        let moved = self.course.go_on(when.is_added, settler);
+        let differs = settler.differs();
+        let told = told_of(&self.course, moved, differs, picture, self.result, outcome);
         self.result = outcome;
         self.judging.take_picture(when.at, bytes, &told)
     }

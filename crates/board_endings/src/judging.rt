@@ -1,50 +1,44 @@
 //! What `game_over` says to what is told of a game, kept.
 ghost use Rattle.std.specs.Prelude.{◌≡◌, ◌∷◌, ◌<◌, ◌^◌, [], ℕ, List, OnOk, is_some};
 ghost use Rattle.game_over.specs.declared.happened.Event.{Event as EventOf};
+ghost use Rattle.game_over.specs.declared.happened.Happening.TheVariants.{Shows};
 ghost use Rattle.game_over.specs.Over.{ended_by, passes};
 ghost use Rattle.game_over.specs.Result.{has_come};
 ghost use Rattle.board_endings.specs.Keeping.{HasJudged};
 ghost use Rattle.board_endings.specs.Saying.{IsEnd, end_by, no_end, reopened as reopened_of};
-ghost use Rattle.board_endings.specs.Telling.{timed, with_ended, with_picture};
+ghost use Rattle.board_endings.specs.Telling.{happens, timed, with_ended, with_picture};
 
 use crate::news::End;
 use crate::picture::Told;
-use game_over::{Ending, Event, Happening, Said};
+use game_over::{Ending, Event, Happening, Said, Shown};
 use std::alloc::{AllocError, Global};
 
-/// The same, if an arbiter hasn't reopened the game.
-fn reopened(what: Happening, before: End) -> End
-    ensures { result ≡ reopened_of what before }
+/// Takes off how the game is over, if an arbiter reopens it.
+fn reopen(what: Happening, end: &mut End)
+    ensures { end.new ≡ reopened_of what end.old }
 {
-    match what {
-        Happening::Reopens => End {
-            over: None,
-            goes_on: None,
-            ..before
-        },
-        _ => before,
+    if let Happening::Reopens = what {
+        end.over = None;
+        end.goes_on = None;
     }
 }
 
 /// How the game stands once this was said to an event.
-fn end_after(said: Said, event: Event, before: End) -> End
-    ensures { result ≡ end_by said event before }
+fn go_on(said: Said, event: &Event, end: &mut End)
+    ensures { end.new ≡ end_by said event.now end.old }
 {
     match said {
-        Said::Nothing => reopened(event.what, before),
-        Said::IsOver(over) => End {
-            over: Some(over),
-            goes_on: None,
-            ..before
-        },
-        Said::BeginsNow => End {
-            begins: Some(event.bytes),
-            ..before
-        },
-        Said::GoesOn(count) => End {
-            goes_on: Some(count),
-            ..before
-        },
+        Said::Nothing => reopen(event.what, end),
+        Said::IsOver(over) => {
+            end.over = Some(over);
+            end.goes_on = None;
+        }
+        Said::BeginsNow => {
+            end.begins = Some(event.bytes);
+        }
+        Said::GoesOn(count) => {
+            end.goes_on = Some(count);
+        }
     }
 }
 
@@ -71,11 +65,12 @@ impl Judging {
     }
 
     /// Tells what happens.
+    #[inline(never)]
     pub fn take(&mut self, event: Event) -> Result<(), AllocError>
         ensures { (past : List EventOf) → HasJudged self.old past → OnOk result (HasJudged self.new (event ∷ past)) }
     {
         let said = self.ending.take(event)?;
-        self.end = end_after(said, event, self.end);
+        go_on(said, &event, &mut self.end);
         Ok(())
     }
 
@@ -108,22 +103,49 @@ impl Judging {
         }
     }
 
+    /// Tells a move or a correction; else that the board shows the game's position, or something else, which most pictures tell.
+    fn take_game(&mut self, at: u64, bytes: u64, game: Happening) -> Result<(), AllocError>
+        ensures { (past : List EventOf) → HasJudged self.old past → OnOk result (HasJudged self.new (happens at bytes game ∷ past)) }
+    {
+        match game {
+            Happening::Agrees => {
+                self.ending.agree(at);
+                Ok(())
+            }
+            Happening::Differs => {
+                self.ending.differ(at);
+                Ok(())
+            }
+            _ => self.take(Event {
+                at,
+                bytes,
+                what: game,
+            }),
+        }
+    }
+
+    /// Tells the picture.
+    fn show(&mut self, at: u64, bytes: u64, shown: Shown) -> Result<(), AllocError>
+        ensures { (past : List EventOf) → HasJudged self.old past → OnOk result (HasJudged self.new (happens at bytes (Shows shown) ∷ past)) }
+    {
+        if self.ending.show(shown) {
+            return Ok(());
+        }
+        self.take(Event {
+            at,
+            bytes,
+            what: Happening::Shows(shown),
+        })
+    }
+
     /// Tells what a picture tells that came then, with so many bytes.
     pub fn take_picture(&mut self, at: u64, bytes: u64, told: &Told) -> Result<(), AllocError>
         ensures { (past : List EventOf) → HasJudged self.old past → OnOk result (HasJudged self.new (with_picture at bytes told.now past)) }
     {
         self.pass(at, bytes)?;
-        self.take(Event {
-            at,
-            bytes,
-            what: told.game,
-        })?;
+        self.take_game(at, bytes, told.game)?;
         self.take_ended(at, bytes, told.ended)?;
-        self.take(Event {
-            at,
-            bytes,
-            what: Happening::Shows(told.shown),
-        })
+        self.show(at, bytes, told.shown)
     }
 
     /// How the game stands at this time, if nothing more is told.

@@ -4,6 +4,7 @@ ghost use Rattle.std.specs.Str.{bytes_eq};
 ghost use Rattle.chess_rules.specs.declared.parts.Parts.{Parts};
 ghost use Rattle.settle_core.specs.declared.plies.Outcome.{Outcome as OutcomeOf};
 ghost use Rattle.settle_core.specs.declared.plies.Ply.{Ply as PlyOf};
+ghost use Rattle.settle_core.specs.Masks.{IsDiff};
 ghost use Rattle.board_endings.specs.Keeping.{KeepsCourse};
 ghost use Rattle.board_endings.specs.Moves.{TellsMove};
 ghost use Rattle.board_endings.specs.Telling.{TellsPicture, TellsResult, declares as declares_of, ends as ends_of, game_by, outcome_of};
@@ -95,21 +96,22 @@ fn count_bits(squares: u64)
 {}
 
 /// What another picture tells, where this is the game after it, with this move or correction, and the result has become the second
-/// one.
+/// one. It differs from the game's position on these squares.
 pub fn told_of(
     course: &Course,
     moved: Option<Move>,
+    differs: u64,
     picture: &[u8; 64],
     before: Option<GameOutcome>,
     after: Option<GameOutcome>,
 ) -> Told
     ensures { (start : Parts) (added : Bool) (old new : List PlyOf) → KeepsCourse course.now start new → TellsMove start added old new moved
-        → TellsPicture start added old new before after picture.now result }
+        → IsDiff differs course.now.here picture.now → TellsPicture start added old new before after picture.now result }
 {
     let off = diff_mask(&course.start, picture);
     // For its clause: a mask has 64 bits.
     count_bits(off);
-    let agrees = course.agrees(picture);
+    let agrees = course.agrees(differs, picture);
     Told {
         game: game(moved, agrees),
         ended: ended(moved, before, after),

@@ -197,6 +197,7 @@ impl Standing {
     }
 
     /// Takes what is heard.
+    #[inline(never)]
     pub fn take(&mut self, event: Event)
         ensures { (past : List EventOf) → StandsFor self.old past → StandsFor self.new (event ∷ past) }
     {

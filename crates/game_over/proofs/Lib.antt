@@ -1,4 +1,5 @@
 pub mod Behind
 pub mod Endings
 pub mod OneWay
+pub mod Quiet
 pub mod Staying

@@ -76,6 +76,10 @@ is_over past = is_some (why_over past)
 abbrev pub ended_by : Event → List Event → Option Why
 ended_by event past = if is_over past then None else why_by event.what event.at past
 
+-- this happens then, and with it the capture has so many bytes
+abbrev pub happens : ℕ → ℕ → Happening → Event
+happens at bytes what = record { at = at; bytes = bytes; what = what }
+
 -- time passes
 abbrev pub passes : ℕ → ℕ → Event
 passes at bytes = record { at = at; bytes = bytes; what = Passes }

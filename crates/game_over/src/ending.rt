@@ -1,12 +1,12 @@
 //! The machine: it takes what happens in a game, and says when the game is over.
-ghost use Rattle.std.specs.Prelude.{◌≡◌, ◌∷◌, ◌<◌, ◌^◌, [], ℕ, IfOk, IfSome, List, None, OnOk, Some, if◌then◌else◌, is_some};
+ghost use Rattle.std.specs.Prelude.{◌≡◌, ◌∷◌, ◌<◌, ◌^◌, ◌||◌, [], ℕ, IfOk, IfSome, IsTrue, List, None, OnOk, Some, if◌then◌else◌, is_some};
 ghost use Rattle.game_ends.specs.Again.{StandsFor as AgainStandsFor};
 ghost use Rattle.game_over.specs.declared.happened.Event.{Event as EventOf};
-ghost use Rattle.game_over.specs.declared.happened.Happening.TheVariants.{Shows};
-ghost use Rattle.game_over.specs.declared.said.Said.TheVariants.{IsOver};
+ghost use Rattle.game_over.specs.declared.happened.Happening.TheVariants.{Agrees, Differs, Shows};
+ghost use Rattle.game_over.specs.declared.said.Said.TheVariants.{IsOver, Nothing};
 ghost use Rattle.game_over.specs.declared.said.Why.{Why as WhyOf};
 ghost use Rattle.game_over.specs.Keeping.{StandsFor};
-ghost use Rattle.game_over.specs.Over.{begins_now, begun_by, ended_by, front_by, goes_on, has_played, has_result as has_result_of, is_another, is_enough as is_enough_of, is_next as is_next_of, is_on_board as is_on_board_of, over_by, passes, pictures_by, played, played_by, reopens as reopens_of, shows_start as shows_start_of, starts_again as starts_again_of, stays_out as stays_out_of, why_by, why_moves as why_moves_of, why_over};
+ghost use Rattle.game_over.specs.Over.{begins_now, begun_by, ended_by, front_by, goes_on, happens, has_played, has_result as has_result_of, is_another, is_enough as is_enough_of, is_next as is_next_of, is_on_board as is_on_board_of, over_by, passes, pictures_by, played, played_by, reopens as reopens_of, shows_start as shows_start_of, starts_again as starts_again_of, stays_out as stays_out_of, why_by, why_moves as why_moves_of, why_over};
 ghost use Rattle.game_over.specs.Result.{has_come};
 ghost use Rattle.game_over.specs.Said.{IsSaid, is_sure_by, said_else, unfinished as unfinished_of, with_result as with_result_of};
 
@@ -253,6 +253,36 @@ impl Ending {
         Ok(said)
     }
 
+    /// Takes that the board shows the game's position, as `take` does. Nothing is said to it.
+    pub fn agree(&mut self, at: u64)
+        ensures stands { (past : List EventOf) (bytes : ℕ) → StandsFor self.old past → StandsFor self.new (happens at bytes Agrees ∷ past) }
+        ensures said { (past : List EventOf) (bytes : ℕ) → IsSaid Nothing (happens at bytes Agrees) past }
+    {
+        self.moves.show(true, at);
+        self.has_begun = true;
+    }
+
+    /// Takes that it shows something else, as `take` does. Nothing is said to it.
+    pub fn differ(&mut self, at: u64)
+        ensures stands { (past : List EventOf) (bytes : ℕ) → StandsFor self.old past → StandsFor self.new (happens at bytes Differs ∷ past) }
+        ensures said { (past : List EventOf) (bytes : ℕ) → IsSaid Nothing (happens at bytes Differs) past }
+    {
+        self.moves.show(false, at);
+    }
+
+    /// Takes the board's picture, as `take` does, if the start isn't shown. Whether it has taken it: then nothing is said to it.
+    pub fn show(&mut self, shown: Shown) -> bool
+        ensures stands { (past : List EventOf) (at bytes : ℕ) → StandsFor self.old past
+            → StandsFor self.new (if result then happens at bytes (Shows shown) ∷ past else past) }
+        ensures said { (past : List EventOf) (at bytes : ℕ) → StandsFor self.old past → IsTrue result → IsSaid Nothing (happens at bytes (Shows shown)) past }
+    {
+        if self.may_say(shown) {
+            return false;
+        }
+        self.again.take(shown.off, shown.at_start);
+        true
+    }
+
     /// When the game ends by time alone, if nothing happens before: then `Passes` ends it, and not before. None: never.
     pub fn due(&self) -> Option<u64>
         ensures { (past : List EventOf) → StandsFor self.now past → (time bytes : ℕ) → time < 2 ^ 64
@@ -282,6 +312,13 @@ impl Ending {
     {
         let mut again = self.again;
         again.take(shown.off, shown.at_start)
+    }
+
+    /// Whether something may be said to this picture.
+    fn may_say(&self, shown: Shown) -> bool
+        ensures { (past : List EventOf) → StandsFor self.now past → result ≡ (shows_start_of (Shows shown) || starts_again_of shown past) }
+    {
+        shown.off == 0 || self.starts_again(shown)
     }
 
     /// Why the game ends with this picture, if it isn't over.
@@ -417,7 +454,7 @@ impl Ending {
         let has_played = self.has_played_with(event);
         let is_another = self.is_another_with(event);
         let has_move = self.moves.has_move();
-        self.moves.take(event, self.given)?;
+        self.moves.take(&event, self.given)?;
         show(&mut self.again, event.what);
         self.given = given_after(event, self.given);
         self.has_begun = begun_after(event.what, has_move, self.has_begun);

@@ -49,47 +49,32 @@ fn second_after(at: u64, first: Option<u64>, second: Option<u64>) -> Option<u64>
     }
 }
 
-/// The board shows the position after it, or something else.
-fn show(last: Last, agrees: bool, at: u64) -> Last
-    ensures { result ≡ shown_by agrees at last }
+/// The board shows the position after the last move, or something else.
+fn show(last: &mut Option<Last>, agrees: bool, at: u64)
+    ensures { last.new ≡ showed_by agrees at last.old }
 {
-    Last {
-        left: if agrees {
+    if let Some(last) = last {
+        last.left = if agrees {
             None
         } else {
             carried(true, at, last.left)
-        },
-        first: carried(true, at, last.first),
-        second: second_after(at, last.first, last.second),
-        ..last
+        };
+        last.second = second_after(at, last.first, last.second);
+        last.first = carried(true, at, last.first);
     }
 }
 
-fn showed(last: Option<Last>, agrees: bool, at: u64) -> Option<Last>
-    ensures { result ≡ showed_by agrees at last }
+/// A move that is made just now.
+fn make(played: Move, at: u64, bytes: u64) -> Last
+    ensures { result ≡ new_move played at bytes }
 {
-    match last {
-        None => None,
-        Some(last) => Some(show(last, agrees, at)),
-    }
-}
-
-/// The last move after this event.
-fn last_after(event: Event, before: Option<Last>) -> Option<Last>
-    ensures { result ≡ last_by event.what event.at event.bytes before }
-{
-    match event.what {
-        Happening::Moves(played) => Some(Last {
-            played,
-            at: event.at,
-            bytes: event.bytes,
-            left: None,
-            first: None,
-            second: None,
-        }),
-        Happening::Agrees => showed(before, true, event.at),
-        Happening::Differs => showed(before, false, event.at),
-        _ => before,
+    Last {
+        played,
+        at,
+        bytes,
+        left: None,
+        first: None,
+        second: None,
     }
 }
 
@@ -233,15 +218,35 @@ impl Moves {
     /// # Errors
     ///
     /// Where there is no memory for a move. Then nothing more may be taken.
-    pub fn take(&mut self, event: Event, given: Option<Given>) -> Result<(), AllocError>
-        ensures { (past : List EventOf) → KeepsMoves self.old past → given ≡ last_given past → OnOk result (KeepsMoves self.new (event ∷ past)) }
+    pub fn take(&mut self, event: &Event, given: Option<Given>) -> Result<(), AllocError>
+        ensures { (past : List EventOf) → KeepsMoves self.old past → given ≡ last_given past → OnOk result (KeepsMoves self.new (event.now ∷ past)) }
     {
-        if let Happening::Moves(_) = event.what {
-            let last = showed(self.last, false, event.at);
-            add(&mut self.earlier, &mut self.places, last, given)?;
+        match event.what {
+            Happening::Moves(played) => {
+                show(&mut self.last, false, event.at);
+                add(&mut self.earlier, &mut self.places, self.last, given)?;
+                self.last = Some(make(played, event.at, event.bytes));
+                Ok(())
+            }
+            Happening::Agrees => {
+                self.show(true, event.at);
+                Ok(())
+            }
+            Happening::Differs => {
+                self.show(false, event.at);
+                Ok(())
+            }
+            _ => Ok(()),
         }
-        self.last = last_after(event, self.last);
-        Ok(())
+    }
+
+    /// The board shows the position after the last move, or something else.
+    pub fn show(&mut self, agrees: bool, at: u64)
+        ensures last { self.new.last ≡ showed_by agrees at self.old.last }
+        ensures earlier { self.new.earlier ≡ self.old.earlier }
+        ensures places { self.new.places ≡ self.old.places }
+    {
+        show(&mut self.last, agrees, at);
     }
 
     /// Where the game ended, if the start is shown again and this result stood.

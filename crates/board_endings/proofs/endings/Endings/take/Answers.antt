@@ -1,11 +1,16 @@
-use Rattle.std.proofs.Common.{◌≡◌, ℕ, Bool, true, List, refl, sym, subst, ◌∙◌}
+use Rattle.std.proofs.Common.{◌≡◌, ℕ, Bool, true, List, Some, refl, sym, ap, subst, ◌∙◌}
 use Rattle.std.proofs.lemmas.Result.{on_ok_weaker}
-use Rattle.settle_core.specs.Settler.{SettlerState}
+use Rattle.settle_core.specs.Settler.{SettlerState, position_of}
+use Rattle.settle_core.specs.Masks.{IsDiff}
+use Rattle.settle_core.specs.Folding.{moves_of}
+use Rattle.settle_core.specs.Settling.{reached}
+use Rattle.chess_rules.specs.Picture.{picture}
+use Rattle.chess_rules.specs.declared.parts.Parts.{Parts}
 use Rattle.board_endings.specs.Items.{events_of}
 use Rattle.board_endings.specs.Keeping.{Grows, KeepsCourse}
 use Rattle.board_endings.specs.Moves.{TellsMove}
 use Rattle.board_endings.specs.Telling.{TellsEvent, TellsPicture, with_picture}
-use Rattle.board_endings.proofs.CourseLemmas.{grows}
+use Rattle.board_endings.proofs.CourseLemmas.{grows, last_is_new}
 use Rattle.board_endings.proofs.endings.Endings.take.Goals as goal
 
 pub returns : goal.returns
@@ -19,12 +24,19 @@ returns c = λ setting items event h shown taken outcome.
     let grown = grows setting past event h.score score h.valid h.folds settled.folds in
     let K : SettlerState → Type 0 = λ s. s.start ≡ start → Grows old s.score.plies → KeepsCourse c.go_on-moved.new.self start s.score.plies in
     let M : SettlerState → Type 0 = λ s. s.start ≡ start → Grows old s.score.plies → TellsMove start added old s.score.plies c.go_on-moved.result in
-    let course = subst K c.settler.ensures.same (c.go_on-moved.ensures.keeps start old h.course) settled.start_is grown in
-    let moved = subst M c.settler.ensures.same (c.go_on-moved.ensures.tells start old h.course) settled.start_is grown in
+    let course = subst K c.settler-settler.ensures.same (c.go_on-moved.ensures.keeps start old h.course) settled.start_is grown in
+    let moved = subst M c.settler-settler.ensures.same (c.go_on-moved.ensures.tells start old h.course) settled.start_is grown in
     let told = c.told_of-told.result in
     let another : c.args.is_another ≡ true = c.if-not-is_another.false in
+    let new = sym shown.another_is ∙ another in
+    let mask = c.differs-differs.result in
+    let D : SettlerState → Type 0 = λ s. (seen : List ℕ) → s.last ≡ Some seen → IsDiff mask (picture (position_of s)) seen in
+    let differs = (subst D c.settler-settler.ensures.same c.differs-differs.ensures) c.args.picture.now
+    (settled.last ∙ last_is_new setting past event new ∙ ap (λ (seen : List ℕ). Some seen) (sym (shown.seen_is another))) in
+    let here = ap (λ (p : Parts). picture (reached p (moves_of score.plies))) settled.start_is ∙ sym course.here_is in
+    let H : List ℕ → Type 0 = λ board. IsDiff mask board c.args.picture.now in
     let P : List ℕ → Type 0 = λ seen. TellsPicture start added old score.plies c.args.self.now.result c.args.outcome seen told in
-    let tells = subst P (shown.seen_is another) (c.told_of-told.ensures start added old score.plies course moved) in
+    let tells = subst P (shown.seen_is another) (c.told_of-told.ensures start added old score.plies course moved (subst H here differs)) in
     let now = with_picture c.args.when.at c.args.bytes told h.told in
     let T : Bool → Type 0 = λ given. TellsEvent given setting past c.args.when.at added c.args.bytes event h.told now in
     on_ok_weaker c.take_picture.result (λ judged. record {
