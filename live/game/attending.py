@@ -125,6 +125,15 @@ class Attending(Child):
         """Whether all that was told is answered."""
         return not self._told
 
+    def heard_by(self, hears: HearsAnswers) -> None:
+        """From now on this one gets what the program answers."""
+        self._hears = self._hears_child = hears
+
+    @property
+    def is_closed(self) -> bool:
+        """Whether it was ended."""
+        return self._is_closed
+
     def pause(self) -> None:
         """It isn't woken from now on, so that all that was told gets answered."""
         self._is_paused = True

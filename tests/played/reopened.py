@@ -114,7 +114,7 @@ def series_goes_on(folder: pathlib.Path) -> None:
     """Between two games of a series the one that is over goes on: where the players have gone back by a ply; and, once it was put
     right while the board showed what was taken off, with `*`. It is ended by setting up, and the next one begins."""
     board = a_board(folder)
-    live = Live(board.device, folder / "round", "--series", "--linger", "1", typed=True)
+    live = Live(board.device, folder / "round", "--series", typed=True)
     begun(live)
     for number, move in enumerate(RUY):
         board.play(move)

@@ -201,7 +201,7 @@ def times_of_added(folder: pathlib.Path) -> None:
 def times_of_a_series(folder: pathlib.Path) -> None:
     """Two games on one board: each has its own times; killed within the second."""
     board = a_board(folder)
-    live = Live(board.device, folder / "round", "--series", "--linger", "1")
+    live = Live(board.device, folder / "round", "--series")
     begun(live)
     board.play("e2e4")
     board.kings_in_centre("e4", "d5")
@@ -211,7 +211,7 @@ def times_of_a_series(folder: pathlib.Path) -> None:
     board.play("d2d4")
     until_game(folder / "round-2", "1. d4 *")
     kill(live)
-    again = Live(board.device, folder / "round", "--series", "--linger", "1")
+    again = Live(board.device, folder / "round", "--series")
     board.play("d7d5")
     until_game(folder / "round-2", "1. d4 d5 *")
     same(stop(again), 0)
