@@ -26,7 +26,7 @@ from live.game.looks import Look, Looks
 from live.game.making_pgn import Made, Maker
 from live.game.opening import Opened
 from live.game.report import Clock, Differs, Event, Fault, Line, Move, Picture, Position, Recovered, Result, line_of
-from live.game.times import ADDED, BACK, LOOKED
+from live.game.times import ADDED, BACK, LOOKED, REOPENED
 from live.guard import Guard
 from live.steps import Resume, Steps
 from live.terminal.screen import Screen
@@ -130,8 +130,10 @@ class Recording(AttendedGame):
         self.attend(self.game.options.of_live(), with_times=True, known=opened.old.lines)
         if self._old == front_of(self.game.paths, self.game.capture) != 0:  # nothing has come since plies were taken off
             self._tell(BACK)
+            self._tell(REOPENED)
             self._goes_on()
-        elif opened.is_reopened:
+        elif opened.is_reopened:  # its times have it already
+            self.attending.tell(REOPENED)
             self._goes_on()
 
     def _goes_on(self) -> None:
