@@ -6,7 +6,7 @@ from typing import Callable, List, Optional, Protocol, Tuple
 
 from live.board.standing import Standing
 from live.game.attended import Answer, Doubt, Over
-from live.game.attending import Attending, Past, Told
+from live.game.attending import Attending, HearsAnswers, Past, Told
 from live.game.game import Game
 from live.game.times import ADDED, BEGIN, HEARD
 from live.guard import Guard
@@ -49,9 +49,14 @@ class AttendedGame:
 
     def take_over(self, before: AttendedGame) -> None:
         """The program that attended the board for another one does so for this one from now on."""
-        self.attending, self._late, self._has_lost = before.attending, before._late, before._has_lost
-        self.attending.heard_by(self)
-        self.took_over = before._is_handed_over = True
+        self.attending, self._late, self._has_lost = before.hand_over(self), before._late, before._has_lost
+        self.took_over = True
+
+    def hand_over(self, hears: HearsAnswers) -> Attending:
+        """From now on this one gets what the program says."""
+        self._is_handed_over = True
+        self.attending.heard_by(hears)
+        return self.attending
 
     # What happens.
 
@@ -110,7 +115,7 @@ class AttendedGame:
         if answer.begins:
             self._begins_behind(answer.begins)
         if answer.over:
-            self._ends_with(answer.over)
+            self._ends_with(answer.over, told.what == BEGIN)
         self._reports(told.at, answer.report)
         self._doubts(answer.doubts)
         if answer.over and not self._is_closed:
@@ -118,8 +123,8 @@ class AttendedGame:
         if answer.played and not self._is_closed:
             self._plays_on(answer.played, told.what == BEGIN)
 
-    def _ends_with(self, over: Over) -> None:
-        """The game is over with these bytes."""
+    def _ends_with(self, over: Over, is_known: bool) -> None:
+        """The game is over with these bytes; perhaps by the time when the program began to attend it."""
 
     def _is_over_by(self, over: Over) -> None:
         """The game is over, and all is reported that belongs to it."""

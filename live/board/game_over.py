@@ -10,12 +10,12 @@ from typing import Callable, List, Optional, Protocol
 from live.board.attended_game import AttendedGame, HearsGame
 from live.board.disk import unwritten_of
 from live.board.recording import Recording
+from live.game.afterwards import FromTheStart, went_on
 from live.game.alarms import keep_looks, kept_looks
 from live.game.course import Course
 from live.game.files import text_of
-from live.game.from_the_start import FromTheStart
 from live.game.game import Game
-from live.game.looks import OVER, Look
+from live.game.looks import Look
 from live.game.making_pgn import Made
 from live.game.report import Picture, line_of
 from live.game.way_back import NO_RESULT
@@ -100,8 +100,8 @@ class Listening(AttendedGame):
     def _plays_on(self, moves: int, is_known: bool) -> None:
         is_news, self._played = moves > self._played, moves
         if is_news and not is_known:
-            look = Look(f"after {self._last}", f"{moves} moves were made, and the game is over: {self._result}", OVER)
-            self._look(look, f"if the game isn't over, type {self._screen.reopens()}: it goes on with these moves")
+            otherwise = f"if the game isn't over, type {self._screen.reopens()}: it goes on with these moves"
+            self._look(went_on(self._last, moves, self._result), otherwise)
 
     def _look(self, look: Look, otherwise: str) -> None:
         """Raises an alarm."""

@@ -136,13 +136,14 @@ class Recorder:
             how = f". Type its result, as {self._screen.result_of(name, series)}" if self._reason is Reason.SET_UP else ""
             self._screen.say(f"{name} is over: {self._reason.value}{how}")
         self._closing = False
-        if self._ending or self._plan.rules.series or unwritten:
+        is_last = self._ending or (unwritten and not self._plan.rules.series)
+        if is_last or not before:
             self.now.close()
             self.now = None
         if self._ending:
             self._all_closed(unwritten)
         elif self._plan.rules.series:
-            self._await_start(before.end if before else None)
+            self._await_start(before.end if before else None, before)
         elif unwritten:
             self._end_with(unwritten)
         else:
@@ -179,7 +180,7 @@ class Recorder:
         self._cable.last_words()
         self._all_closed(unwritten)
 
-    def _await_start(self, end: Optional[int]) -> None:
+    def _await_start(self, end: Optional[int], before: Optional[Recording] = None) -> None:
         """The game is over, and the next one begins when the pieces are at the start."""
         paths = self.game.paths
         mark = end_mark(paths)
@@ -192,12 +193,15 @@ class Recorder:
             except OSError as error:
                 self._screen.say(f"{paths.end} can't be written ({text_of(error)})")
         self._screen.say(f"{self._next().name} begins when the pieces are at the start")
-        self._look_for_start(end)
+        self._look_for_start(end, before)
 
-    def _look_for_start(self, end: int) -> None:
+    def _look_for_start(self, end: int, before: Optional[Recording] = None) -> None:
         from live.board.setting_up import SettingUp
 
-        self._look_at(SettingUp(self._guard, self._screen, self.game, end, self))
+        setting_up = SettingUp(self._guard, self._screen, self.game, end, self, before)
+        if before:
+            before.close()
+        self._look_at(setting_up)
 
     def _next(self) -> Paths:
         return numbered(self._plan.name, int(self.game.paths.name.rpartition("-")[2]) + 1)

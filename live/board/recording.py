@@ -407,9 +407,12 @@ class Recording(AttendedGame):
 
     # How it ends.
 
-    def _ends_with(self, over: Over) -> None:
+    def _ends_with(self, over: Over, is_known: bool) -> None:
         """The program says that the game is over. What it says of an end again, once another child attends the board, is known."""
         if self._is_over or self._begins_anew or self._is_reopened:
+            return
+        if is_known and over.size == front_of(self.game.paths, self.game.capture) != 0:  # its times don't tell that an arbiter has reopened it
+            self._tell(REOPENED)
             return
         is_typed = self._typed == over.result and self._by_hand.start < over.size <= self._by_hand.stop
         self.end = self._by_hand.stop if is_typed else over.size  # with the picture that stands behind the sign of a result

@@ -147,14 +147,15 @@ class Attending(Child):
     def take(self) -> bytes:
         """Ends it. Returns what the board has sent and was neither kept nor known to be another board's."""
         self.close()
-        thens, left = self._thens(), self._undecided()
+        thens, left = self._thens(), self.undecided()
         self._told.clear()
         self._held.clear()
         for then in thens:
             then()
         return left
 
-    def _undecided(self) -> bytes:
+    def undecided(self) -> bytes:
+        """The same, while it goes on."""
         return b"".join([*self._held, *(told.sent for told in self._told if told.what == times.HEARD)])
 
     def _thens(self) -> List[Callback]:
@@ -168,7 +169,7 @@ class Attending(Child):
     # How it begins.
 
     def _begins_anew(self) -> None:
-        thens, left = self._thens(), self._undecided()
+        thens, left = self._thens(), self.undecided()
         self._told.clear()
         self._out.clear()
         self._held.clear()

@@ -3,7 +3,8 @@
 import math
 from typing import Any, List, Tuple
 
-from live.game.from_the_start import FromTheStart
+from live.game.afterwards import FromTheStart, went_on
+from live.game.looks import Looks
 from live.game.report import line_of
 
 from attending.state_rules import Agreement
@@ -46,4 +47,11 @@ def from_the_start() -> None:
              [f"LOOK after 38. Kf2: {count} moves were made from the start, and the game is over without a result" for count in expected])  # fmt: skip
 
 
-TABLES = [from_the_start, agreements]
+def afterwards() -> None:
+    """Moves after a result, as the program counts them."""
+    same("two moves", went_on("38. Kf2", 2, "1-0").text, "LOOK after 38. Kf2: 2 moves were made, and the game is over: 1-0")
+    same("more replace it", Looks().with_one_more(went_on("38. Kf2", 2, "1-0")).with_one_more(went_on("38. Kf2", 3, "1-0")).all,
+         "LOOK after 38. Kf2: 3 moves were made, and the game is over: 1-0")  # fmt: skip
+
+
+TABLES = [from_the_start, afterwards, agreements]

@@ -29,6 +29,36 @@ def play(board: Board, moves: Sequence[str], pause: float = 0.0) -> None:
         rest(pause)
 
 
+def played_on_after_the_sign(folder: pathlib.Path) -> None:
+    """The kings are in the centre by mistake, and the players go on: the game is over, and the second move is an alarm. The result is taken
+    off, and the game has all moves. It ends by a result that stands, and the next game begins with the start."""
+    board = a_board(folder)
+    live = Live(board.device, folder / "round", "--series", typed=True)
+    begun(live)
+    play(board, ["e2e4", "e7e5"])
+    until_game(folder / "round-1", "1. e4 e5 *")
+    board.kings_in_centre("d4", "d5")
+    until_line(live, f"{words.RESULT}1/2-1/2")
+    play(board, ["d4e1", "d5e8", "g1f3"])
+    until_line(live, "round-1 is over: another move was made after its result")
+    board.play("b8c6")
+    until_line(live, "LOOK after 1... e5: 2 moves were made, and the game is over: 1/2-1/2. Look at it, and type ok")
+    until_game(folder / "round-1", "1. e4 e5 1/2-1/2")
+    live.type("*")
+    until_game(folder / "round-1", "1. e4 e5 2. Nf3 Nc6 *")
+    live.type("ok")
+    board.play("f1b5")
+    until_game(folder / "round-1", "1. e4 e5 2. Nf3 Nc6 3. Bb5 *")
+    live.type("1-0")
+    until_line(live, f"round-2 {words.BEGINS}", 2)
+    board.set_up([])
+    until(lambda: len(bytes_of(folder / "round-2.dgt")) >= 67, "the second game")
+    board.play("d2d4")
+    until_game(folder / "round-2", "1. d4 *")
+    same(stop(live), 0)
+    same(movetext(folder / "round-1"), "1. e4 e5 2. Nf3 Nc6 3. Bb5 1-0")
+
+
 def come_home(board: Board, pause: float = 0.02, kings_first: bool = False) -> None:
     """The pieces are set up again in random order."""
     for _ in board.homecoming(kings_first):

@@ -1,7 +1,4 @@
-"""Moves from the start on a board whose game is over without a result, as its pieces were set up. Pure: events are passed in.
-
-Perhaps somebody tried some moves before the game, and it begins only now. Another child attends the board from then on: the one of the
-game that is over knows no game after it."""
+"""Moves on a board whose game is over: what somebody must look at. Pure: events are passed in."""
 
 from __future__ import annotations
 
@@ -14,9 +11,16 @@ from live.game.report import Event, Move
 SURE = 2  # moves: one alone may be a piece that somebody sets straight
 
 
+def went_on(after: str, moves: int, result: str) -> Look:
+    """The program says that so many moves were made after a game with this last move and this result."""
+    return Look(f"after {after}", f"{moves} moves were made, and the game is over: {result}", OVER)
+
+
 @dataclass
 class FromTheStart:
-    """Takes the reported events of the board, from the start on."""
+    """Takes the reported events of a board whose game is over without a result, since its pieces were set up, from the start on. Perhaps
+    somebody tried some moves before the game, and it begins only now. Another child attends the board then: the one of the game that is
+    over knows no game after it."""
 
     after: str  # the last move of the game, as `38. Kf2`
     count: int = 0
