@@ -416,6 +416,8 @@ class Recording(AttendedGame):
             return
         is_typed = self._typed == over.result and self._by_hand.start < over.size <= self._by_hand.stop
         self.end = self._by_hand.stop if is_typed else over.size  # with the picture that stands behind the sign of a result
+        if is_known:
+            self._dropped += [ply.words for ply in self.course.end(self.end, over.result)]
 
     def _is_over_by(self, over: Over) -> None:
         if self._is_over or self.end is None:

@@ -56,6 +56,14 @@ class Course:
         self.ends.append(offset)
         self.began = self.began or offset
 
+    def end(self, size: int, result: str) -> List[Move]:
+        """The game has so many bytes and this result. Returns the plies behind them, which it has no more."""
+        kept = sum(at < size for at in self.ends)
+        gone = self.plies[kept:]
+        del self.plies[kept:], self.ends[kept:], self.fens[kept + 1 :]
+        self.result = result
+        return gone
+
     def standing(self) -> Sequence[Event]:
         """The fewest lines that give the board's state."""
         last: List[Event] = [*self.plies[-1:]]

@@ -79,6 +79,16 @@ def courses() -> None:
         same(f"the clocks after {len(plies)} plies", list(clocks_of([Move(*ply) for ply in plies])), clocks)
 
 
+def ends() -> None:
+    """What stays of a course if the game has fewer bytes, as the program says of one that was over before."""
+    game = ["0 position start w", "70 move 1. e4", "70 position e4 b", "80 move 1... e5", "80 position e5 w", "90 result 1-0", "100 move 2. Nf3",
+            "100 position Nf3 b", "100 result *"]  # fmt: skip
+    for size, result, stays, gone in ((91, "1-0", ["e4", "e5"], ["Nf3"]), (81, "*", ["e4", "e5"], ["Nf3"]), (80, "*", ["e4"], ["e5", "Nf3"]), (101, "*", ["e4", "e5", "Nf3"], [])):
+        course = course_of(game)
+        same(f"{size} bytes, gone", [ply.san for ply in course.end(size, result)], gone)
+        same(f"{size} bytes", ([ply.san for ply in course.plies], len(course.fens), len(course.ends), course.result), (stays, len(stays) + 1, len(stays), result))
+
+
 def seen(course: Course) -> object:
     """What the course of a game comes to."""
     return course.placement, course.clock, course.result, course.standing()
@@ -145,4 +155,4 @@ def options() -> None:
     refused("a NUL", Refused, Options.of_text, "--white\nAn\0na\n")
 
 
-TABLES = [lines, courses, enough, options]
+TABLES = [lines, courses, ends, enough, options]
