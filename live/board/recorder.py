@@ -14,7 +14,7 @@ from live.board.cable import Cable
 from live.board.disk import unwritten_of
 from live.board.on_the_way import LENDS, OnTheWay
 from live.board.plan import HearsRecorder, Plan, numbered
-from live.board.recording import Reason, Recording
+from live.board.recording import PLAYED_ON, Reason, Recording
 from live.board.standing import Standing
 from live.board.whose import another, back, may_take
 from live.game.alarms import acknowledge, keep_looks, kept_looks
@@ -134,6 +134,8 @@ class Recorder:
         if self._reason and before:
             name, series = self.game.paths.name, self._plan.rules.series
             how = f". Type its result, as {self._screen.result_of(name, series)}" if self._reason is Reason.SET_UP else ""
+            if self._reason in PLAYED_ON:
+                how = f". If it goes on, type {self._screen.reopens()}"
             self._screen.say(f"{name} is over: {self._reason.value}{how}")
         self._closing = False
         is_last = self._ending or (unwritten and not self._plan.rules.series)

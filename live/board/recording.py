@@ -26,7 +26,7 @@ from live.game.looks import Look, Looks
 from live.game.making_pgn import Made, Maker
 from live.game.opening import Opened
 from live.game.report import Clock, Differs, Event, Fault, Line, Move, Picture, Position, Recovered, Result, line_of
-from live.game.times import ADDED, BACK, LOOKED, REOPENED
+from live.game.times import ADDED, BACK, LOOKED, OVER, REOPENED
 from live.guard import Guard
 from live.steps import Resume, Steps
 from live.terminal.screen import Screen
@@ -474,7 +474,10 @@ class Recording(AttendedGame):
             self._screen.say(f"{paths.end} can't be written ({text_of(error)})")
 
     def _note_end(self) -> None:
-        self.game.times.over(self.game.capture.total if self.end is None else self.end)
+        size = self.game.capture.total if self.end is None else self.end
+        self.game.times.over(size)
+        if not self.attending.is_closed:
+            self.attending.tell(OVER, count=size)
 
     def _all_is_heard(self) -> None:
         self._is_heard = self.end is None
