@@ -39,8 +39,12 @@ PROGRAM = program_path()
 
 def program(words: Sequence[str], sent: bytes) -> str:
     """What the program prints of these bytes."""
-    done = subprocess.run([PROGRAM, *words], input=sent, stdout=subprocess.PIPE, stderr=subprocess.DEVNULL, check=True)
-    return done.stdout.decode()
+    return program_bytes(words, sent).decode()
+
+
+def program_bytes(words: Sequence[str], sent: bytes) -> bytes:
+    """The same, which is no text."""
+    return subprocess.run([PROGRAM, *words], input=sent, stdout=subprocess.PIPE, stderr=subprocess.DEVNULL, check=True).stdout
 
 
 def movetext(text: str) -> List[str]:

@@ -2,8 +2,8 @@
 """Simulated set-ups after games without a result: where the recorder takes the game to have ended, and whether that is right.
 
 A random game of so many plies is given up; after a while the pieces are carried home, one at a time, and the start stands.
-What the board sent goes through the real `follow`; live/game/ending.py says how many bytes are the game's; `record` of these must
-give the game that was played.  set_ups.py [--games N] [--seed N] [--show]
+What the board sent goes through the real `live`, with its times; it says how many bytes are the game's; `record` of these must give the
+game that was played.  set_ups.py [--games N] [--seed N] [--show]
 """
 
 from __future__ import annotations
@@ -15,10 +15,19 @@ from concurrent.futures import ProcessPoolExecutor
 from dataclasses import dataclass
 from typing import Callable, Dict, List, Sequence, Tuple
 
-from hands import EMPTY, INITIAL, KINGS, Hands, lognormal, moves_of, program, random_game, updates
+from hands import EMPTY, INITIAL, KINGS, Hands, lognormal, moves_of, program, program_bytes, random_game, updates
 
-from live.game.ending import Line, game_end  # noqa: E402  (hands has put its folder on the path)
-from live.game.report import Agrees, Differs, Move, Result, line_of  # noqa: E402
+from live.game.attended import Answers, Over, entry  # noqa: E402  (hands has put its folder on the path)
+from live.game.report import Agrees, Differs, Event, Move, Result, line_of  # noqa: E402
+
+
+@dataclass
+class Line:
+    """A line of the report, and when it came."""
+
+    offset: int
+    at: float
+    event: Event
 
 
 @dataclass
@@ -29,6 +38,7 @@ class Trial:
     played: int  # bytes up to the end of the game
     truth: List[str]
     lines: List[Line]
+    over: Over
 
 
 def set_up(hands: Hands, kings_first: bool, pace: float, slides: float) -> None:
@@ -159,12 +169,16 @@ def trial(seed: str, plies: int, order: str) -> Trial:
     sent, times = updates(hands.changes)
     truth = moves_of(program(["record"], sent[:played]))
     assert len(truth) == plies, (seed, plies, truth)
-    lines = []
-    for line in program(["follow"], sent).splitlines():
-        told = line_of(line)
-        if told and isinstance(told.event, (Move, Result, Differs, Agrees)):
-            lines.append(Line(told.offset, times[told.offset], told.event))
-    return Trial(sent, played, truth, lines)
+    told = entry(0, "begin", 0)
+    for begins, ends in [(0, 67), *((at, at + 5) for at in range(67, len(sent), 5))]:
+        told += entry(int(times[begins] * 1000), "heard", ends - begins, sent[begins:ends])
+    lines, overs = [], []
+    for answer in Answers().take(program_bytes(["live"], told)):
+        overs += [answer.over] if answer.over else []
+        for line in filter(None, map(line_of, answer.report)):
+            if isinstance(line.event, (Move, Result, Differs, Agrees)):
+                lines.append(Line(line.offset, times[line.offset], line.event))
+    return Trial(sent, played, truth, lines, overs[0])
 
 
 def three_seconds(lines: Sequence[Line]) -> int:
@@ -194,7 +208,7 @@ def verdict(case: Trial, size: int) -> str:
 def one(arguments: Tuple[str, int, str]) -> Tuple[List[str], bool, str]:
     """The verdicts of the three rules, whether ours is sure, and what to show of it."""
     case = trial(*arguments)
-    end = game_end(case.lines, tuple(INITIAL))
+    end = case.over
     verdicts = [verdict(case, size) for size in (everything(case.lines), three_seconds(case.lines), end.size)]
     tail = [f"{line.at:.1f} {line.event}" for line in case.lines if line.offset >= case.played - 12][:9]
     return verdicts, end.sure, f"{arguments} {end} {tail}"

@@ -4,7 +4,7 @@
 _dgt() {
     local command=${1##*/} word=${COMP_WORDS[COMP_CWORD]} before=${COMP_WORDS[COMP_CWORD - 1]} words=
     local game='--rotated --first --fen' tags='--date --round --white --black'
-    local shown='--linger --page --page-host --arbiter-page --delay --publish --hold --tag --recover --strict --help --version'
+    local shown='--page --page-host --arbiter-page --delay --publish --hold --tag --recover --strict --help --version'
     COMPREPLY=()
     case $command,$before in
         *,--first) words='white black' ;;

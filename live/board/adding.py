@@ -43,9 +43,6 @@ def add(obeying: Obeying, line: str, sure: bool) -> Steps[Answer]:
     if not said.outcome and had != "*":
         what += f"; the result {had} is gone: add it again"
     obeying.screen.say(f"added by hand: {what}")
-    if said.outcome:
-        now.ends_with_put()
-        yield games.wait_until_closed
     return DONE, f"added to {games.game.paths.name}: {what}"
 
 
@@ -83,19 +80,14 @@ def _add_last(obeying: Obeying, line: str) -> Steps[Answer]:
     """Adds to the game that is over while its board is watched, or while the pieces are set up."""
     games = obeying.games
     now, name = games.now, games.game.paths.name
-    what, outcome, course = yield from obeying.changed(ADDED, functools.partial(_added, games.game, line))
+    what, course = yield from obeying.changed(ADDED, functools.partial(_added, games.game, line))
     obeying.screen.say(f"added by hand to {name}: {what}")
-    if isinstance(now, Listening):
-        obeying.hears.placed()
-    if isinstance(now, Listening) and outcome:  # it is watched for moves after its result
-        now.ends_with(outcome)
-        now.go_on()
-        games.linger()
-    elif now:
+    if now:
         now.close()
-        if isinstance(now, Listening):  # or after its new last move
-            games.course = course
-        games.watch_on()
+    if isinstance(now, Listening):
+        games.course = course
+        obeying.hears.placed()
+    games.watch_on()
     return DONE, f"added to {name}: {what}"
 
 
@@ -103,7 +95,6 @@ def _said_of(game: Game, line: str, sent: bytes) -> Said:
     return answers.add(game.program, game.options, sent, line)
 
 
-def _added(game: Game, line: str) -> Tuple[str, str, Course]:
-    """What was added to a game that is over, its result if that is what was added, and its course then."""
-    what, outcome = add_and_make(game, line)
-    return what, outcome, game_of(game.program, game.options, game.capture.bytes(0, end_mark(game.paths)))
+def _added(game: Game, line: str) -> Tuple[str, Course]:
+    """What was added to a game that is over, and its course then."""
+    return add_and_make(game, line), game_of(game.program, game.options, game.capture.bytes(0, end_mark(game.paths)))

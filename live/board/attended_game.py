@@ -5,10 +5,10 @@ from __future__ import annotations
 from typing import Callable, List, Optional, Protocol, Tuple
 
 from live.board.standing import Standing
-from live.game.attended import Answer, Doubt
-from live.game.attending import Attending, Past, Told
+from live.game.attended import Answer, Doubt, Over
+from live.game.attending import Attending, HearsAnswers, Past, Told
 from live.game.game import Game
-from live.game.times import ADDED, HEARD
+from live.game.times import ADDED, BEGIN, HEARD
 from live.guard import Guard
 from live.loop import Timer
 
@@ -35,16 +35,28 @@ class AttendedGame:
 
     def __init__(self, guard: Guard, game: Game, hears: HearsGame) -> None:
         self._guard, self.game, self._hears_game = guard, game, hears
-        self._late: List[Tuple[float, List[str], List[Doubt]]] = []  # lines whose bytes wait to be written, and what is doubtful in them
+        self._late: List[Tuple[Told, Answer]] = []  # what is said of bytes that wait to be written
         self._is_news = False  # whether the state may be another one than the one that is shown
         self._has_lost = False  # bytes that can't be written any more, which the program has
         self._patience: Optional[Timer] = None
-        self._is_ending = self._is_closed = False
+        self._is_ending = self._is_closed = self._is_handed_over = False
+        self.took_over = False  # whether the program attended the board for another one before
 
     def attend(self, words: Tuple[str, ...], start: int = 0, with_times: bool = False, known: int = 0) -> None:
         """The program reads what is kept, from an offset on. The first `known` lines of its report are left out."""
         past = Past(self.game.capture, start, self.game.times if with_times else None)
         self.attending = Attending(self._guard, self.game.program, words, past, self, known)
+
+    def take_over(self, before: AttendedGame) -> None:
+        """The program that attended the board for another one does so for this one from now on."""
+        self.attending, self._late, self._has_lost = before.hand_over(self), before._late, before._has_lost
+        self.took_over = True
+
+    def hand_over(self, hears: HearsAnswers) -> Attending:
+        """From now on this one gets what the program says."""
+        self._is_handed_over = True
+        self.attending.heard_by(hears)
+        return self.attending
 
     # What happens.
 
@@ -66,13 +78,12 @@ class AttendedGame:
         self._hears_game.said(told, answer)
         if self._is_closed:
             return
-        if answer.report or answer.doubts:
+        if answer.says:
             self._is_news = True
             if self.game.capture.waits or self._late:
-                self._late.append((told.at, answer.report, answer.doubts))
+                self._late.append((told, answer))
             else:
-                self._reports(told.at, answer.report)
-                self._doubts(answer.doubts)
+                self._says(told, answer)
         if self._is_closed:
             return
         if answer.stood and self.standing and not self._is_ending:
@@ -99,6 +110,31 @@ class AttendedGame:
         """Writes this into the capture. Returns how many bytes aren't dropped."""
         raise NotImplementedError
 
+    def _says(self, told: Told, answer: Answer) -> None:
+        """What is said of the game. Where it ended or began comes first, since what is reported behind that isn't this game's."""
+        if answer.begins:
+            self._begins_behind(answer.begins)
+        if answer.over:
+            self._ends_with(answer.over, told.what == BEGIN)
+        self._reports(told.at, answer.report)
+        self._doubts(answer.doubts)
+        if answer.over and not self._is_closed:
+            self._is_over_by(answer.over)
+        if answer.played and not self._is_closed:
+            self._plays_on(answer.played, told.what == BEGIN)
+
+    def _ends_with(self, over: Over, is_known: bool) -> None:
+        """The game is over with these bytes; perhaps by the time when the program began to attend it."""
+
+    def _is_over_by(self, over: Over) -> None:
+        """The game is over, and all is reported that belongs to it."""
+
+    def _plays_on(self, moves: int, is_known: bool) -> None:
+        """So many moves were made since the game was over; perhaps by the time when the program began to attend it."""
+
+    def _begins_behind(self, size: int) -> None:
+        """So many bytes of the capture belong to the set-up."""
+
     def _reports(self, at: float, texts: List[str]) -> None:
         """New lines of the report, of what happened at this time."""
         raise NotImplementedError
@@ -120,14 +156,13 @@ class AttendedGame:
             return
         if self._has_lost:  # the program has bytes that the capture lacks
             self._has_lost = False
-            self.attending.unreported(sum(len(texts) for _, texts, _ in self._late))
+            self.attending.unreported(sum(len(answer.report) for _, answer in self._late))
             self._late.clear()
             self.attending.restart()
         late, self._late = self._late, []
-        for at, texts, doubts in late:
+        for told, answer in late:
             if not self._is_closed:
-                self._reports(at, texts)
-                self._doubts(doubts)
+                self._says(told, answer)
         if late and self.standing:
             self.standing.show()
 
@@ -169,4 +204,5 @@ class AttendedGame:
         if self._patience:
             self._patience.cancel()
             self._patience = None
-        self._hears_game.left(self.attending.take())
+        if not self._is_handed_over:
+            self._hears_game.left(self.attending.take())

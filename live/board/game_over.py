@@ -1,21 +1,22 @@
 """A board whose game is over. If it has a result, it is watched until its pieces are set up: the result may have been meant for
-another board, or the kings may have been in the centre by mistake. If it has none, it is watched for moves from the start. What it
-sends is kept after the game's bytes."""
+another board, or the kings may have been in the centre by mistake. If it has none, it is watched for moves from the start: perhaps
+somebody tried some moves before the game, and it begins only now. What it sends is kept after the game's bytes."""
 
 from __future__ import annotations
 
-from typing import Callable, List, Protocol, Union
+import functools
+from typing import Callable, List, Optional, Protocol
 
 from live.board.attended_game import AttendedGame, HearsGame
 from live.board.disk import unwritten_of
-from live.game.after_the_end import AfterSetUp, AfterTheEnd
+from live.board.recording import Recording
+from live.game.afterwards import FromTheStart, went_on
 from live.game.alarms import keep_looks, kept_looks
 from live.game.course import Course
 from live.game.files import text_of
 from live.game.game import Game
 from live.game.looks import Look
 from live.game.making_pgn import Made
-from live.game.options import Options
 from live.game.report import Picture, line_of
 from live.game.way_back import NO_RESULT
 from live.guard import Guard
@@ -36,22 +37,40 @@ class HearsListening(HearsGame, Protocol):
 
 
 class Listening(AttendedGame):
-    """Reports moves that are made after the end of a game. Its board may stand as it likes."""
+    """Reports moves that are made after the end of a game. Its board may stand as it likes.
 
-    def __init__(self, guard: Guard, screen: Screen, game: Game, course: Course, hears: HearsListening) -> None:
+    The program that attended the game says how many moves were made after its result. A game without one is over because its pieces were
+    set up: from then on another child attends the board, which begins with the start."""
+
+    def __init__(
+        self, guard: Guard, screen: Screen, game: Game, course: Course, hears: HearsListening, before: Optional[Recording] = None
+    ) -> None:
         super().__init__(guard, game, hears)
         self._screen, self._hears = screen, hears
         self.looks = kept_looks(game.paths)
-        last = course.plies[-1].short if course.plies else "the start"
-        self._after: Union[AfterTheEnd, AfterSetUp] = AfterTheEnd(course.start, last, course.result)
-        fen = course.fens[-1] if course.fens else game.options.fen
-        if course.result == NO_RESULT:
-            self._after, fen = AfterSetUp(last), game.options.fen
+        self._last = course.plies[-1].short if course.plies else "the start"
+        self._result = course.result
+        self._from_the_start = FromTheStart(self._last) if course.result == NO_RESULT else None
         self._from = game.capture.size
-        words = Options(game.options.rotated, fen=fen).of_board()
-        self.attend(words, self._from)
-        self._is_paused, self._paused_at = False, 0
+        self._played = 0  # moves since the end, as far as they are known
+        self._is_paused = False
         self._tick = guard.after(TICK, self._each_second)
+        if self._from_the_start:
+            self.attend(game.options.of_board(), self._from)
+        elif before is None or before.attending.is_closed:
+            self.attend(game.options.of_live(), with_times=True)
+        else:
+            self.take_over(before)
+            guard.after(0, functools.partial(self._has_heard, before.played, before.is_set_up))
+
+    def _has_heard(self, moves: int, is_set_up: bool) -> None:
+        """What the program has said since the game was over."""
+        if self._is_closed:
+            return
+        if moves > self._played:
+            self._plays_on(moves, False)
+        if is_set_up:
+            self._hears.set_up()
 
     def _write(self, sent: bytes) -> int:
         return self.game.capture.append(sent)
@@ -69,20 +88,25 @@ class Listening(AttendedGame):
 
     def _reports(self, at: float, texts: List[str]) -> None:
         for line in filter(None, map(line_of, texts)):
-            look = self._after.take(line.event)
-            if look:
-                self._look(look)
-            if isinstance(line.event, Picture) and isinstance(self._after, AfterTheEnd) and self._after.is_set_up:
+            event = line.event
+            if self._from_the_start:
+                look = self._from_the_start.take(event)
+                if look:
+                    self._look(look, f"if the game begins only now, type {self._screen.begins()}: it has these moves then")
+            elif isinstance(event, Picture) and line.offset >= self._from and event.placement == self.game.options.start:
                 self._hears.set_up()
                 return
 
-    def _look(self, look: Look) -> None:
+    def _plays_on(self, moves: int, is_known: bool) -> None:
+        is_news, self._played = moves > self._played, moves
+        if is_news and not is_known:
+            otherwise = f"if the game isn't over, type {self._screen.reopens()}: it goes on with these moves"
+            self._look(went_on(self._last, moves, self._result), otherwise)
+
+    def _look(self, look: Look, otherwise: str) -> None:
         """Raises an alarm."""
         self.looks = self.looks.with_one_more(look)
-        else_type = f"if the game isn't over, type {self._screen.reopens()}: it goes on with these moves"
-        if isinstance(self._after, AfterSetUp):
-            else_type = f"if the game begins only now, type {self._screen.begins()}: it has these moves then"
-        self._screen.say(f"{look.text}. Look at it, and type {self._screen.ok()};", else_type)
+        self._screen.say(f"{look.text}. Look at it, and type {self._screen.ok()};", otherwise)
         try:
             keep_looks(self.game.paths, self.looks)
         except OSError as error:
@@ -91,21 +115,15 @@ class Listening(AttendedGame):
 
     def pause(self) -> None:
         """The capture isn't used: it is just being changed."""
-        self._is_paused, self._paused_at = True, self.game.capture.size
+        self._is_paused = True
 
     def go_on(self) -> None:
-        """It is used again. What was added is before the bytes that came after the game."""
+        """It is used again, and is what it was."""
         self._is_paused = False
-        self.attending.starts_later(self.game.capture.size - self._paused_at)
 
     def finish(self, done: Callable[[str], None]) -> None:
         """What is still to be answered comes into the capture."""
         self.settle(lambda: done(unwritten_of(self.game, Made())))
-
-    def ends_with(self, result: str) -> None:
-        """Another result was typed."""
-        if isinstance(self._after, AfterTheEnd):
-            self._after.result = result
 
     def look_again(self) -> None:
         """The alarms that are kept have changed."""

@@ -72,12 +72,6 @@ class Games(Protocol):
     def watch_on(self) -> None:
         """The game is over, and its board is watched as before."""
 
-    def linger(self) -> None:
-        """The game has a typed result: a recording that ends with it ends soon, unless the result is taken off."""
-
-    def wait_until_closed(self, resume: Resume) -> None:
-        """The game has ended, and the next typed line finds it closed."""
-
     def acknowledge(self, before: Optional[Paths]) -> Answer:
         """Acknowledges the alarms of this game, or of the one before it."""
 

@@ -12,10 +12,9 @@ from live.board.asked_first import AskedFirst
 from live.board.attended_game import AttendedGame
 from live.board.cable import Cable
 from live.board.disk import unwritten_of
-from live.board.lingering import Lingering
 from live.board.on_the_way import LENDS, OnTheWay
 from live.board.plan import HearsRecorder, Plan, numbered
-from live.board.recording import Reason, Recording
+from live.board.recording import PLAYED_ON, Reason, Recording
 from live.board.standing import Standing
 from live.board.whose import another, back, may_take
 from live.game.alarms import acknowledge, keep_looks, kept_looks
@@ -35,13 +34,15 @@ from live.game.times import HEARD
 from live.guard import Guard
 from live.loop import Callback
 from live.refused import DONE, FAILED, Broken, Refused
-from live.steps import Resume, Steps, beside
+from live.steps import Steps, beside
 from live.terminal.screen import Screen
 
 if TYPE_CHECKING:
     from live.board.arbiter import Arbiter
     from live.board.game_over import Listening
     from live.board.setting_up import SettingUp
+
+AGAIN = 1.0  # seconds between two tries to begin a game anew
 
 
 class Recorder:
@@ -60,8 +61,6 @@ class Recorder:
         self.begins_anew = False  # whether the start begins this game, and not the next one
         self._on_the_way = OnTheWay(self)
         self._ends_later = False  # whether to end once nothing is held any more
-        self._closes: Optional[Resume] = None  # a typed line that waits until its game is closed
-        self._waits_to_end = Lingering(guard, plan.rules.linger, self.end)
         number = plan.serial or kept_serial(opened.game.paths)
         self._cable = Cable(guard, opened.game.program, screen, plan.device, plan.once, number, self, asked)
         self.now: Union[Recording, SettingUp, Listening, None] = None  # what takes the board's bytes
@@ -103,7 +102,6 @@ class Recorder:
 
     def _record(self, opened: Opened, says: bool = True) -> None:
         self._reason = None
-        self._waits_to_end.cancel()
         ends = "" if self._plan.board else "; Ctrl-C ends it"  # an error there would end all boards
         paths = self.game.paths
         if says:
@@ -124,41 +122,44 @@ class Recorder:
         if self._ending or self._closing or not isinstance(self.now, Recording):
             return
         self._closing = True
-        listens = self._reason is Reason.TYPED or (self._plan.rules.listens and self._reason in (Reason.RESULT, Reason.SET_UP))
-        if not self._plan.rules.series and not listens:
+        is_attended = self._reason is not None and self._plan.rules.attends(self._reason)
+        if not is_attended:
             self._ending = True
             self._cable.last_words()
-        self.now.finish(self._game_closed)
+        self.now.finish(self._game_closed, is_attended)
 
     def _game_closed(self, unwritten: str) -> None:
         assert self.now
-        end = self.now.end if isinstance(self.now, Recording) else None
-        if self._reason and isinstance(self.now, Recording):
+        before = self.now if isinstance(self.now, Recording) else None
+        if self._reason and before:
             name, series = self.game.paths.name, self._plan.rules.series
             how = f". Type its result, as {self._screen.result_of(name, series)}" if self._reason is Reason.SET_UP else ""
+            if self._reason in PLAYED_ON:
+                how = f". If it goes on, type {self._screen.reopens()}"
             self._screen.say(f"{name} is over: {self._reason.value}{how}")
         self._closing = False
-        self.now.close()
-        self.now = None
+        is_last = self._ending or (unwritten and not self._plan.rules.series)
+        if is_last or not before:
+            self.now.close()
+            self.now = None
         if self._ending:
             self._all_closed(unwritten)
         elif self._plan.rules.series:
-            self._await_start(end)
+            self._await_start(before.end if before else None, before)
         elif unwritten:
             self._end_with(unwritten)
         else:
-            self._await_moves()
+            self._await_moves(before)
             self._hears.over()
-        closes, self._closes = self._closes, None
-        if closes:
-            closes(lambda: None)
 
-    def _await_moves(self) -> None:
+    def _await_moves(self, before: Optional[Recording] = None) -> None:
         """The game is over: moves that are still made are reported."""
         from live.board.game_over import Listening
 
-        self._look_at(Listening(self._guard, self._screen, self.game, self.course, self))
-        self.linger()
+        listening = Listening(self._guard, self._screen, self.game, self.course, self, before)
+        if before:
+            before.close()
+        self._look_at(listening)
 
     def watch_on(self) -> None:
         """The game is over, and its board is watched as before."""
@@ -167,13 +168,6 @@ class Recorder:
             self._look_for_start(self.game.capture.size if mark is None else mark)
         else:
             self._await_moves()
-
-    def linger(self) -> None:
-        """The recording of a single board ends soon after its result was typed. Until then that can be taken off."""
-        if not self._plan.rules.listens:
-            seconds, reopens = self._plan.rules.linger, self._screen.reopens()
-            self._screen.say(f"the recording ends in {seconds} seconds; if the result was typed by mistake, type {reopens}")
-            self._waits_to_end.begin()
 
     def set_up(self) -> None:
         """The pieces were set up again after a game."""
@@ -188,7 +182,7 @@ class Recorder:
         self._cable.last_words()
         self._all_closed(unwritten)
 
-    def _await_start(self, end: Optional[int]) -> None:
+    def _await_start(self, end: Optional[int], before: Optional[Recording] = None) -> None:
         """The game is over, and the next one begins when the pieces are at the start."""
         paths = self.game.paths
         mark = end_mark(paths)
@@ -201,25 +195,33 @@ class Recorder:
             except OSError as error:
                 self._screen.say(f"{paths.end} can't be written ({text_of(error)})")
         self._screen.say(f"{self._next().name} begins when the pieces are at the start")
-        self._look_for_start(end)
+        self._look_for_start(end, before)
 
-    def _look_for_start(self, end: int) -> None:
+    def _look_for_start(self, end: int, before: Optional[Recording] = None) -> None:
         from live.board.setting_up import SettingUp
 
-        self._look_at(SettingUp(self._guard, self._screen, self.game, end, self))
+        setting_up = SettingUp(self._guard, self._screen, self.game, end, self, before)
+        if before:
+            before.close()
+        self._look_at(setting_up)
 
     def _next(self) -> Paths:
         return numbered(self._plan.name, int(self.game.paths.name.rpartition("-")[2]) + 1)
 
-    def anew(self) -> None:
-        """What looked like the first move of this game was part of its set-up."""
-        self._guard.after(0, self._look_for_this_start)
+    def anew(self, size: int) -> None:
+        """What looked like the first move of this game was part of its set-up, as these bytes of the capture were."""
+        self._guard.after(0, lambda: self._begin_behind(size))
 
-    def _look_for_this_start(self) -> None:
-        if isinstance(self.now, Recording) and not self._ending and not self._closing:
-            self.now.close()
-            self.begins_anew = True
-            self._look_for_start(0)
+    def _begin_behind(self, size: int) -> None:
+        """The game begins with the board as it stood with these bytes. If that can't be written, it is tried again."""
+        from live.game.answers import dump_at_end
+
+        if not isinstance(self.now, Recording) or self._ending or self._closing:
+            return
+        self.begins_anew, capture = True, self.game.capture
+        start = dump_at_end(self.game.program, self.game.options, capture.bytes(0, size))
+        if not self.ready(start + capture.bytes(size)):
+            self._guard.after(AGAIN, lambda: self._begin_behind(size))
 
     def ready(self, content: bytes) -> bool:
         """The pieces are at the start: a capture begins with it. Returns whether it could begin."""
@@ -391,7 +393,8 @@ class Recorder:
 
     def gone(self, message: str, was_there: bool) -> None:
         """The board isn't there and isn't waited for, or another process has its line."""
-        if self.now and not self.standing and not self._plan.board:  # its game is over
+        has_result = was_there and self.course.result != "*"
+        if self.now and not self._plan.board and (has_result or not self.standing):  # its game is over, or ends so
             self._guard.after(0, self.end)
             return
         self._fail(f"{message}; what was played is in {self.game.paths.pgn}" if was_there else message)
@@ -402,7 +405,8 @@ class Recorder:
         if now.standing:
             now.standing.look(self.looks.short)
             self._cable.tell(now.standing)
-        self.begun()
+        if not now.took_over:
+            self.begun()
 
     def broken(self, what: str) -> None:
         """A child process has ended again and again."""
@@ -428,8 +432,8 @@ class Recorder:
 
     @property
     def is_closing(self) -> bool:
-        """Whether the recorded game is just being ended."""
-        return self._closing or self._reason is not None
+        """Whether the recorded game is just being ended, or begun anew."""
+        return self._closing or self.begins_anew or self._reason is not None
 
     def hold(self) -> None:
         """From now on what the board sends is held, until the line is answered."""
@@ -452,10 +456,6 @@ class Recorder:
         self._record(opened, says=False)
         if isinstance(self.now, Recording):
             self.now.remake()  # what was under way may arrive late
-
-    def wait_until_closed(self, resume: Resume) -> None:
-        """The game has ended, and the next typed line finds it closed."""
-        self._closes = resume
 
     def acknowledge(self, before: Optional[Paths]) -> Reply:
         """Acknowledges the alarms of this game, or of the one before it."""
@@ -484,7 +484,6 @@ class Recorder:
             self._ends_later = True  # files are just being put in place
             return
         self._ending = True
-        self._waits_to_end.cancel()
         self._cable.last_words()
         if self._closing:
             return  # the game is being closed, and everything after it

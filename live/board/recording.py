@@ -3,7 +3,6 @@
 from __future__ import annotations
 
 import enum
-import functools
 import itertools
 import operator
 import os
@@ -13,13 +12,11 @@ from typing import Callable, List, Optional, Protocol, Sequence
 from live.beside import Worker
 from live.board.attended_game import PATIENCE, AttendedGame, HearsGame
 from live.board.disk import Disk, unwritten_of
-from live.board.lingering import Lingering
 from live.board.standing import Standing
 from live.board.state import lasting, mend_of, trouble_of
-from live.game import ending, times
+from live.game import times
 from live.game.alarms import Alarms, acknowledged
-from live.game.attended import SUSPECT, Doubt
-from live.game.course import Start
+from live.game.attended import SUSPECT, Doubt, Over
 from live.game.doubted import byte_of, look_of
 from live.game.edited import told_of_edit
 from live.game.files import text_of
@@ -28,8 +25,8 @@ from live.game.game import Game, forget_question, largest, mark_end, mebibytes
 from live.game.looks import Look, Looks
 from live.game.making_pgn import Made, Maker
 from live.game.opening import Opened
-from live.game.report import Clock, Differs, Event, Fault, Line, Move, Position, Recovered, Result, line_of
-from live.game.times import ADDED, BACK, LOOKED
+from live.game.report import Clock, Differs, Event, Fault, Line, Move, Picture, Position, Recovered, Result, line_of
+from live.game.times import ADDED, BACK, LOOKED, OVER, REOPENED
 from live.guard import Guard
 from live.steps import Resume, Steps
 from live.terminal.screen import Screen
@@ -37,6 +34,7 @@ from live.terminal.screen import Screen
 TICK = 1.0  # seconds between two looks at what waits
 OF_A_BYTE = operator.attrgetter("offset")  # lines of one byte have the same
 LARGE = 48 * 1024 * 1024  # bytes of a capture, at which somebody may still look at its board
+STANDS = 10  # seconds that a result stands before the program says that it ends a game
 
 
 class Reason(enum.Enum):
@@ -44,22 +42,30 @@ class Reason(enum.Enum):
 
     RESULT = "it has a result"
     TYPED = "its result was given"
+    PLAYS_ON = "another move was made after its result"
+    CORRECTED = "its last move was corrected after its result"
     SET_UP = "the pieces are at the start again"
     LIMIT = "its capture is full"
 
 
+SAID = {"PLAYS-ON": Reason.PLAYS_ON, "CORRECTED": Reason.CORRECTED, "UNFINISHED": Reason.SET_UP}  # by the program's word
+PLAYED_ON = (Reason.PLAYS_ON, Reason.CORRECTED)  # the board isn't left alone
+
+
 @dataclass(frozen=True)
 class Rules:
-    """How long a result stands before it ends a game; whether another game follows on the same board; and whether the board is
-    listened to once its game has a result."""
+    """Whether another game follows on the same board; and whether the board is listened to once its game is over."""
 
-    linger: int
     series: bool = False
     listens: bool = False
 
     def marks(self, reason: Reason) -> bool:
         """Whether to mark how many bytes are the game's, since others may come after them."""
-        return self.series or reason in (Reason.TYPED, Reason.SET_UP) or (self.listens and reason is Reason.RESULT)
+        return self.series or reason not in (Reason.RESULT, Reason.LIMIT) or (self.listens and reason is Reason.RESULT)
+
+    def attends(self, reason: Reason) -> bool:
+        """Whether the board is attended after that."""
+        return self.series or reason in PLAYED_ON or (self.listens and reason is not Reason.LIMIT)
 
 
 class HearsRecording(HearsGame, Protocol):
@@ -68,8 +74,8 @@ class HearsRecording(HearsGame, Protocol):
     def over(self, reason: Reason) -> None:
         """The game has ended. This is reported once."""
 
-    def anew(self) -> None:
-        """The game begins only now: what was reported before was a set-up."""
+    def anew(self, size: int) -> None:
+        """The game begins only now: so many bytes of the capture belong to the set-up."""
 
     def placed(self) -> None:
         """NAME.pgn was made anew."""
@@ -94,12 +100,14 @@ class Recording(AttendedGame):
         self.end: Optional[int] = None  # how many bytes are the game's, if not all are
         self._typed = ""  # the result that an arbiter has typed
         self._faults: List[str] = []
-        self._begins_anew = False  # the start of this game was reported just now, and what follows belongs to its new capture
+        self._is_reopened = False  # by an arbiter, and the program doesn't know it yet
+        self._begins_anew = False  # the game begins only now, and what follows belongs to its new capture
+        self.played, self.is_set_up = 0, False  # moves that were made since the game was over; and whether the start was shown since
+        self._dropped: List[str] = []  # moves that were reported behind the game's end
         self._is_over = self._has_ended = False  # whether it is recorded no more; and whether that is because the game has ended
         self._marks = False  # and whether NAME.end must say how many bytes are the game's
         self._done: Callable[[str], None] = lambda unwritten: None
         self._is_heard = False  # whether all is heard, and what comes now doesn't count
-        self._lingering = Lingering(guard, rules.linger, lambda: self._end(Reason.RESULT))
         self.standing: Standing = Standing(guard, screen, self.game.options.rotated)
         self.standing.was_away = bool(opened.old.lines)  # what it showed before this call is long ago
         self._maker = Maker(guard, worker, self.game, self)
@@ -122,6 +130,19 @@ class Recording(AttendedGame):
         self.attend(self.game.options.of_live(), with_times=True, known=opened.old.lines)
         if self._old == front_of(self.game.paths, self.game.capture) != 0:  # nothing has come since plies were taken off
             self._tell(BACK)
+            self._tell(REOPENED)
+            self._goes_on()
+        elif opened.is_reopened:  # its times have it already
+            self.attending.tell(REOPENED)
+            self._goes_on()
+
+    def _goes_on(self) -> None:
+        """An arbiter has said that the game goes on. What the program says of its end before it knows that is no end."""
+        self._is_reopened = True
+        self.attending.then(self._has_gone_on)
+
+    def _has_gone_on(self) -> None:
+        self._is_reopened = False
 
     def _tell_old(self) -> None:
         """Shows what was played before this call."""
@@ -131,8 +152,6 @@ class Recording(AttendedGame):
         for event in self.course.standing():
             self._stands(event)
         self._hear_result(self.course.result)
-        if self.course.stood_again and self._rules.series:
-            self._guard.after(0, functools.partial(self._is_at_start, self.course.stood_again))
         self.standing.show()
 
     # What the board sends.
@@ -214,8 +233,10 @@ class Recording(AttendedGame):
         if self._begins_anew:
             return
         is_changed = False
-        if self.end is not None:  # the game is over with this many bytes
-            lines = [line for line in lines if line.offset < self.end or line.is_picture]
+        if self.end is not None and lines[0].offset >= self.end:  # the game is over with this many bytes
+            self._dropped += [line.event.words for line in lines if isinstance(line.event, Move)]
+            lines = [line for line in lines if line.is_picture]
+            self.is_set_up = self.is_set_up or any(self._shows_start(line.event) for line in lines)
         for line in lines:
             if isinstance(line.event, (Move, Result, Recovered)):
                 self._screen.told(line.event.shown, line.offset < self._old)
@@ -223,24 +244,11 @@ class Recording(AttendedGame):
         if is_changed:
             self._maker.want()
             os.sched_yield()  # whoever reads these lines need not wait for what follows
-        means = None
         for line in lines:
             self._take(line, came)
-            again = self.course.stands_again
-            if again and (self._rules.series or line.offset >= self._old):  # a single game that goes on hasn't ended where it seemed to
-                means = means or again
-        if means:
-            self._is_at_start(means)
 
-    def _is_at_start(self, means: Start) -> None:
-        """The board shows the start again, and the program has reported all about it."""
-        if self._is_over:
-            return
-        if means is Start.ENDS:
-            self._end(Reason.RESULT if self.course.result != "*" else Reason.SET_UP)
-        else:
-            self._begins_anew = True
-            self._hears.anew()
+    def _shows_start(self, event: Event) -> bool:
+        return isinstance(event, Picture) and event.placement == self.game.options.start
 
     def _take(self, line: Line, came: float) -> None:
         """Takes a line of a byte that came then."""
@@ -270,7 +278,7 @@ class Recording(AttendedGame):
         for doubt in doubts:
             if doubt.where == SUSPECT:
                 self._look_at_suspected()
-            else:
+            elif self.end is None or byte_of(doubt, self.course.ends) < self.end:
                 self.look_at(look_of(doubt, self.course.plies), byte_of(doubt, self.course.ends))
 
     def suspect(self, others: Sequence[int]) -> None:
@@ -319,10 +327,13 @@ class Recording(AttendedGame):
         return seen
 
     def _hear_result(self, result: str) -> None:
-        self._lingering.cancel()
-        if result not in ("*", self._typed) and not self._is_over:
-            self._screen.say(f"ends in {self._rules.linger} seconds, unless the result changes")
-            self._lingering.begin()
+        if result == "*" or self._is_over:
+            return
+        if result == self._typed:
+            how = f"; if the result was typed by mistake, type {self._screen.reopens()}"
+        else:
+            how = ", unless the result changes"
+        self._screen.say(f"ends in {STANDS} seconds{how}")
 
     def says(self, text: str) -> None:
         """A child has ended, and is started again."""
@@ -362,12 +373,9 @@ class Recording(AttendedGame):
     # What an arbiter adds.
 
     def put(self, put: bytes, outcome: str) -> None:
-        """These bytes are in the capture from now on, after all that the board has sent: moves, or a result, with which the game
-        ends."""
+        """These bytes are in the capture from now on, after all that the board has sent: moves, or a result."""
         self._by_hand = range(self.game.capture.size, self.game.capture.size + len(put))
-        self._is_put = None
-        if outcome:
-            self._typed, self.end = outcome, self._by_hand.stop
+        self._is_put, self._typed = None, outcome
         self._append(put, ADDED)
         self.attending.tell(ADDED, put)
         self.attending.then(lambda: self._put_ends(not self._is_over))
@@ -392,10 +400,6 @@ class Recording(AttendedGame):
         if waits:
             waits(lambda: None)
 
-    def ends_with_put(self) -> None:
-        """The game ends with the result that was added last."""
-        self._end(Reason.TYPED)
-
     @property
     def is_over(self) -> bool:
         """Whether the game has ended."""
@@ -403,13 +407,48 @@ class Recording(AttendedGame):
 
     # How it ends.
 
+    def _ends_with(self, over: Over, is_known: bool) -> None:
+        """The program says that the game is over. What it says of an end again, once another child attends the board, is known."""
+        if self._is_over or self._begins_anew or self._is_reopened:
+            return
+        if is_known and over.size == front_of(self.game.paths, self.game.capture) != 0:  # its times don't tell that an arbiter has reopened it
+            self._tell(REOPENED)
+            return
+        is_typed = self._typed == over.result and self._by_hand.start < over.size <= self._by_hand.stop
+        self.end = self._by_hand.stop if is_typed else over.size  # with the picture that stands behind the sign of a result
+        if is_known:
+            self._dropped += [ply.words for ply in self.course.end(self.end, over.result)]
+
+    def _is_over_by(self, over: Over) -> None:
+        if self._is_over or self.end is None:
+            return
+        is_typed = self._typed == over.result and self.end == self._by_hand.stop
+        reason = SAID.get(over.why, Reason.TYPED if is_typed else Reason.RESULT)
+        self._alarms.end(self.end)
+        self.standing.look(self.looks.short)
+        if reason is Reason.SET_UP:
+            self._say_what_is_dropped(self.end)
+        if not over.sure:
+            self._screen.say(f"LOOK at the last moves of {self.game.paths.pgn}: where the game ended isn't sure")
+        self._end(reason)
+
+    def _say_what_is_dropped(self, end: int) -> None:
+        known = [ply.words for ply, at in zip(self.course.plies, self.course.ends) if at >= end]
+        dropped = [*known, *self._dropped]
+        if dropped:
+            self._screen.say(f"taken for setting up, and not for moves: {'; '.join(dropped)}")
+
+    def _plays_on(self, moves: int, is_known: bool) -> None:
+        self.played = moves
+
+    def _begins_behind(self, size: int) -> None:
+        if not self._is_over and not self._begins_anew:
+            self._begins_anew = True
+            self._hears.anew(size)
+
     def _end(self, reason: Reason) -> None:
         if self._is_over:
             return
-        if reason is Reason.RESULT:
-            self.end = self.course.changed_at + 1
-        elif reason is Reason.SET_UP:
-            self._end_before_set_up()
         if reason is not Reason.TYPED:
             self._typed = ""
         self._marks = self._rules.marks(reason)
@@ -417,23 +456,14 @@ class Recording(AttendedGame):
         self._put_ends(False)
         self._hears.over(reason)
 
-    def _end_before_set_up(self) -> None:
-        lines = self.course.lines()
-        front = front_of(self.game.paths, self.game.capture)
-        found = ending.not_before(front, ending.game_end(lines, self.course.start))
-        self.end = ending.ending_with_sign(lines, found.size)
-        self._alarms.end(self.end)
-        self.standing.look(self.looks.short)
-        if found.dropped:
-            self._screen.say(f"taken for setting up, and not for moves: {'; '.join(found.dropped)}")
-        if not found.sure:
-            self._screen.say(f"LOOK at the last moves of {self.game.paths.pgn}: where the game ended isn't sure")
-
-    def finish(self, done: Callable[[str], None]) -> None:
-        """Hears the last lines, makes the text a last time, and reports what can't be written, and why; nothing if all is."""
+    def finish(self, done: Callable[[str], None], is_attended: bool = False) -> None:
+        """Hears the last lines, makes the text a last time, and reports what can't be written, and why; nothing if all is. All lines of
+        a game that is over were heard; if its board `is_attended` after that, there is nothing to wait for."""
         self._is_over, self._done = True, done
-        self._lingering.cancel()
-        self.settle(self._all_is_heard)
+        if is_attended:
+            self._all_is_heard()
+        else:
+            self.settle(self._all_is_heard)
 
     def _mark(self) -> None:
         paths = self.game.paths
@@ -444,10 +474,13 @@ class Recording(AttendedGame):
             self._screen.say(f"{paths.end} can't be written ({text_of(error)})")
 
     def _note_end(self) -> None:
-        self.game.times.over(self.game.capture.total if self.end is None else self.end)
+        size = self.game.capture.total if self.end is None else self.end
+        self.game.times.over(size)
+        if not self.attending.is_closed:
+            self.attending.tell(OVER, count=size)
 
     def _all_is_heard(self) -> None:
-        self._is_heard = True
+        self._is_heard = self.end is None
         forget_question(self.game.paths)
         self.game.capture.write()
         if self._marks and not self.game.capture.waits:
@@ -469,7 +502,6 @@ class Recording(AttendedGame):
         """Ends everything under way. The capture stays open."""
         self._put_ends(False)
         self._tick.cancel()
-        self._lingering.cancel()
         self.standing.close()
         super().close()
         self._maker.close()

@@ -5,14 +5,16 @@ from __future__ import annotations
 from typing import Callable, List, Optional, Protocol
 
 from live.board.attended_game import AttendedGame, HearsGame
+from live.board.afterwards import Afterwards
 from live.board.disk import Disk, unwritten_of
+from live.board.recording import Recording
 from live.board.standing import Standing
 from live.device.protocol import DUMP_BEGINS
-from live.game.alarms import kept_looks
+from live.game.alarms import keep_looks, kept_looks
 from live.game.answers import dump_at_end
-from live.game.files import LARGEST
+from live.game.files import LARGEST, text_of
 from live.game.game import Game
-from live.game.looks import Looks
+from live.game.looks import Look, Looks
 from live.game.making_pgn import Made
 from live.game.report import Differs, Picture, line_of
 from live.guard import Guard
@@ -43,15 +45,21 @@ class SettingUp(AttendedGame):
     after the byte that completed the start. So a first move that is made at once is in it.
     """
 
-    def __init__(self, guard: Guard, screen: Screen, game: Game, end: int, hears: HearsSettingUp) -> None:
+    def __init__(
+        self, guard: Guard, screen: Screen, game: Game, end: int, hears: HearsSettingUp, before: Optional[Recording] = None
+    ) -> None:
         super().__init__(guard, game, hears)
         self._screen, self._hears = screen, hears
+        self._before: Optional[Afterwards] = None
         self.standing: Standing = Standing(guard, screen, game.options.rotated, played=False)
         self._disk = Disk(screen, self.standing, game.capture, self)
         game.capture.limit = None  # the game is over: the file may now grow past a game's limit
         self._tick = guard.after(TICK, self._each_second)
         self._tries: Optional[Timer] = None
         self._look_from(end)
+        if before and not before.attending.is_closed and before.course.result != "*":
+            self._before = Afterwards(before, self._looks)
+            hears.left(self._before.undecided)
 
     def _look_from(self, end: int) -> None:
         """Looks from this offset on. Reading begins at the last dump before it: without one no update would count."""
@@ -76,6 +84,28 @@ class SettingUp(AttendedGame):
         self._hears.begun()
         if left:
             self.came(left)
+
+    def came(self, sent: bytes) -> None:
+        """The board has sent this."""
+        super().came(sent)
+        if self._before:
+            self._before.came(sent)
+
+    def _looks(self, look: Look) -> None:
+        """Moves were made, and the game is over."""
+        otherwise = f"if the game isn't over, type {self._screen.reopens()}: it goes on with these moves"
+        self._screen.say(f"{look.text}. Look at it, and type {self._screen.ok()};", otherwise)
+        try:
+            keep_looks(self.game.paths, self.looks.with_one_more(look))
+        except OSError as error:
+            self._screen.say(f"{self.game.paths.look} can't be written ({text_of(error)})")
+        self.look_again()
+
+    def _leaves(self) -> None:
+        """The program that attended the game does so no more."""
+        before, self._before = self._before, None
+        if before:
+            before.close()
 
     def _write(self, sent: bytes) -> int:
         return self._disk.append(sent)
@@ -123,6 +153,7 @@ class SettingUp(AttendedGame):
 
     def pause(self) -> None:
         """The capture isn't used: it is just being changed."""
+        self._leaves()
         self._tick.cancel()
         if self._tries:
             self._tries.cancel()
@@ -154,6 +185,7 @@ class SettingUp(AttendedGame):
 
     def close(self) -> None:
         """Stops looking."""
+        self._leaves()
         self._tick.cancel()
         if self._tries:
             self._tries.cancel()

@@ -3,6 +3,7 @@
 from __future__ import annotations
 
 import functools
+from dataclasses import replace
 from typing import Tuple
 
 from live.board.obeying import Obeying
@@ -91,11 +92,11 @@ def _go_on(obeying: Obeying, said: str) -> Steps[None]:
     obeying.screen.say(said)
     if games.now:
         games.now.close()
-    yield from _begin_anew(obeying)
+    yield from _begin_anew(obeying, is_reopened=True)
     obeying.hears.reopened()
 
 
-def _begin_anew(obeying: Obeying) -> Steps[None]:
+def _begin_anew(obeying: Obeying, is_reopened: bool = False) -> Steps[None]:
     """Starts the recording again from the game's new capture."""
     games = obeying.games
     games.hold()
@@ -104,7 +105,7 @@ def _begin_anew(obeying: Obeying) -> Steps[None]:
     except Exception as error:
         obeying.guard.raised(error)  # it isn't recorded any more: that begins again after a while
         raise
-    games.record_anew(opened)
+    games.record_anew(replace(opened, is_reopened=is_reopened))
 
 
 def _said_of(game: Game, to: str, sent: bytes) -> Said:

@@ -13,12 +13,12 @@ from live.refused import ARGUMENTS, Refused
 if TYPE_CHECKING:
     from live.web.address import Pages
 
-RECORDING = ("--linger", "--page", "--arbiter-page", "--delay", "--publish", "--hold")  # options of a recording that have a value
+LINGER = "--linger"  # of earlier versions
+RECORDING = (LINGER, "--page", "--arbiter-page", "--delay", "--publish", "--hold")  # options of a recording that have a value
 OF_ROUNDS = ("--output", "--web", "--embed")
 HELP, VERSION = ("--help", "-h"), ("--version", "-V")
 QUOTES = "is one argument too many. Put a text with blanks in quotes, as 'Anna Kern'"
-LINGER = 10  # seconds that a result stands before it ends a game
-LONGEST_LINGER = 10**6
+TEN_SECONDS = f"{LINGER} has no effect any more: a result waits ten seconds before it ends a game"
 
 
 @dataclass(frozen=True)
@@ -30,7 +30,7 @@ class Call:
     options: Options = Options()  # of the game, as they were typed
     series: bool = False
     once: bool = False
-    linger: int = LINGER
+    told: Tuple[str, ...] = ()  # about the options
     help: bool = False
     version: bool = False
     devices: bool = False
@@ -88,7 +88,7 @@ def parse(arguments: Sequence[str]) -> Call:
     refuse_both(words)
     page, arbiter_page, delay, publish, hold = (values.get(option) for option in RECORDING[1:])
     refuse_hosts(page or arbiter_page, hosts)
-    seconds = linger_of(values.get("--linger", str(LINGER)))
+    told = told_of_linger(values.get(LINGER))
     pages = pages_of(page, arbiter_page, hosts)
     late, command = going_out(delay, publish)
     if flags["--devices"]:
@@ -113,7 +113,7 @@ def parse(arguments: Sequence[str]) -> Call:
     if typed and (words or flags["--series"]):
         raise Refused(ARGUMENTS, f"--add and --back take no other option: {SEE_HELP}")
     device = plain[0] if wanted == 2 else ""
-    return Call(device, plain[-1], options, flags["--series"], flags["--once"], seconds, typed=tuple(typed), pages=pages,
+    return Call(device, plain[-1], options, flags["--series"], flags["--once"], told, typed=tuple(typed), pages=pages,
                 delay=late, publish=command, hold=hold_of(hold))  # fmt: skip
 
 
@@ -156,8 +156,10 @@ def hold_of(text: Optional[str]) -> Optional[float]:
     return read_hold(text)
 
 
-def linger_of(text: str) -> int:
-    """The seconds that a result stands."""
-    if not (text.isascii() and text.isdigit()):
-        raise Refused(ARGUMENTS, f"--linger wants a number of seconds, and not '{text}'")
-    return min(int(text), LONGEST_LINGER) if len(text) < 8 else LONGEST_LINGER
+def told_of_linger(seconds: Optional[str]) -> Tuple[str, ...]:
+    """What is said of this option, if it is given."""
+    if seconds is None:
+        return ()
+    if not (seconds.isascii() and seconds.isdigit()):
+        raise Refused(ARGUMENTS, f"{LINGER} wants a number of seconds, and not '{seconds}'")
+    return (TEN_SECONDS,)

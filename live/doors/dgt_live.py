@@ -32,7 +32,7 @@ if TYPE_CHECKING:
     from live.doors.audience import Audience
 
 HELP = """\
-usage: dgt_live [--series] [--once] [--linger SECONDS] DEVICE NAME [OPTION..]
+usage: dgt_live [--series] [--once] DEVICE NAME [OPTION..]
        dgt_live (--add TEXT|--back PLY|--first SIDE|--recover|--page PORT) NAME
 
 Records the DGT board at DEVICE, prints the game line by line, and keeps
@@ -44,7 +44,7 @@ The same NAME goes on with a game. While it records, type a result (1-0, 0-1,
 off; back 14. Bxf6: up to this one), ok when you looked at a LOOK, or help.
 
   --series           NAME-1, NAME-2, ..: the next once pieces are set up again
-  --once, --linger SECONDS   an unplugged board ends it; seconds a result waits
+  --once             an unplugged board ends it
   --page [ADDRESS:]PORT, --page-host NAME, --arbiter-page   to browsers: 8000
   --delay MINUTES, --hold SECONDS, --publish COMMAND   how late it goes out
   --recover          put in moves that two hands hid (--strict: no longer)
@@ -79,8 +79,8 @@ def record_in(call: Call, program: Program, signals: Signals) -> Outcome:
     loop = Loop()
     audience = audience_of(loop, program, call, given)
     terminal = Terminal(loop)
-    plan = Plan(call.device, call.name, Rules(call.linger, call.series), call.once, shows=call.shows)
-    choice = Choice(given, tuple(given.told_of_turned(call.options)), audience is not None and audience.is_unseen)
+    plan = Plan(call.device, call.name, Rules(call.series), call.once, shows=call.shows)
+    choice = Choice(given, (*call.told, *given.told_of_turned(call.options)), audience is not None and audience.is_unseen)
     single = Single(loop, program, Screen(terminal), plan, choice)
     if audience:
         audience.join(single)

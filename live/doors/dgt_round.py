@@ -16,7 +16,7 @@ from live.broadcast.named_output import (
     without_those,
 )  # fmt: skip
 from live.doors import calls
-from live.doors.calls import LINGER, QUOTES, linger_of, refuse_both, refuse_hosts
+from live.doors.calls import LINGER, QUOTES, refuse_both, refuse_hosts, told_of_linger
 from live.doors.door import Outcome, through
 from live.game.file_names import ROUND, is_of_an_output
 from live.game.files import LOCK_PATIENCE, Paths, text_of
@@ -47,7 +47,7 @@ from live.web.round_page import ArbiterView
 SEE_HELP = "see dgt_round --help"
 TAGS = ("--event", "--site", "--date", "--round")
 NEW, EMBED, WEB = "--new", "--embed", "--web"
-VALUED = (*TAGS, TAG, "--linger", "--page", "--page-host", "--arbiter-page", EMBED, WEB, "--delay", "--publish", "--hold", OUTPUT, ENCODING, MATCHES)
+VALUED = (*TAGS, TAG, LINGER, "--page", "--page-host", "--arbiter-page", EMBED, WEB, "--delay", "--publish", "--hold", OUTPUT, ENCODING, MATCHES)
 HELP = """\
 usage: dgt_round FILE [FOLDER] [OPTION..]     a round of its own
        dgt_round CUP ROUND [OPTION..]         a round of a tournament
@@ -71,7 +71,7 @@ OPTION, kept: --event, --place (--site), --date, --round TEXT; --tag NAME=VALUE
   --embed https://SITE, --web FOLDER   who may frame it; a site of files
   --delay MINUTES, --publish COMMAND   how late it goes out, and by what
   --output 'NAME = MINUTES, COMMAND'   a further output; for more, once more
-  --hold, --linger, --encoding, --matches, --recover, --strict, --version: man
+  --hold, --encoding, --matches, --recover, --strict, --version: man
 """
 
 
@@ -82,7 +82,7 @@ class Asked:
     file: str = ""
     folder: str = ""
     options: Options = Options()  # of all games
-    linger: int = LINGER
+    told: Tuple[str, ...] = ()  # about the options
     pages: Pages = Pages()
     delay: Optional[float] = None  # seconds; None leaves it as it was
     publish: Tuple[str, ...] = ()  # a command
@@ -147,7 +147,7 @@ def each_read(arguments: Sequence[str]) -> Asked:
         raise Refused(ARGUMENTS, f"type the FILE with the pairings: {SEE_HELP}")
     if len(plain) > 2:
         raise Refused(ARGUMENTS, f"{plain[2]} {QUOTES}: {SEE_HELP}")
-    linger = linger_of(values.pop("--linger", str(LINGER)))
+    told = told_of_linger(values.pop(LINGER, None))
     page, arbiter_page = (values.pop(option, None) for option in ("--page", "--arbiter-page"))
     refuse_hosts(page or arbiter_page, hosts, SEE_HELP)
     embed, web = values.pop(EMBED, None), in_home(values.pop(WEB, ""))
@@ -162,7 +162,7 @@ def each_read(arguments: Sequence[str]) -> Asked:
         plain[0],
         "".join(plain[1:]),
         Options.of_words(words),
-        linger,
+        told,
         read_pages(page, arbiter_page, hosts, embed),
         None if delay is None else read_delay(delay),
         () if publish is None else read_command(publish),
@@ -286,7 +286,7 @@ def play(asked: Asked, program: Program, signals: Signals) -> Outcome:
     kept = Options() if asked.tournament else (kept_options(files) or Options()).only(TAGS)
     told, given = told_of_kept(given, kept), given.filled(kept, TAGS)
     loop = Loop()
-    hall = Hall(program, str(folder), given, asked.linger, terminal_of_lines(loop))
+    hall = Hall(program, str(folder), given, terminal_of_lines(loop))
     refuse_another_round(source, read, hall)
     where, are_kept = pages_of(files, asked.pages)
     pages = TwoPages(loop, where, are_kept)
@@ -298,7 +298,7 @@ def play(asked: Asked, program: Program, signals: Signals) -> Outcome:
     told_of_removed = [removed(folder, output) for output in asked.outputs if not output.out]
     told_of_named = [*filter(None, told_of_removed), *told_of(folder, asked.outputs, left_in(folder))]
     games = Round(loop, source, read, title, replace(hall, out=GoingOut(delay, asked.publish, hold=asked.hold), outputs=held(asked.outputs, asked.hold)))
-    for line in filter(None, (told_of_place, told)):
+    for line in filter(None, (told_of_place, told, *asked.told)):
         games.say(line)
     if late:
         stays = " as before; --delay 0 ends that" if asked.delay is None else ""

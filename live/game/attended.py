@@ -14,7 +14,7 @@ DOUBT = re.compile(f"look (?:({SUSPECT}) ([0-9]+)|({AT}|{AFTER}|{SINCE}) ([0-9]+
 KEEP, HOLD, OTHER = "keep", "hold", "other"
 WAITS, UNSEEN = "WAITS", ("UNPLUGGED", "SILENT", "WAITS")  # states in which the board may have shown nothing
 HINTS = ("TURNED-ROUND", "OTHER-BOARD")
-ENDS = ("over", "played", "begins")
+END = re.compile(r"over ([A-Z-]+) (\S+) ([0-9]+) (sure|unsure)|played ([0-9]+)|begins ([0-9]+)")
 KEPT_LINE, GAME_LINE = b"kept ", b"game "  # behind which come as many bytes as they say
 OFTEN = re.compile(rb"keep\n(?:ask ([A-Z]+)\n)?done ([0-9]+|-)\n")  # the end of most answers
 HISTORY_ENDS = b"done -"  # the answer to a capture
@@ -51,6 +51,16 @@ class Doubt:
     moves: int = 0
 
 
+@dataclass(frozen=True)
+class Over:
+    """How the game is over: why, as a word; its result; how many bytes of the capture are the game's; whether that is sure."""
+
+    why: str
+    result: str
+    size: int
+    sure: bool = True
+
+
 @dataclass
 class Answer:
     """What an entry is answered."""
@@ -65,7 +75,15 @@ class Answer:
     is_full: bool = False  # whether the capture had no room
     stood: Optional[Stood] = None  # if that is news
     doubts: List[Doubt] = field(default_factory=list)  # those that are new
+    over: Optional[Over] = None  # if it is news that the game is over
+    played: int = 0  # moves that were made since, if that is news
+    begins: int = 0  # bytes of the capture that belong to the set-up, if the game began only then
     due: Optional[int] = None  # wake in so many milliseconds; None: never
+
+    @property
+    def says(self) -> bool:
+        """Whether it says something of the game."""
+        return bool(self.report or self.doubts or self.over or self.played or self.begins)
 
 
 class Answers:
@@ -143,8 +161,8 @@ class Answers:
             answer.doubts.append(_doubt_of(*doubt.groups()))
         elif word == "full":
             answer.is_full = True
-        elif word in ENDS and rest:
-            pass  # how the game ends: nothing uses it yet
+        elif end := END.fullmatch(line):
+            _take_end(answer, *end.groups())
         else:
             raise NoAnswer(line)
         return False
@@ -153,6 +171,16 @@ class Answers:
 def _doubt_of(suspect: Optional[str], number: str, where: str, plies: str, why: str, moves: Optional[str]) -> Doubt:
     """That of the parts of its line: something suspected, or what is doubtful at some ply."""
     return Doubt(suspect, int(number), suspect) if suspect else Doubt(where, int(plies), why, int(moves or 0))
+
+
+def _take_end(answer: Answer, why: Optional[str], result: str, size: str, sure: str, played: Optional[str], begins: Optional[str]) -> None:
+    """Takes the parts of a line about the game's end, or about its beginning."""
+    if why:
+        answer.over = Over(why, result, int(size), sure == "sure")
+    elif played:
+        answer.played = int(played)
+    else:
+        answer.begins = int(begins or 0)
 
 
 def _span(word: str) -> Optional[int]:

@@ -125,6 +125,15 @@ class Attending(Child):
         """Whether all that was told is answered."""
         return not self._told
 
+    def heard_by(self, hears: HearsAnswers) -> None:
+        """From now on this one gets what the program answers."""
+        self._hears = self._hears_child = hears
+
+    @property
+    def is_closed(self) -> bool:
+        """Whether it was ended."""
+        return self._is_closed
+
     def pause(self) -> None:
         """It isn't woken from now on, so that all that was told gets answered."""
         self._is_paused = True
@@ -138,14 +147,15 @@ class Attending(Child):
     def take(self) -> bytes:
         """Ends it. Returns what the board has sent and was neither kept nor known to be another board's."""
         self.close()
-        thens, left = self._thens(), self._undecided()
+        thens, left = self._thens(), self.undecided()
         self._told.clear()
         self._held.clear()
         for then in thens:
             then()
         return left
 
-    def _undecided(self) -> bytes:
+    def undecided(self) -> bytes:
+        """The same, while it goes on."""
         return b"".join([*self._held, *(told.sent for told in self._told if told.what == times.HEARD)])
 
     def _thens(self) -> List[Callback]:
@@ -159,7 +169,7 @@ class Attending(Child):
     # How it begins.
 
     def _begins_anew(self) -> None:
-        thens, left = self._thens(), self._undecided()
+        thens, left = self._thens(), self.undecided()
         self._told.clear()
         self._out.clear()
         self._held.clear()

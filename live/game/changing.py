@@ -4,8 +4,6 @@ from __future__ import annotations
 
 import os
 from dataclasses import replace
-from typing import Tuple
-
 from live.game import answers
 from live.game.alarms import acknowledge
 from live.game.answers import ILLEGAL, Said, meaning, whose_move
@@ -57,14 +55,14 @@ def add_to_closed(game: Game, line: str) -> Said:
     return said
 
 
-def add_and_make(game: Game, line: str) -> Tuple[str, str]:
-    """Adds to a game that nobody records now, and makes its text. Returns in words what was added, and the result if it is one."""
+def add_and_make(game: Game, line: str) -> str:
+    """Adds to a game that nobody records now, and makes its text. Returns in words what was added."""
     before = result_in(game.paths)
     said = add_to_closed(game, line)
     made = made_of(game, Text(game).make(end_mark(game.paths)))
     gone = "" if said.outcome else "".join(f"; {told}" for told in told_of_result(before, result_in(game.paths)))
     plies = game_of(game.program, game.options, game.capture.bytes(0, end_mark(game.paths))).plies if said.outcome else []
-    return meaning(said, line, [ply.short for ply in plies]) + gone + made, said.outcome
+    return meaning(said, line, [ply.short for ply in plies]) + gone + made
 
 
 def add_by_name(program: Program, paths: Paths, text: str, patience: float) -> Answer:
@@ -97,7 +95,7 @@ def add_by_name(program: Program, paths: Paths, text: str, patience: float) -> A
             return DONE, f"{paths.name}: {done}"
         if isinstance(typed, (Quit, Nothing)):
             raise Refused(WAYS)
-        what, _ = add_and_make(game, typed.line)
+        what = add_and_make(game, typed.line)
         drop_forfeit(paths)
     except Refused as refused:
         return refusal(text, refused)

@@ -23,7 +23,7 @@ from live.game.making_pgn import Made, Text
 from live.game.reading import game_of, read_game
 from live.game.reply import Asked, Refused
 from live.game.report import Move, Picture, line_of
-from live.game.times import OVER
+from live.game.times import OVER, REOPENED
 from live.game.way_back import ALL, NO_RESULT, PLIES, STILL_SHOWN, Way, nothing_goes, refuse, stays_of, way_of
 
 NO_LINKS = (errno.EPERM, errno.EOPNOTSUPP, errno.EMLINK)  # a file system without hard links
@@ -196,6 +196,7 @@ def _open_again(game: Game) -> str:
     game.times.cut(game.capture.size)
     unmark_end(game.paths)
     game.times.begin()
+    game.times.note(REOPENED)
     return made_of(game, text.make(None))
 
 

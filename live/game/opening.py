@@ -121,6 +121,7 @@ class Opened:
     read_anew: Tuple[str, ...] = ()  # if its capture is read in another way than before
     results: Tuple[str, ...] = ()  # if its result has changed
     close: Optional[Callback] = None  # closes its capture, unless that is done already
+    is_reopened: bool = False  # whether an arbiter has just said that it isn't over
     was_set_up: bool = False  # whether it ended without a result, as its pieces were set up: perhaps it begins only now
 
 

@@ -13,7 +13,6 @@ from live.device import protocol
 from live.device.protocol import DUMP_BEGINS
 from live.game.attended import CAPTURE, entry
 from live.game.course import Course
-from live.game.ending import ONE_MOVE
 from live.game.files import Opened
 from live.game.game import Game
 from live.game.making_pgn import source_of
@@ -21,6 +20,7 @@ from live.game.options import Options
 from live.game.program import CHUNK, Program, ending_of
 from live.game.report import Agrees, Clock, Differs, Picture, event_of, line_of
 
+ONE_MOVE = 4  # squares that a move changes, at most
 PIECE = 64 * 1024  # bytes of a capture that `live` is told at once: the report of a piece is in its memory as a whole
 
 

@@ -45,13 +45,12 @@ TURNED, OTHER = "turned round?", "other board?"  # in a row, for a hint that has
 
 @dataclass(frozen=True)
 class Hall:
-    """What all boards of a round share: the program, the folder of their games, the options of all games, how long a result
-    stands, where lines are printed, if anywhere, and how the games go out."""
+    """What all boards of a round share: the program, the folder of their games, the options of all games, where lines
+    are printed, if anywhere, and how the games go out."""
 
     program: Program
     folder: str
     options: Options
-    linger: int
     terminal: Optional[Terminal]
     out: GoingOut = GoingOut()
     outputs: Tuple[Output, ...] = ()  # beside that
@@ -259,7 +258,7 @@ class Row:
             check(device, may_wait=True)
             return of_a_line(given, name)
 
-        plan = Plan(device, name, Rules(hall.linger, listens=True), board=str(pairing.board), serial=pairing.serial)
+        plan = Plan(device, name, Rules(listens=True), board=str(pairing.board), serial=pairing.serial)
         return Wanted(plan, lambda: Opening(hall.program, plan.paths, prepares, 0))
 
     def changed(self) -> None:

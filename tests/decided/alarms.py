@@ -1,17 +1,15 @@
-"""When a board has gone on without its game for too long, and when moves are made after the end."""
+"""When a board has gone on without its game for too long, and when moves are made from the start after a game without a result."""
 
 import math
 from typing import Any, List, Tuple
 
-from live.game.after_the_end import AfterSetUp, AfterTheEnd
-from live.device.protocol import picture_of_placement
-from live.game.report import Event, event_of, line_of
+from live.game.afterwards import FromTheStart, went_on
+from live.game.looks import Looks
+from live.game.report import line_of
 
 from attending.state_rules import Agreement
 from decided.cases import cases
 from decided.table import same
-
-INITIAL = picture_of_placement("rnbqkbnr/pppppppp/8/8/8/8/PPPPPPPP/RNBQKBNR")
 
 
 def agreements() -> None:
@@ -31,16 +29,6 @@ def agreements() -> None:
     same("at 15 s, and not before", (agreement.is_overdue(19.9), agreement.is_overdue(20)), (False, True))
 
 
-def afterwards() -> None:
-    for name, lines, expected in cases("alarms", "afterwards"):
-        after = AfterTheEnd(INITIAL, "38. Kf2", "1-0")
-        events: List[Event] = [event for event in map(event_of, lines) if event]
-        same(f"{name}: all can be read", len(events), len(lines))
-        looks = [look for look in map(after.take, events) if look]
-        same(name, [look.text for look in looks],
-             [f"LOOK after 38. Kf2: {count} moves were made, and the game is over: 1-0" for count in expected])  # fmt: skip
-
-
 # Lines of the report from the start on, and how many moves each alarm names.
 SET_UP: List[Tuple[str, List[str], List[int]]] = [
     ("nothing but the pieces", ["0 picture rnbqkbnr/pppppppp/8/8/8/8/PPPPPPPP/RNBQKBNR", "0 agrees"], []),
@@ -53,10 +41,17 @@ SET_UP: List[Tuple[str, List[str], List[int]]] = [
 def from_the_start() -> None:
     """Moves after a set-up behind a game without a result."""
     for name, lines, expected in SET_UP:
-        after = AfterSetUp("38. Kf2")
+        after = FromTheStart("38. Kf2")
         looks = [look for look in (after.take(line.event) for line in map(line_of, lines) if line) if look]
         same(name, [look.text for look in looks],
              [f"LOOK after 38. Kf2: {count} moves were made from the start, and the game is over without a result" for count in expected])  # fmt: skip
 
 
-TABLES = [from_the_start, agreements, afterwards]
+def afterwards() -> None:
+    """Moves after a result, as the program counts them."""
+    same("two moves", went_on("38. Kf2", 2, "1-0").text, "LOOK after 38. Kf2: 2 moves were made, and the game is over: 1-0")
+    same("more replace it", Looks().with_one_more(went_on("38. Kf2", 2, "1-0")).with_one_more(went_on("38. Kf2", 3, "1-0")).all,
+         "LOOK after 38. Kf2: 3 moves were made, and the game is over: 1-0")  # fmt: skip
+
+
+TABLES = [from_the_start, afterwards, agreements]

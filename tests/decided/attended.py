@@ -2,7 +2,7 @@
 
 from typing import List
 
-from live.game.attended import Answer, Answers, Doubt, NoAnswer, Stood, entry
+from live.game.attended import Answer, Answers, Doubt, NoAnswer, Over, Stood, entry
 from live.game.times import ANSWERED, CALLED, GONE, OPENED, TOOK, line_after
 
 from decided.table import refused, same
@@ -39,7 +39,8 @@ WRITTEN = [
         b"keep\nlook at 27 LATE\nlook since 24 STOPPED 3\nlook SUSPECT 5\ndone 5\n",
         [Answer(handling="keep", doubts=[Doubt("at", 27, "LATE"), Doubt("since", 24, "STOPPED", 3), Doubt("SUSPECT", 5, "SUSPECT")], due=5)],
     ),
-    (b"keep\nover STOOD 0-1 335 sure\nplayed 2\nbegins 201\ndone 5\n", [Answer(handling="keep", due=5)]),
+    (b"keep\nover STOOD 0-1 335 sure\nplayed 2\nbegins 201\ndone 5\n", [Answer(handling="keep", over=Over("STOOD", "0-1", 335), played=2, begins=201, due=5)]),
+    (b"over UNFINISHED * 134 unsure\nkeep\ndone -\n", [Answer(handling="keep", over=Over("UNFINISHED", "*", 134, False))]),
     (b"74 agrees\ndone -\nkeep\ndone -\n", [Answer(report=["74 agrees"]), Answer(handling="keep")]),
 ]
 HISTORY = b"0 position start\n74 picture one\n74 agrees\ndone -\n90 picture two\n90 differs e2\ndone -\n"
@@ -61,7 +62,7 @@ def answers() -> None:
     for written, expected in WRITTEN:
         same(f"{written!r}", [found for at in range(len(written) + 1) if (found := cut(written, at)) != expected], [])
         same("byte by byte", byte_by_byte(written), expected)
-    for line in (b"what\n", b"done\n", b"state\n", b"look\n", b"look at LATE\n", b"look before 5 LATE\n", b"\n"):
+    for line in (b"what\n", b"done\n", b"state\n", b"look\n", b"look at LATE\n", b"look before 5 LATE\n", b"\n", b"over\n", b"over STOOD 0-1 335\n", b"over STOOD 0-1 335 surely\n", b"played -\n"):
         refused(f"{line!r}", NoAnswer, Answers().take, line)
 
 

@@ -6,8 +6,7 @@ import random
 from typing import Any, Dict, List, Optional, Sequence
 
 from live.device.protocol import SQUARES, picture_of_placement
-from live.game.course import Course, Start, clocks_of
-from live.game.ending import game_end
+from live.game.course import Course, clocks_of
 from live.game.options import Options
 from live.game.reading import wanted
 from live.game.report import Line, Move, Recovered, line_of
@@ -55,18 +54,17 @@ def course_of(texts: Sequence[str], seconds: float = 1.0) -> Course:
     return course
 
 
+OF_LIVE = ("changed at", "stands at start", "has agreed", "stood again")  # of a game's end, which the program says
+
+
 def looked_at(course: Course) -> Dict[str, object]:
     """What cases look at."""
     return {
         "moves": [ply.san for ply in course.plies],
         "positions": course.fens,
         "result": course.result,
-        "changed at": course.changed_at,
         "standing": [getattr(event, "words") for event in course.standing()],
         "news": [event.words for event in course.news if not isinstance(event, Recovered)],
-        "stands at start": course.stands_at_start,
-        "has agreed": course.has_agreed,
-        "stood again": course.stood_again is not None,
     }
 
 
@@ -75,42 +73,25 @@ def courses() -> None:
     for name, texts, expected in cases("reports", "courses"):
         seen_so = looked_at(course_of(texts))
         for what, value in expected.items():
-            same(f"{name}: {what}", seen_so[what], value)
+            if what not in OF_LIVE:
+                same(f"{name}: {what}", seen_so[what], value)
     for plies, clocks in cases("reports", "clocks"):
         same(f"the clocks after {len(plies)} plies", list(clocks_of([Move(*ply) for ply in plies])), clocks)
 
 
-def starts() -> None:
-    """What a start means that is shown after a set-up, whatever is reported with it at once."""
-    set_up, plays = [f"70 picture {START}", "70 differs e4 e2"], ["75 picture rnbqkbnr/pppppppp/8/8/3P4/8/PPP1PPPP/RNBQKBNR"]
-    moves = ["66 move 1. e4", "66 position rnbqkbnr/pppppppp/8/8/4P3/8/PPPP1PPP/RNBQKBNR b KQkq e3 0 1"]
-    more = ["67 move 1... e5", "67 position rnbqkbnr/pppp1ppp/8/4p3/4P3/8/PPPP1PPP/RNBQKBNR w KQkq e6 0 2"]
-    own = [f"70 picture {START}", "70 agrees", *plays, "75 move 1. d4"]
-    for name, texts, means in [
-        ("a game's own start, and its first move", own, None),
-        ("and another move", [*own, "80 move 1... d5"], None),
-        ("a set-up that looked like a move", [*moves, *set_up], Start.BEGINS),
-        ("and the first move", [*moves, *set_up, *plays, "75 agrees"], Start.BEGINS),
-        ("a game of one move", ["64 agrees", *moves, *set_up], Start.ENDS),
-        ("a game of two moves", [*moves, *more, *set_up], Start.ENDS),
-        ("and a first move of the next game", [*moves, *more, *set_up, *plays, "75 differs d2 d4"], Start.ENDS),
-        ("what it means isn't reported yet", [*moves, *more, *set_up[:1]], None),
-    ]:
-        course = course_of([f"60 picture {FAR}", *texts])
-        same(name, course.stood_again, means)
-    course = course_of([f"60 picture {FAR}", *moves, *set_up])
-    same("its line says so", course.stands_again, Start.BEGINS)
-    course.take(a_line("75 clock 1:30:00 1:30:00"), 1.0)
-    same("the next one doesn't", (course.stands_again, course.stood_again), (None, Start.BEGINS))
+def ends() -> None:
+    """What stays of a course if the game has fewer bytes, as the program says of one that was over before."""
+    game = ["0 position start w", "70 move 1. e4", "70 position e4 b", "80 move 1... e5", "80 position e5 w", "90 result 1-0", "100 move 2. Nf3",
+            "100 position Nf3 b", "100 result *"]  # fmt: skip
+    for size, result, stays, gone in ((91, "1-0", ["e4", "e5"], ["Nf3"]), (81, "*", ["e4", "e5"], ["Nf3"]), (80, "*", ["e4"], ["e5", "Nf3"]), (101, "*", ["e4", "e5", "Nf3"], [])):
+        course = course_of(game)
+        same(f"{size} bytes, gone", [ply.san for ply in course.end(size, result)], gone)
+        same(f"{size} bytes", ([ply.san for ply in course.plies], len(course.fens), len(course.ends), course.result), (stays, len(stays) + 1, len(stays), result))
 
 
 def seen(course: Course) -> object:
     """What the course of a game comes to."""
-    lines = course.lines()
-    return (
-        course.placement, course.clock, course.result, course.has_agreed, course.stood_again, course.changed_at,
-        course.standing(), lines[-1:], game_end(lines, course.start),
-    )  # fmt: skip
+    return course.placement, course.clock, course.result, course.standing()
 
 
 def enough() -> None:
@@ -140,11 +121,6 @@ def enough() -> None:
         all_of = course_at([*texts, *(text for part in parts for text in part)])
         same(f"trial {trial}", seen(course_at([*texts, *few])), seen(all_of))
     same("they are fewer", fewer > 4000, True)
-    game = [f"60 picture {START}", "60 agrees", "70 move 1. e4", f"80 picture {FAR}"]
-    chatter = [line for at in range(90, 190, 10) for line in (f"{at} picture {NO_KNIGHT}", f"{at} differs g1 e2 e4")]
-    start = [f"200 picture {START}", "200 differs e2 e4", f"210 picture {NO_KNIGHT}", "210 differs g1 e2 e4"]
-    kept = wanted([*chatter, *start, *chatter], picture_of_placement(START))
-    same("a start in the midst of others", course_at([*game, *kept]).stood_again, Start.ENDS)
 
 
 def course_at(texts: Sequence[str]) -> Course:
@@ -179,4 +155,4 @@ def options() -> None:
     refused("a NUL", Refused, Options.of_text, "--white\nAn\0na\n")
 
 
-TABLES = [lines, courses, starts, enough, options]
+TABLES = [lines, courses, ends, enough, options]

@@ -2,7 +2,6 @@
 screen prints."""
 
 from live.game.answers import Said, read_answer
-from live.game.ending import End, not_before
 from live.game.looks import OVER, Look, Looks
 from live.game.report import Move
 from live.game.typed import numbered
@@ -52,14 +51,4 @@ def looks() -> None:
     same("after a result that is gone", over.without(Way(PLIES, 9, "1-0", b"").settled), Looks())
 
 
-def ends() -> None:
-    """No end of a game comes before what a way back has made."""
-    for front, end, expected in (
-        (0, End(100, False, ("3... a6",)), End(100, False, ("3... a6",))),
-        (100, End(100, True), End(100, True)),
-        (120, End(100, False, ("3... a6",)), End(120, True)),
-    ):
-        same(f"{front} before {end}", not_before(front, end), expected)
-
-
-TABLES = [answers, plies, looks, ends]
+TABLES = [answers, plies, looks]

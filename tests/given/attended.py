@@ -245,11 +245,33 @@ def captured(*sent: bytes) -> List[bytes]:
 
 SIGNED = [b"0 begin 0\n", heard(100, INITIAL), heard(1100, KINGS_PAWN), heard(3100, BLACK_WINS)]
 
+STOOD_LATE = [*SIGNED, heard(20000, BOTH_PAWNS)]  # and it has stood by then
+NC6 = dump("r1bqkbnr/pppp1ppp/2n5/4p3/4P3/5N2/PPPP1PPP/RNBQKB1R")
+BB5 = dump("r1bqkbnr/pppp1ppp/2n5/1B2p3/4P3/5N2/PPPP1PPP/RNBQK2R")
+E6 = dump("rnbqkbnr/pppp1ppp/4p3/8/4P3/8/PPPP1PPP/RNBQKBNR")
+NO_KINGS = dump("rnbq1bnr/pppp1ppp/8/4p3/4P3/8/PPPP1PPP/RNBQ1BNR")
+
+# After 1. e4 e5 2. Nf3 Nf6 the kings show a draw. Then the knights go home, and White plays d4.
+BOTH_OUT = dump("rnbqkb1r/pppp1ppp/5n2/4p3/4P3/5N2/PPPP1PPP/RNBQKB1R")
+DRAWN = dump("rnbq1b1r/pppp1ppp/5n2/3kp3/3KP3/5N2/PPPP1PPP/RNBQ1B1R")
+ONE_HOME = dump("rnbqkb1r/pppp1ppp/5n2/4p3/4P3/8/PPPP1PPP/RNBQKBNR")
+D4 = dump("rnbqkbnr/pppp1ppp/8/4p3/3PP3/8/PPP2PPP/RNBQKBNR")
+KNIGHTS = [*SIGNED[:3], heard(2100, BOTH_PAWNS), heard(3100, KNIGHT), heard(4100, BOTH_OUT), heard(6100, DRAWN)]
+KNIGHTS_HOME = [*KNIGHTS, heard(20000, ONE_HOME), heard(25000, BOTH_PAWNS)]
+
 # What a host tells; in which answer what is said of the end.
 ENDS = [
     ("the kings", [*SIGNED, b"13099 wake\n", b"13100 wake\n", b"13200 wake\n"], [(5, b"over STOOD 0-1 201 sure")]),
     ("another move", [*SIGNED, heard(5000, BOTH_PAWNS)], [(4, b"over PLAYS-ON 0-1 201 sure")]),
     ("two moves after it", [*SIGNED, heard(20000, BOTH_PAWNS), heard(25000, KNIGHT)], [(4, b"over STOOD 0-1 201 sure"), (5, b"played 2")]),
+    ("one move after it", STOOD_LATE, [(4, b"over STOOD 0-1 201 sure")]),
+    ("and they go on", [*STOOD_LATE, heard(25000, KNIGHT), heard(30000, NC6), heard(35000, BB5)],
+     [(4, b"over STOOD 0-1 201 sure"), (5, b"played 2"), (6, b"played 3"), (7, b"played 4")]),
+    ("a move that is put right is one", [*STOOD_LATE, heard(25000, E6)], [(4, b"over STOOD 0-1 201 sure")]),
+    ("pieces are lifted", [*STOOD_LATE, heard(25000, NO_KINGS), heard(30000, BOTH_PAWNS)], [(4, b"over STOOD 0-1 201 sure")]),
+    ("both knights go home", KNIGHTS_HOME, [(7, b"over STOOD 1/2-1/2 402 sure")]),
+    ("and a third move", [*KNIGHTS_HOME, heard(30000, D4)], [(7, b"over STOOD 1/2-1/2 402 sure"), (9, b"played 3")]),
+    ("the next game", [*STOOD_LATE, heard(25000, INITIAL), heard(30000, KNIGHT), heard(35000, NC6)], [(4, b"over STOOD 0-1 201 sure")]),
     ("the start again", [*SIGNED, heard(9000, INITIAL)], [(4, b"over SET-UP 0-1 201 sure")]),
     (
         "no result",

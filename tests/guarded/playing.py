@@ -164,7 +164,7 @@ class Room:
         self.calls: "List[subprocess.Popen[bytes]]" = []
         self.name_game()
         start = [sys.executable, RAISING, self._journal, number]
-        self.live = self.hall.record("--page", str(free_port()), "--linger", "1", typed=True, start=start)
+        self.live = self.hall.record("--page", str(free_port()), typed=True, start=start)
         self.lines = Lines(self.live)
         self.second = Second(second, Lines(self.live), number)
         self._turned = time.monotonic()

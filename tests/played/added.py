@@ -37,7 +37,7 @@ def typed_results(folder: pathlib.Path) -> None:
         board = a_board(place, rotated=rotated)
         terminal = number % 2 == 0
         options = ["--rotated"] if rotated else []
-        live = Live(board.device, place / "game", "--linger", "1", *options, terminal=terminal, typed=not terminal)
+        live = Live(board.device, place / "game", *options, terminal=terminal, typed=not terminal)
         begun(live)
         for move in RUY:
             board.play(move)
@@ -159,7 +159,7 @@ def begun_late(folder: pathlib.Path) -> None:
 def typed_after_mate(folder: pathlib.Path) -> None:
     """After mate a typed result is refused with a word, since it would change nothing."""
     board = a_board(folder)
-    live = Live(board.device, folder / "game", "--linger", "8", typed=True)
+    live = Live(board.device, folder / "game", typed=True)
     begun(live)
     for move in ["f2f3", "e7e5", "g2g4", "d8h4"]:
         board.play(move)

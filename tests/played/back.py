@@ -166,7 +166,7 @@ def question_forgotten(folder: pathlib.Path) -> None:
 
 def result_taken_off(folder: pathlib.Path) -> None:
     """The kings were set into the centre by mistake: they are put back, and the result goes; a mate stays."""
-    board, live = begin_game(folder, "--linger", "60", typed=True)
+    board, live = begin_game(folder, typed=True)
     answered(live, "*", "refused: *: the game has no result")
     board.lift("e1")
     board.lift("e8")
@@ -282,7 +282,7 @@ def in_a_series(folder: pathlib.Path) -> None:
     """Between two games the one that is over is put right and stays over; and the game before, by its name, while the next one
     is played."""
     board = a_board(folder)
-    live = Live(board.device, folder / "round", "--series", "--linger", "1", typed=True)
+    live = Live(board.device, folder / "round", "--series", typed=True)
     begun(live)
     for move in RUY:
         board.play(move)

@@ -31,7 +31,7 @@ from played.stage import (
 def whole_game(folder: pathlib.Path) -> None:
     """A whole game with a clock, ended by the kings: the recorder ends by itself."""
     board = a_board(folder)
-    live = Live(board.device, folder / "game", "--linger", "1", "--white", "Anna", "--date", "2024.05.31")
+    live = Live(board.device, folder / "game", "--white", "Anna", "--date", "2024.05.31")
     begun(live)
     for number, move in enumerate(["e2e4", "e7e5", "g1f3", "b8c6", "f1b5", "a7a6", "e1g1"]):
         board.clock(5395 - 7 * number, 5393 - 7 * number)
@@ -146,7 +146,7 @@ def watched(folder: pathlib.Path) -> None:
         return [ast.literal_eval(line) for line in lines if line.endswith("\n")]
 
     try:
-        live = Live(board.device, folder / "game", "--linger", "1")
+        live = Live(board.device, folder / "game")
         begun(live)
         until(lambda: bytes_of(folder / "seen").count(b"\n") == 1, "the first text")
         sent = []

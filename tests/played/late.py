@@ -39,7 +39,7 @@ class Game:
 
     def record(self, *options: str, delay: str = "--delay 15") -> Live:
         """The command, the same each time."""
-        command = ["--linger", "0", *delay.split(), "--publish", f"cp -t {self.www}", *options]
+        command = [*delay.split(), "--publish", f"cp -t {self.www}", *options]
         return Live(self.board.device, self.name, *command, typed=True, start=self.clock.start)
 
     def play(self, live: Live) -> None:

@@ -161,7 +161,7 @@ def recovered_and_added(folder: pathlib.Path) -> None:
 def recovered_series(folder: pathlib.Path) -> None:
     """Two games in a row, each with a hidden pair: the first ends by a mate, and its end is marked in the capture's bytes."""
     board = a_board(folder)
-    live = Live(board.device, folder / "blitz", "--recover", "--series", "--linger", "1")
+    live = Live(board.device, folder / "blitz", "--recover", "--series")
     begun(live)
     for move in ("e2e4", "e7e5"):
         board.play(move)

@@ -368,7 +368,7 @@ def help_on_a_screen(folder: pathlib.Path) -> None:
     same(answer.returncode, 0)
     lines = answer.stdout.decode().splitlines()
     assert len(lines) < 24 and all(len(line) < 80 for line in lines), (len(lines), max(map(len, lines)))
-    for word in ["--series", "--once", "--linger", "--rotated", "--first", "--fen", "--event", "NAME.dgt", "NAME.pgn", "--add"]:
+    for word in ["--series", "--once", "--rotated", "--first", "--fen", "--event", "NAME.dgt", "NAME.pgn", "--add"]:
         assert word in answer.stdout.decode(), word
 
 

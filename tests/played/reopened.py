@@ -71,6 +71,28 @@ def set_up_and_back(folder: pathlib.Path) -> None:
     is_whole(live)
 
 
+def times_lost(folder: pathlib.Path) -> None:
+    """A game whose pieces were set up is reopened, and goes on; then its times are lost. It goes on when it is recorded again."""
+    board, live = ruy(folder)
+    board.set_up([])
+    until_line(live, SET_UP)
+    same(ended(live), 0)
+    same(call("--add", "*", live.name).returncode, 0)
+    again = go_on(board, live)
+    until_line(again, words.IN_HAND)
+    for move in RUY:
+        board.play(move)
+    until(lambda: again.lines().endswith(words.AGREES + "\n"), "that it agrees")
+    same(stop(again), 0)
+    pathlib.Path(f"{live.name}.times").unlink()
+    once_more = go_on(board, live)
+    begun(once_more)
+    board.play("a7a6")
+    until(lambda: sans(live)[-1:] == ["a6"], "the ply after")
+    same(stop(once_more), 0)
+    is_whole(live)
+
+
 def set_up_after_it(folder: pathlib.Path) -> None:
     """A ply too many is taken off a game that is over, by a command; then the pieces are set up, and it is recorded again: the start
     ends it with each ply that was to stay, though all have one time."""
@@ -114,7 +136,7 @@ def series_goes_on(folder: pathlib.Path) -> None:
     """Between two games of a series the one that is over goes on: where the players have gone back by a ply; and, once it was put
     right while the board showed what was taken off, with `*`. It is ended by setting up, and the next one begins."""
     board = a_board(folder)
-    live = Live(board.device, folder / "round", "--series", "--linger", "1", typed=True)
+    live = Live(board.device, folder / "round", "--series", typed=True)
     begun(live)
     for number, move in enumerate(RUY):
         board.play(move)

@@ -138,20 +138,22 @@ def clocks_run_again(folder: pathlib.Path) -> None:
 
 
 def result_put_right(folder: pathlib.Path) -> None:
-    """A result that is shown is put right, so that the capture has other bytes at its end, and it is killed: the moves stay, and the
-    right result comes at its time."""
+    """The result of a game that is over is put right, so that the capture has other bytes at its end. As the first one is shown, it is
+    killed: the moves stay, and the right result comes at its time."""
     game = Game(folder)
     live = game.record()
     game.play(live)
     game.clock.be(300)
     live.type("1-0")
     game.until_kept(WON)
-    game.clock.be(1210)
-    game.until_shown(WON)
+    game.clock.be(320)
+    until_line(live, WAITS)
     live.type("1/2-1/2")
     game.until_kept(DRAWN)
+    game.clock.be(1210)
+    game.until_shown(WON)
     kill(live)
-    game.clock.be(1300)
+    game.clock.be(1215)
     live = game.record(delay="")
     until_line(live, WAITS)
     rest(1)

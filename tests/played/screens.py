@@ -101,7 +101,7 @@ def wrong_over_a_restart(folder: pathlib.Path) -> None:
 def setting_up(folder: pathlib.Path) -> None:
     """Setting up the pieces before a game, and between two, is not a line for each piece."""
     board = a_board(folder, [EMPTY] * 64, seed=5)
-    live = Live(board.device, folder / "game", "--series", "--linger", "0")
+    live = Live(board.device, folder / "game", "--series")
     until(lambda: len(game_lines(live)) > 0, "the first line")
     for _ in board.homecoming():
         rest(0.03)

@@ -29,6 +29,36 @@ def play(board: Board, moves: Sequence[str], pause: float = 0.0) -> None:
         rest(pause)
 
 
+def played_on_after_the_sign(folder: pathlib.Path) -> None:
+    """The kings are in the centre by mistake, and the players go on: the game is over, and the second move is an alarm. The result is taken
+    off, and the game has all moves. It ends by a result that stands, and the next game begins with the start."""
+    board = a_board(folder)
+    live = Live(board.device, folder / "round", "--series", typed=True)
+    begun(live)
+    play(board, ["e2e4", "e7e5"])
+    until_game(folder / "round-1", "1. e4 e5 *")
+    board.kings_in_centre("d4", "d5")
+    until_line(live, f"{words.RESULT}1/2-1/2")
+    play(board, ["d4e1", "d5e8", "g1f3"])
+    until_line(live, "round-1 is over: another move was made after its result")
+    board.play("b8c6")
+    until_line(live, "LOOK after 1... e5: 2 moves were made, and the game is over: 1/2-1/2. Look at it, and type ok")
+    until_game(folder / "round-1", "1. e4 e5 1/2-1/2")
+    live.type("*")
+    until_game(folder / "round-1", "1. e4 e5 2. Nf3 Nc6 *")
+    live.type("ok")
+    board.play("f1b5")
+    until_game(folder / "round-1", "1. e4 e5 2. Nf3 Nc6 3. Bb5 *")
+    live.type("1-0")
+    until_line(live, f"round-2 {words.BEGINS}", 2)
+    board.set_up([])
+    until(lambda: len(bytes_of(folder / "round-2.dgt")) >= 67, "the second game")
+    board.play("d2d4")
+    until_game(folder / "round-2", "1. d4 *")
+    same(stop(live), 0)
+    same(movetext(folder / "round-1"), "1. e4 e5 2. Nf3 Nc6 3. Bb5 1-0")
+
+
 def come_home(board: Board, pause: float = 0.02, kings_first: bool = False) -> None:
     """The pieces are set up again in random order."""
     for _ in board.homecoming(kings_first):
@@ -38,7 +68,7 @@ def come_home(board: Board, pause: float = 0.02, kings_first: bool = False) -> N
 def series(folder: pathlib.Path) -> None:
     """Three games in a row; the pieces are set up with the kings first, or last; killed between two and within one."""
     board = a_board(folder)
-    live = Live(board.device, folder / "round", "--series", "--linger", "1")
+    live = Live(board.device, folder / "round", "--series")
     begun(live)
     board.play("e2e4")
     board.kings_in_centre("e4", "d5")
@@ -50,13 +80,13 @@ def series(folder: pathlib.Path) -> None:
     board.play("d2d4")
     until_game(folder / "round-2", "1. d4 *")
     kill(live)
-    live = Live(board.device, folder / "round", "--series", "--linger", "1")
+    live = Live(board.device, folder / "round", "--series")
     board.play("d7d5")
     until_game(folder / "round-2", "1. d4 d5 *")
     board.kings_in_centre("d4", "e5")
     until_line(live, f"round-3 {words.BEGINS}")
     kill(live)
-    live = Live(board.device, folder / "round", "--series", "--linger", "1")
+    live = Live(board.device, folder / "round", "--series")
     until_line(live, f"round-3 {words.BEGINS}")
     board.set_up(last=[code for code in range(13) if code not in (KING, BLACK + KING)])
     until(lambda: len(bytes_of(folder / "round-3.dgt")) >= 67, "a dump")
@@ -74,7 +104,7 @@ def first_move_squares(folder: pathlib.Path) -> None:
     """The last piece that is put home is White's, from a square of a first move: Nf3, e4, a4. The next game is recorded, with
     a first move that is made at once."""
     board = a_board(folder)
-    live = Live(board.device, folder / "round", "--series", "--linger", "1")
+    live = Live(board.device, folder / "round", "--series")
     begun(live)
     for number, (move, san) in enumerate([("g1f3", "Nf3"), ("e2e4", "e4"), ("a2a4", "a4")], 1):
         until(lambda: len(bytes_of(folder / f"round-{number}.dgt")) >= 67, f"game {number}")
@@ -102,7 +132,7 @@ def first_move_squares(folder: pathlib.Path) -> None:
 def random_set_ups(folder: pathlib.Path) -> None:
     """Six games, the pieces set up in random order in between, the kings first or not: each game is recorded."""
     board = a_board(folder, seed=27)
-    live = Live(board.device, folder / "round", "--series", "--linger", "0")
+    live = Live(board.device, folder / "round", "--series")
     begun(live)
     openings = [["e2e4", "c7c5"], ["d2d4", "g8f6"], ["g1f3", "d7d5"], ["c2c4", "e7e5"], ["b1c3", "d7d5"], ["e2e4", "e7e6"]]
     texts = ["1. e4 c5", "1. d4 Nf6", "1. Nf3 d5", "1. c4 e5", "1. Nc3 d5", "1. e4 e6"]
@@ -124,7 +154,7 @@ def resigned(folder: pathlib.Path) -> None:
     """A game is resigned without the kings, and the pieces are set up again: it ends where the set-up began, and the next game
     is recorded. A first move that is taken back is no set-up."""
     board = a_board(folder, seed=3)
-    live = Live(board.device, folder / "round", "--series", "--linger", "1", "--white", "Anna")
+    live = Live(board.device, folder / "round", "--series", "--white", "Anna")
     begun(live)
     board.play("e2e4")
     rest(1.5)
@@ -150,7 +180,7 @@ def resigned(folder: pathlib.Path) -> None:
     same(stop(live), 0)
     same(movetext(folder / "round-1"), text)
     # Started again it goes on with the second game, and the first stays as it is.
-    again = Live(board.device, folder / "round", "--series", "--linger", "1")
+    again = Live(board.device, folder / "round", "--series")
     until(lambda: again.says("2. c4"), "the lines of the second game")
     board.play("e7e6")
     until_game(folder / "round-2", "1. d4 d5 2. c4 e6 *")
@@ -161,7 +191,7 @@ def resigned(folder: pathlib.Path) -> None:
 def three_games(folder: pathlib.Path) -> None:
     """A series as a club plays it: a game with a cut cable and a typed result; one that is resigned; one by the kings."""
     board = a_board(folder, seed=11)
-    live = Live(board.device, folder / "blitz", "--series", "--linger", "1", typed=True)
+    live = Live(board.device, folder / "blitz", "--series", typed=True)
     begun(live)
     play(board, ["e2e4", "e7e5"])
     until_game(folder / "blitz-1", "1. e4 e5 *")
@@ -210,7 +240,7 @@ def between_games(folder: pathlib.Path, numbers: Sequence[int]) -> None:
         place = folder / str(number)
         place.mkdir()
         board = a_board(place, seed=number)
-        live = Live(board.device, place / "round", "--series", "--linger", "0")
+        live = Live(board.device, place / "round", "--series")
         begun(live)
         play(board, ["e2e4", "c7c5", "g1f3", "d7d6", "d2d4", "c5d4", "f3d4", "g8f6"])
         text = "1. e4 c5 2. Nf3 d6 3. d4 cxd4 4. Nxd4 Nf6"
@@ -227,13 +257,13 @@ def between_games(folder: pathlib.Path, numbers: Sequence[int]) -> None:
             rest(0.03)
             if number >= 6 and step == 12:
                 kill(live)
-                live = Live(board.device, place / "round", "--series", "--linger", "0")
+                live = Live(board.device, place / "round", "--series")
         if number < 6:
             rest(0.4)
             board.play("d2d4")
             rest(0.02 * number)
             kill(live)
-            live = Live(board.device, place / "round", "--series", "--linger", "0")
+            live = Live(board.device, place / "round", "--series")
         else:
             until(lambda: len(bytes_of(place / "round-2.dgt")) >= 67, "the second game")
             board.play("d2d4")

@@ -16,6 +16,7 @@ from played.stage import (
     begin_game,
     begun,
     bytes_of,
+    ended,
     go_on,
     kill,
     movetext,
@@ -29,7 +30,7 @@ from played.stage import (
 )
 
 NUMBERED = ("begin", "away", "heard", "added", "stopped", "asked", "over")
-ALONE = ("opened", "answered", "gone", "called", "took", "ok", "back")
+ALONE = ("opened", "answered", "gone", "called", "took", "ok", "back", "reopened")
 NOTHING = "Nothing is to be done"
 OTHER = "other.times"
 ONE_BYTE = "1 digest 12638187200555641996"  # of a capture that begins with the letter a
@@ -171,14 +172,17 @@ def times_of_the_way_back(folder: pathlib.Path) -> None:
     until_line(again, words.AGREES)
     again.type("1/2-1/2")
     until_line(again, "is over: its result was given")
+    same(ended(again), 0)
     over = [int(bytes_of(f"{live.name}.end"))]
-    until(lambda: read(live.name).numbers("over") == over and read(live.name).total() == len(bytes_of(f"{live.name}.dgt")), "all times")
-    again.type("*")
-    until_line(again, "goes on")
+    same((read(live.name).numbers("over"), read(live.name).total()), (over, len(bytes_of(f"{live.name}.dgt"))))
+    reopens = Live("", "", "--add", "*", live.name)
+    until(lambda: not reopens.runs, "its end")
+    once_more = go_on(board, live)
+    until_line(once_more, words.AGREES)
     board.play("g1f3")
     until_game(live.name, "1. e4 c5 2. Nf3 *")
     until_dumped(board, live.name)
-    same(stop(again), 0)
+    same(stop(once_more), 0)
     found = accounted(live.name, lost=True)  # what came after the result has no times any more
     same([number for call in range(len(found.calls)) for number in found.numbers("over", call)], [])
     same(said_of_times(live.name), [])
@@ -201,7 +205,7 @@ def times_of_added(folder: pathlib.Path) -> None:
 def times_of_a_series(folder: pathlib.Path) -> None:
     """Two games on one board: each has its own times; killed within the second."""
     board = a_board(folder)
-    live = Live(board.device, folder / "round", "--series", "--linger", "1")
+    live = Live(board.device, folder / "round", "--series")
     begun(live)
     board.play("e2e4")
     board.kings_in_centre("e4", "d5")
@@ -211,7 +215,7 @@ def times_of_a_series(folder: pathlib.Path) -> None:
     board.play("d2d4")
     until_game(folder / "round-2", "1. d4 *")
     kill(live)
-    again = Live(board.device, folder / "round", "--series", "--linger", "1")
+    again = Live(board.device, folder / "round", "--series")
     board.play("d7d5")
     until_game(folder / "round-2", "1. d4 d5 *")
     same(stop(again), 0)

@@ -129,26 +129,34 @@ def as_the_start_is_shown(folder: pathlib.Path) -> None:
 
 
 def result_by_mistake(folder: pathlib.Path) -> None:
-    """A result was typed by accident: for a while it can be taken off, with what was played since, or be replaced. Then the recording
-    ends. A restart finds it over."""
-    board, live = begin_game(folder, "--linger", "4", typed=True)
+    """A result was typed by accident: for ten seconds it can be taken off, or be replaced; then the recording ends, and a restart finds the
+    game over. If a move is made meanwhile the game is over, and its board is watched: more moves are an alarm, and the game goes on with
+    all of them once the result is taken off."""
+    board, live = begin_game(folder, typed=True)
     live.type("1-0")
-    until_line(live, "the recording ends in 4 seconds; if the result was typed by mistake, type *")
+    until_line(live, "ends in 10 seconds; if the result was typed by mistake, type *")
+    until_game(live.name, "1. e4 e5 1-0")
+    answered(live, "*", "the result 1-0 is gone")
+    until_game(live.name, "1. e4 e5 *")
+    live.type("1-0")
     until_game(live.name, "1. e4 e5 1-0")
     board.play("g1f3")
-    rest(0.5)
-    answered(live, "*", f"{live.name} goes on, without the result")
-    until_game(live.name, "1. e4 e5 2. Nf3 *")
+    until_line(live, f"{live.name} is over: another move was made after its result. If it goes on, type *\n")
     board.play("b8c6")
+    until_line(live, "LOOK after 1... e5: 2 moves were made, and the game is over: 1-0. Look at it, and type ok")
+    same(movetext(live.name), "1. e4 e5 1-0")
+    answered(live, "*", f"{live.name} goes on, without the result")
     until_game(live.name, "1. e4 e5 2. Nf3 Nc6 *")
-    rest(4.5)
+    rest(10.5)
     same(live.runs, True)
+    board.play("f1b5")
+    until_game(live.name, RUY_TEXT)
     live.type("1-0")
-    until_game(live.name, "1. e4 e5 2. Nf3 Nc6 1-0")
+    until_game(live.name, RUY_TEXT.replace("*", "1-0"))
     answered(live, "0-1", "the result 0-1")
-    until_game(live.name, "1. e4 e5 2. Nf3 Nc6 0-1")
+    until_game(live.name, RUY_TEXT.replace("*", "0-1"))
     same(ended(live), 0)
-    same(movetext(live.name), "1. e4 e5 2. Nf3 Nc6 0-1")
+    same(movetext(live.name), RUY_TEXT.replace("*", "0-1"))
     again = Live(board.device, live.name)
     until(lambda: not again.runs, "its end")
     assert "is over: choose another name" in again.complaint(), again.complaint()
@@ -158,7 +166,7 @@ def unplugged_after_it(folder: pathlib.Path) -> None:
     """With --once the board is unplugged as soon as the result was typed: the call ends well."""
     board, live = begin_game(folder, "--once", typed=True)
     live.type("1/2-1/2")
-    until_line(live, "the recording ends in 10 seconds")
+    until_line(live, "ends in 10 seconds")
     board.pull()
     same(ended(live), 0)
     same(movetext(live.name), "1. e4 e5 1/2-1/2")
@@ -199,7 +207,7 @@ def result_of_the_game_before(folder: pathlib.Path) -> None:
     """A result is typed when the next game of a series has just begun, and once more after its first move: it is asked which game is
     meant, and none ends, as long as the game before has no result; also when the recorder was started again meanwhile."""
     board = a_board(folder)
-    live = Live(board.device, folder / "round", "--series", "--linger", "1", typed=True)
+    live = Live(board.device, folder / "round", "--series", typed=True)
     begun(live)
     for move in RUY:
         board.play(move)
@@ -216,7 +224,7 @@ def result_of_the_game_before(folder: pathlib.Path) -> None:
     answered(live, "0-1", f"refused: {one} has no result yet. Type 0-1 {one}, or 0-1 {two}")
     same((movetext(one), movetext(two)), (RUY_TEXT, "1. d4 *"))
     same(stop(live), 0)
-    live = Live(board.device, folder / "round", "--series", "--linger", "1", typed=True)
+    live = Live(board.device, folder / "round", "--series", typed=True)
     until_line(live, words.AGREES)
     answered(live, "0-1", f"refused: {one} has no result yet. Type 0-1 {one}, or 0-1 {two}")
     same((movetext(one), movetext(two)), (RUY_TEXT, "1. d4 *"))

@@ -80,7 +80,7 @@ def upgraded_in_a_series(folder: pathlib.Path) -> None:
     """Another version is installed in the first game of a series: the second one begins, and gets what is typed."""
     command = copied(folder / "program", "dgt_live")
     board = a_board(folder)
-    live = Live(board.device, folder / "club", "--series", "--linger", "1", program=command, typed=True)
+    live = Live(board.device, folder / "club", "--series", program=command, typed=True)
     begun(live)
     board.play("e2e4")
     until_game(folder / "club-1", "1. e4 *")

@@ -235,7 +235,7 @@ def kings_in_the_centre(folder: pathlib.Path) -> None:
     """The kings stood in the centre by mistake, and that ended a game; the players go on: LOOK says so until the game goes on
     with their moves. While the kings stand there, it can't. The pieces of another board are set up: nothing is said."""
     hall = Hall(folder, 2)
-    live = hall.record("--linger", "1", typed=True)
+    live = hall.record(typed=True)
     hall.begun(live)
     one, other = hall.boards
     for board in hall.boards:

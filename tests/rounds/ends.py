@@ -131,7 +131,7 @@ def of_another_board(folder: pathlib.Path) -> None:
     until_line(live, "the result 0-1 after 2... Nc6, 4 plies. If another board was meant, type 1 *")
     hall.until_text(1, "1. e4 e5 2. Nf3 Nc6 0-1")
     live.type("1 *")
-    until_line(live, "goes on, without the result")
+    until_line(live, "the result 0-1 is gone")
     hall.until_text(1, "1. e4 e5 2. Nf3 Nc6 *")
     same((live.says("If another board was meant", 2), live.says("If another board was meant, type 2")), (False, False))
     quits(live)

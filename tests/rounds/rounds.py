@@ -486,5 +486,5 @@ def help_on_a_screen(folder: pathlib.Path) -> None:
     assert len(lines) < 24 and all(len(line) < 80 for line in lines), (len(lines), max(map(len, lines)))
     for word in ["FOLDER", "round.pgn", "board,device,white,black", "rotated", "fen", "name", "recover", "3 1-0", "--devices"]:
         assert word in shown, word
-    for option in ["--event", "--site", "--date", "--round", "--linger", "--page", "--page-host", "--recover", "--strict"]:
+    for option in ["--event", "--site", "--date", "--round", "--page", "--page-host", "--recover", "--strict"]:
         assert option in shown, option

@@ -1,0 +1,50 @@
+"""The program that attended a game, while the pieces are set up for the next one of a series: it says how many moves are made after the
+game's result. The kings may have been in the centre by mistake, and the players go on."""
+
+from __future__ import annotations
+
+from typing import Callable
+
+from live.board.recording import Recording
+from live.game.afterwards import went_on
+from live.game.attended import Answer
+from live.game.attending import Told
+from live.game.looks import Look
+from live.game.times import HEARD
+
+
+class Afterwards:
+    """Tells it what the board sends, and passes on what somebody must look at. What else it says isn't used."""
+
+    def __init__(self, before: Recording, looks: Callable[[Look], None]) -> None:
+        self._attending, self._looks = before.hand_over(self), looks
+        course = before.course
+        self._last, self._result = course.plies[-1].short if course.plies else "the start", course.result
+        self._played = before.played
+        if self._played:
+            looks(went_on(self._last, self._played, self._result))
+
+    @property
+    def undecided(self) -> bytes:
+        """What the board has sent, and was neither kept nor known to be another board's."""
+        return self._attending.undecided()
+
+    def came(self, sent: bytes) -> None:
+        """The board has sent this."""
+        self._attending.tell(HEARD, sent)
+
+    def answered(self, told: Told, answer: Answer) -> None:
+        """The program answers what was told."""
+        if answer.played > self._played:
+            self._played = answer.played
+            self._looks(went_on(self._last, self._played, self._result))
+
+    def says(self, text: str) -> None:
+        """It has ended, and is started again."""
+
+    def broken(self, what: str) -> None:
+        """It has ended again and again: nothing more is said of the game."""
+
+    def close(self) -> None:
+        """Ends it."""
+        self._attending.take()
