@@ -76,7 +76,7 @@ def plays_on(folder: pathlib.Path) -> None:
         for move in ("d4e1", "d5e8", RUY[2]):
             port.board.play(move)
         until_over(stage, page)
-        stage.until(lambda: any("another move was made since" in line for line in page.messages), "why it is over")
+        stage.until(lambda: any("another move was made after its result" in line for line in page.messages), "why it is over")
         stage.until_dumped(page, port)
         is_over_with(page, "", 2)
         port.board.play(RUY[3])

@@ -12,6 +12,6 @@ export function afterwards(counts) {
   }
   const more = new Looks([lookAfterEnd("38. Kf2", 2, "1-0")]).withOneMore(lookAfterEnd("38. Kf2", 3, "1-0"));
   counts.same("a later count", more.open, [lookAfterEnd("38. Kf2", 3, "1-0")]);
-  const corrected = "LOOK at 38. Kf2: it corrects the last move after the result: compare with the score sheets";
+  const corrected = "LOOK at 38. Kf2: it corrects the last move after its result: compare with the score sheets";
   counts.same("a correction", textOfLook(lookCorrected("38. Kf2")), corrected);
 }

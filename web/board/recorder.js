@@ -33,9 +33,9 @@ const RESULT_STANDS = 'ends in 10 seconds, unless the result changes';
 const [CORRECTED, UNFINISHED] = ['CORRECTED', 'UNFINISHED'];
 const WHY = {
   STOOD: 'it has a result',
-  'PLAYS-ON': 'it has a result, and another move was made since',
-  [CORRECTED]: 'it has a result, and its last move was corrected since',
-  'SET-UP': 'it has a result, and the pieces are at the start again',
+  'PLAYS-ON': 'another move was made after its result',
+  [CORRECTED]: 'its last move was corrected after its result',
+  'SET-UP': 'it has a result',
   [UNFINISHED]: 'the pieces are at the start again',
 };
 // The same, as the page does: it keeps no more, or somebody wants another game.

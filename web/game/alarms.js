@@ -54,7 +54,7 @@ export function lookAfterEnd(last, count, result) {
 
 /** This ply corrects the last one of a game after its result, with which the game is over. */
 export function lookCorrected(ply) {
-  return lookAt(`at ${ply}`, 'it corrects the last move after the result: compare with the score sheets');
+  return lookAt(`at ${ply}`, 'it corrects the last move after its result: compare with the score sheets');
 }
 
 /** The byte with which an alarm came, by those that settled the plies; the one behind the ply if it came later. */
