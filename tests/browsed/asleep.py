@@ -7,7 +7,7 @@ import signal
 import threading
 import time
 
-from browsed.games import RUY, RUY_SANS, begin, play, until_agrees
+from browsed.games import RUY, RUY_SANS, answered, begin, play, until_agrees
 from browsed.hall import Hall, Port
 from browsed.page import Page
 from browsed.stage import with_chromium
@@ -168,7 +168,8 @@ def browser_stopped(folder: pathlib.Path) -> None:
 
 @with_chromium
 def result_taken_back(folder: pathlib.Path) -> None:
-    """The kings stand in the centre by mistake, and go back while the browser is stopped: the game goes on when it runs again."""
+    """The kings stand in the centre by mistake, and go back while the browser is stopped, and a move is made: the game is over with
+    their result. Without it the game goes on, with this move."""
     with Hall(folder) as stage:
         page, port = begin(stage)
         until_agrees(stage, page)
@@ -180,8 +181,11 @@ def result_taken_back(folder: pathlib.Path) -> None:
         port.board.play("d4e1", "d5e8", RUY[2])
         threading.Timer(LINGERS, lambda: stage.browser.send(signal.SIGCONT)).start()
         port.turn()  # what the board has sent waits in the browser's line
+        stage.until(lambda: page.text("#state").endswith("over"), "the end of the game")
+        stage.until_dumped(page, port)
+        same(page.moves, RUY_SANS[:2])
+        answered(stage, page, "*", "board 1 goes on, without the result")
         stage.until_moves(page, RUY_SANS[:3])
-        assert not any("is over" in line for line in page.messages), page.describe()
 
 
 @with_chromium

@@ -158,8 +158,8 @@ def killed_while_a_result_stands(folder: pathlib.Path) -> None:
 
 @with_chromium
 def typed_at_start(folder: pathlib.Path) -> None:
-    """Moves are typed while the start is shown after a game, and nobody has decided yet whether that ends it: they are refused, or
-    they are in a game. Many times, since it is a matter of a fifth of a second."""
+    """Moves are typed while the start is shown after a game, and the page has just heard that this ends it, or hears it soon: they are
+    refused, or they are in a game. Many times, since it is a matter of a moment."""
     with Hall(folder) as stage:
         page, port = begin(stage)
         until_agrees(stage, page)

@@ -1,18 +1,17 @@
-/** When moves are made after the end. */
-import { pictureOfPlacement } from "/web/device/protocol.js";
-import { AfterTheEnd } from "/web/game/after_the_end.js";
-import { textOfLook } from "/web/game/looks.js";
-import { eventOf } from "/web/game/report.js";
+/** What is said of a game that is over. The program says which moves count. */
+import { lookAfterEnd, lookCorrected } from "/web/game/alarms.js";
+import { Looks, textOfLook } from "/web/game/looks.js";
 
-const INITIAL = pictureOfPlacement("rnbqkbnr/pppppppp/8/8/8/8/PPPPPPPP/RNBQKBNR");
-
-export function afterwards(counts, cases) {
-  for (const [name, lines, expected] of cases("afterwards")) {
-    const after = new AfterTheEnd(INITIAL, "38. Kf2", "1-0");
-    const events = lines.map(eventOf).filter(Boolean);
-    counts.same(`${name}: all can be read`, events.length, lines.length);
-    const seen = events.map((event) => after.take(event)).filter(Boolean).map(textOfLook);
-    const told = (count) => `LOOK after 38. Kf2: ${count} moves were made, and the game is over: 1-0`;
-    counts.same(name, seen, expected.map(told));
+export function afterwards(counts) {
+  for (const [last, count, result, expected] of [
+    ["38. Kf2", 2, "1-0", "LOOK after 38. Kf2: 2 moves were made, and the game is over: 1-0"],
+    ["the start", 3, "1/2-1/2", "LOOK after the start: 3 moves were made, and the game is over: 1/2-1/2"],
+    ["38... Kd7", 2, "*", "LOOK after 38... Kd7: 2 moves were made, and the game is over"],
+  ]) {
+    counts.same(expected, textOfLook(lookAfterEnd(last, count, result)), expected);
   }
+  const more = new Looks([lookAfterEnd("38. Kf2", 2, "1-0")]).withOneMore(lookAfterEnd("38. Kf2", 3, "1-0"));
+  counts.same("a later count", more.open, [lookAfterEnd("38. Kf2", 3, "1-0")]);
+  const corrected = "LOOK at 38. Kf2: it corrects the last move after its result: compare with the score sheets";
+  counts.same("a correction", textOfLook(lookCorrected("38. Kf2")), corrected);
 }

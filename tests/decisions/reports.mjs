@@ -20,32 +20,25 @@ export function lines(counts, cases) {
 
 function courseOf(texts) {
   const course = new Course(START);
-  texts.forEach((text, at) => {
-    const line = lineOf(text);
-    if (line) {
-      course.take(line, at);
-    }
-  });
+  texts.map(lineOf).forEach((line) => line && course.take(line));
   return course;
 }
+
+const OF_LIVE = ["standing", "changed at", "stands at start", "has agreed", "stood again"]; // a state, or a game's end, which live says
 
 function lookedAt(course) {
   return {
     moves: course.plies.map((ply) => ply.san),
     positions: course.fens,
     result: course.result,
-    "changed at": course.changedAt,
     news: course.news.filter((event) => event.kind !== "recovered").map(wordsOf),
-    "stands at start": course.standsAtStart,
-    "has agreed": course.hasAgreed,
-    "stood again": course.stoodAgain,
   };
 }
 
 export function courses(counts, cases) {
   for (const [name, texts, expected] of cases("courses")) {
     const seen = lookedAt(courseOf(texts));
-    for (const [what, value] of Object.entries(expected).filter(([what]) => what !== "standing")) { // a state that live says
+    for (const [what, value] of Object.entries(expected).filter(([what]) => !OF_LIVE.includes(what))) {
       counts.same(`${name}: ${what}`, seen[what], value);
     }
   }

@@ -1,7 +1,7 @@
 /** The way back: what is asked and told. The program finds the ply and makes the capture anew. */
-import { AfterTheEnd } from "/web/game/after_the_end.js";
+import { Course } from "/web/game/course.js";
 import { Looks, OVER } from "/web/game/looks.js";
-import { question, readBack, refuseBack, refuseNothing, settled, wordsOfBack } from "/web/game/way_back.js";
+import { isAltered, question, readBack, refuseBack, refuseNothing, settled, wentOn as hasGoneOn, wordsOfBack } from "/web/game/way_back.js";
 
 const moveOf = ([number, san, clock]) => ({ kind: "move", number, san, clock, corrects: false });
 const read = (status, said) => readBack({ status, errors: new TextEncoder().encode(`${said}\n`), output: new Uint8Array(2) });
@@ -57,21 +57,30 @@ export function answers(counts) {
   }
 }
 
+/** Of a game of six plies with a result: what came since, whether it goes on with that, and whether its last move is another one. */
 export function wentOn(counts) {
   const move = (corrects) => ({ kind: "move", number: "4.", san: "Bxc6", clock: "", corrects });
   const result = (outcome) => ({ kind: "result", outcome });
-  for (const [name, events, expected] of [
-    ["nothing came", [], false],
-    ["the result is taken back", [result("*")], true],
-    ["another result", [result("0-1")], false],
-    ["it is taken back, and given again", [result("*"), result("1-0")], false],
-    ["moves", [result("*"), move(false), move(false)], true],
-    ["moves and another result", [move(false), result("1/2-1/2")], true],
-    ["the last move is another one", [result("*"), move(true)], false],
-    ["a later move is another one", [move(false), move(true)], true],
+  const game = [...Array(6).fill(move(false)), result("1-0")];
+  const courseOf = (events) => {
+    const course = new Course(Array(64).fill(0));
+    events.forEach((event, at) => course.take({ offset: 100 + at, event }));
+    return course;
+  };
+  for (const [name, events, expected, altered] of [
+    ["nothing came", [], false, false],
+    ["the result is taken back", [result("*")], true, false],
+    ["another result", [result("0-1")], false, false],
+    ["it is taken back, and given again", [result("*"), result("1-0")], false, false],
+    ["moves", [result("*"), move(false), move(false)], true, false],
+    ["moves and another result", [move(false), result("1/2-1/2")], true, false],
+    ["the last move is another one", [result("*"), move(true)], false, true],
+    ["the last move is another one, and a move", [result("*"), move(true), move(false)], false, true],
+    ["a later move is another one", [move(false), move(true)], true, false],
   ]) {
-    const after = new AfterTheEnd(Array(64).fill(0), "3... a6", "1-0");
-    events.forEach((event) => after.take(event));
-    counts.same(name, after.wentOn, expected);
+    const [ended, all] = [courseOf(game), courseOf([...game, ...events])];
+    counts.same(name, [hasGoneOn(ended, all), isAltered(ended, all)], [expected, altered]);
   }
+  const [empty, moved] = [courseOf([]), courseOf([move(false)])];
+  counts.same("no move, and one came", [hasGoneOn(empty, moved), isAltered(empty, moved)], [true, false]);
 }

@@ -17,7 +17,8 @@ export class Attending {
    * opened. It gets keeps(bytes, at, now, number) with what the capture gets;
    * asks(words, at) with what the board is sent; handled(handling, other), whose board is on the cable; lends(number, bytes), which
    * says whether another game has taken them; and, as soon as all is kept, hear(line) for each line, heardAll() after them,
-   * raises(looks) with what somebody must look at, and stands(state, entry) with what the board's state is said to be.
+   * ends(end) with what is said of the game's end, raises(looks) with what somebody must look at, and stands(state, entry) with what
+   * the board's state is said to be.
    */
   constructor(hall, guard, hears) {
     this.program = hall.program;
@@ -89,8 +90,7 @@ export class Attending {
       this.attend();
       return;
     }
-    this.told += 1;
-    this.pending.push({ number: this.told, mark: 0, entry: null, answer: { report: [], looks: [], state: null } });
+    this.pending.push({ number: 0, mark: 0, entry: null, answer: { report: [], end: null, looks: [], state: null } });
     this.guard.call(() => Promise.resolve().then(() => this.show())); // whoever wants them again goes on first
   }
 
@@ -227,15 +227,21 @@ export class Attending {
       this.known = Math.max(this.known, mark);
       const isToHear = answer.report.length > 0 && entry.word !== KEPT; // its capture comes with the next answer
       if (isToHear || !entry || entry.word === BEGIN) this.hear();
+      if (answer.end) this.hears.ends(answer.end);
       if (answer.looks.length > 0) this.hears.raises(answer.looks);
       if (answer.state) this.hears.stands(answer.state, entry);
       if (answer.game) this.texts.shift()(answer.game);
-      this.shown = number;
+      this.shown = Math.max(this.shown, number);
     }
     this.isShowing = false;
-    const { shown } = this;
-    this.waiting.filter(({ number }) => number <= shown).forEach(({ done }) => done());
-    this.waiting = this.waiting.filter(({ number }) => number > shown);
+    const seen = this.waiting.filter(({ number }) => this.isShown(number));
+    this.waiting = this.waiting.filter((one) => !seen.includes(one));
+    seen.forEach(({ done }) => done());
+  }
+
+  /** Whether the answers to so many entries are shown, and no line is to be heard again. */
+  isShown(number) {
+    return this.shown >= number && this.pending.every(({ entry }) => entry !== null);
   }
 
   hear() {
@@ -252,7 +258,7 @@ export class Attending {
   /** The promise ends when the answers to all that was told are shown. */
   read() {
     const number = this.told;
-    if (this.shown >= number || this.guard.ended) return Promise.resolve();
+    if (this.isShown(number) || this.guard.ended) return Promise.resolve();
     return new Promise((done) => {
       this.waiting.push({ number, done });
     });

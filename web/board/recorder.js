@@ -2,19 +2,17 @@
 // that attends its board gives its PGN.
 
 import { joined, lastDump, same } from '../device/protocol.js';
-import { AfterTheEnd } from '../game/after_the_end.js';
-import { Alarms, acknowledged } from '../game/alarms.js';
-import { endingWithSign, gameEnd } from '../game/ending.js';
+import { Alarms, acknowledged, lookAfterEnd, lookCorrected } from '../game/alarms.js';
 import { countingForfeit } from '../game/forfeits.js';
 import { textOfLook } from '../game/looks.js';
 import { dayOf } from '../game/names.js';
 import { ofLive } from '../game/options.js';
 import { ProgramError } from '../game/program.js';
 import { gameOf, newCourse, publishedOf, textOf } from '../game/reading.js';
-import { codesOf, shortOf, shownOf } from '../game/report.js';
+import { codesOf, shortOf, shownOf, wordsOf } from '../game/report.js';
 import { ABSENT, Refused } from '../game/typed.js';
 import { ADDED, ASKED, BACK, HEARD, LOOKED, OVER, SUSPECT, isOf, kept as foundIn } from '../game/times.js';
-import { reached, readBack } from '../game/way_back.js';
+import { isAltered, reached, readBack, wentOn } from '../game/way_back.js';
 import { Capture, LARGEST } from '../kept/capture.js';
 import { spread, withMore } from '../kept/spread.js';
 import { Times } from '../kept/times.js';
@@ -24,18 +22,25 @@ import { DISK_FULL, Kind, lasting, stateOf } from './state.js';
 import { Typing } from './typing.js';
 import { another, back as backAgain, mayTake } from './whose.js';
 
-const LINGER = 10.0; // seconds after which a result ends the game
-const LATE = 1.0; // seconds by which a timer is late if the page was stopped meanwhile
-const STANDS = 0.2; // seconds for which the start is shown before it ends a game
 const TICK = 1.0; // seconds between two looks at what waits
 const NO_PLIES = '0';
 const ROOM = 1 << 20; // bytes that are left for what `recover` adds: the program reads no more than LARGEST
 const SAID = [Kind.WRONG, Kind.NO_START]; // states that are reported as lines too
 const UNSEEN = ['UNPLUGGED', 'SILENT', 'WAITS']; // states in which the board may have shown nothing
 
+const RESULT_STANDS = 'ends in 10 seconds, unless the result changes';
+// Why a game is over, as the program says it.
+const [CORRECTED, UNFINISHED] = ['CORRECTED', 'UNFINISHED'];
+const WHY = {
+  STOOD: 'it has a result',
+  'PLAYS-ON': 'another move was made after its result',
+  [CORRECTED]: 'its last move was corrected after its result',
+  'SET-UP': 'it has a result',
+  [UNFINISHED]: 'the pieces are at the start again',
+};
+// The same, as the page does: it keeps no more, or somebody wants another game.
 const Reason = {
   RESULT: 'it has a result',
-  SET_UP: 'the pieces are at the start again',
   LIMIT: 'its capture has 64 MiB, and none may have more',
   LIMIT_OF_RECOVER: 'its capture has 63 MiB, and with Recover moves none may have more',
   NEXT: 'the next one was asked for',
@@ -95,6 +100,8 @@ export class Recorder {
     this.opened = this.capture.size;
     this.away = this.guard.away(); // the seconds that this page was away when the board was last heard
     this.raised = []; // alarms of the program that nobody has been told of
+    this.played = 0; // moves that were made though the game is over, as the program says
+    this.beginning = null; // the capture, if the program has said that the game begins only within it
   }
 
   get name() {
@@ -137,11 +144,9 @@ export class Recorder {
     this.old = this.attending.known; // bytes whose report isn't news
     this.isOld = true;
     this.course = newCourse(this.options);
+    this.all = this.isOver ? newCourse(this.options) : this.course; // of all that came: more than the game's, if that is over
     this.alarms = new Alarms(this.game.looks);
-    this.cancelLingering();
-    this.after = null;
-    this.startAt = null; // where the start was last shown
-    this.starts = []; // where it was shown after the game's end
+    this.nextAt = null; // where the start was shown first after the game's end
     this.attending.begin();
     this.wantText();
   }
@@ -149,8 +154,7 @@ export class Recorder {
   /** All lines have been heard. */
   heardAll() {
     if (this.isOld) this.tellOld();
-    if (this.isOver && this.starts.length === 0 && this.endsAtStart) this.starts.push(this.startAt);
-    if (this.isOver && this.starts.length > 0) this.guard.call(() => this.tryNext());
+    if (this.nextAt !== null) this.guard.call(() => this.tryNext());
     this.hears.changed();
   }
 
@@ -160,17 +164,15 @@ export class Recorder {
     if (event.kind === 'fault') return;
     const isOld = offset < this.old;
     if (this.isOld && !isOld) this.tellOld();
-    const now = this.capture.times.of(offset); // when it came: the report may be late
-    if (event.kind === 'picture' && same(codesOf(event.placement), this.course.start)) this.startAt = offset;
     if (event.kind === 'differs') this.differs = event.squares;
     if (this.isOver && offset >= this.game.end) {
-      if (offset >= this.overTo) this.hearAfter(line, isOld);
+      if (offset >= this.overTo) this.hearAfter(line);
       return;
     }
-    this.course.take(line, now);
+    this.course.take(line);
+    if (this.all !== this.course) this.all.take(line);
     this.course.news.length = 0; // it is reported below
     if (isOld) return;
-    if (event.kind === 'picture' && this.course.standsAgain) this.guard.after(STANDS, () => this.lookAtStart());
     if (event.kind === 'recovered') {
       this.hears.says(`${event.text}: look whether these moves were played`);
     } else if (event.kind === 'move' || event.kind === 'result') {
@@ -181,34 +183,32 @@ export class Recorder {
   hearChange(change) {
     this.hears.says(shownOf(change), change.kind === 'move');
     this.wantText();
-    if (change.kind === 'result') this.hearResult(change.outcome);
+    if (change.kind === 'result' && change.outcome !== '*') this.hears.says(RESULT_STANDS);
   }
 
   /** A line about what came after the end of the game. */
-  hearAfter({ offset, event }, isOld) {
-    if (event.kind === 'picture' && this.startAt === offset) this.starts.push(offset);
-    if (!this.after) this.after = new AfterTheEnd(this.course.start, reached(this.course.plies), this.course.result);
-    const look = this.after.take(event);
-    if (!isOld) this.tellLook(look ? this.alarms.add(look) : null);
+  hearAfter(line) {
+    const { offset, event } = line;
+    this.all.take(line);
+    const isStart = event.kind === 'picture' && same(codesOf(event.placement), this.course.start);
+    if (isStart && this.nextAt === null) this.nextAt = offset;
   }
 
-  /** Whether the game, which is over, was gone on with: moves were made, or the kings have left the centre. */
+  /** Whether the game, which is over, goes on with what came since as it is, if it shall go on. */
   get wentOn() {
-    return this.after !== null && this.after.wentOn;
+    return this.isOver && this.nextAt === null && wentOn(this.course, this.all);
   }
 
-  /** Whether the game is over, and its last move was another one after that. */
+  /** Whether the game is over, and its last move is another one since then. */
   get isAltered() {
-    return this.isOver && this.after !== null && this.after.isAltered;
+    return this.isOver && isAltered(this.course, this.all);
   }
 
   /** Takes over what was played earlier. */
   tellOld() {
     this.isOld = false;
-    if (this.isOver) return;
-    this.hearResult(this.course.result, true);
-    if (this.course.stoodAgain) this.guard.after(STANDS, () => this.lookAtStart());
-    this.tellRaised();
+    if (this.isOver) this.tellPlayed();
+    else this.tellRaised();
   }
 
   // What the program decides.
@@ -308,8 +308,8 @@ export class Recorder {
   /** A game is over when its capture has as many bytes as the program reads. */
   lookAtLimit() {
     if (this.isOver) return;
-    if (this.options.recover && this.capture.size >= LARGEST - ROOM) this.end(Reason.LIMIT_OF_RECOVER);
-    else if (this.capture.size >= LARGEST) this.end(Reason.LIMIT);
+    if (this.options.recover && this.capture.size >= LARGEST - ROOM) this.closeGame(this.capture.size, Reason.LIMIT_OF_RECOVER);
+    else if (this.capture.size >= LARGEST) this.closeGame(this.capture.size, Reason.LIMIT);
   }
 
   sayUnheard(seconds) {
@@ -540,64 +540,56 @@ export class Recorder {
 
   // Ending.
 
-  hearResult(result, isOld = false) {
-    this.cancelLingering();
-    if (result === '*' || this.isOver) return;
-    if (!isOld) this.hears.says(`ends in ${LINGER} seconds, unless the result changes`);
-    this.linger(LINGER);
-  }
-
-  /** Ends the game after this time. If the page was stopped meanwhile, what came is heard first. */
-  linger(seconds) {
-    const due = this.guard.now() + seconds;
-    this.lingering = this.guard.after(seconds, () => {
-      if (this.guard.now() - due > LATE) this.linger(LATE);
-      else this.end(Reason.RESULT);
-    });
-  }
-
-  cancelLingering() {
-    if (this.lingering) this.lingering.cancel();
-    this.lingering = null;
-  }
-
-  /** Whether the board shows the start again, and it is not decided yet what that means. */
-  get isAtStart() {
-    return !this.isOver && this.course.standsAgain && !this.course.standsAtStart;
-  }
-
-  /** Whether the start is the last picture of the game itself, which is over: plies were taken off after it was shown. */
-  get endsAtStart() {
-    return this.startAt !== null && this.startAt < this.game.end && this.course.standsAgain && !this.course.standsAtStart;
+  /** What the program says of the game's end. The page has ended a game that is over already; it may have been begun anew. */
+  ends({ over, played, begins }) {
+    this.played = played || this.played;
+    if (this.isOver) {
+      if (!this.isOld) this.tellPlayed();
+    } else if (begins !== null) {
+      this.guard.call(() => this.beginAnew(begins));
+    } else if (over) {
+      this.isOverSo(over);
+    }
   }
 
   /**
-   * The pieces are at the start after a set-up. That ends a game that isn't at its start; but if the board has never
-   * shown the game's position, a reported move was part of the set-up.
+   * The game is over, the program says: so many bytes are the game's, and what came behind them was no part of it. A result that
+   * somebody has typed is in the middle of the bytes that were added for it; they stay together.
    */
-  lookAtStart() {
-    const { course } = this;
-    if (this.isOver || this.isOld || course.standsAtStart) return;
-    if (course.hasAgreed || course.plies.length > 1) this.end(course.result !== '*' ? Reason.RESULT : Reason.SET_UP);
-    else this.guard.call(() => this.beginAnew());
+  isOverSo({ why, bytes, isSure }) {
+    const { plies, settledAt } = this.course;
+    const end = why === UNFINISHED ? bytes : Math.max(bytes, this.typedTo);
+    this.alarms.end(end);
+    if (why === UNFINISHED) this.tellSetUp(plies.filter((_, at) => settledAt[at] >= bytes), isSure);
+    if (why === CORRECTED) this.tellLook(this.alarms.add(lookCorrected(reached(plies))));
+    this.closeGame(end, WHY[why] || why);
   }
 
-  end(reason) {
-    if (this.isOver) return;
-    let end = this.capture.size;
-    if (reason === Reason.RESULT) end = Math.max(this.course.changedAt + 1, this.typedTo);
-    if (reason === Reason.SET_UP) end = this.endBeforeSetUp();
-    this.alarms.end(end);
-    this.closeGame(end, reason);
+  /** Pieces were set up before anybody gave a result. These plies were part of that. */
+  tellSetUp(plies, isSure) {
+    if (plies.length > 0) this.hears.says(`taken for setting up, and not for moves: ${plies.map(wordsOf).join('; ')}`);
+    if (!isSure) this.hears.says(`LOOK at the last moves of ${this.game.name}: where the game ended isn't sure`);
+  }
+
+  /** So many moves were made though the game is over: somebody must look, once for each of them. */
+  tellPlayed() {
+    const { plies, result } = this.course;
+    if (this.played <= (this.game.played || 0)) return;
+    this.game = { ...this.game, played: this.played };
+    this.tellLook(this.alarms.add(lookAfterEnd(reached(plies), this.played, result)));
   }
 
   /** The game is not over any more. */
   async goOn() {
-    this.game = { ...this.game, end: null, overTo: 0 };
+    this.game = { ...this.game, end: null, overTo: 0, played: 0 };
+    this.played = 0;
     this.reread();
     this.times.isNotOver();
-    this.times.note(BACK);
-    this.attending.tellNow(BACK);
+    for (const what of [BACK]) {
+      const at = this.guard.counted();
+      this.times.note(what, null, at);
+      this.attending.tellNow(what, null, at);
+    }
     await this.times.write(); // before the game's record: the times would have an end that the game lacks
     await this.keepGame();
   }
@@ -614,7 +606,6 @@ export class Recorder {
   }
 
   closeGame(end, reason) {
-    this.cancelLingering();
     this.game = { ...this.game, end, looks: this.alarms.looks.open };
     this.keepGame();
     this.times.note(OVER, end);
@@ -622,39 +613,37 @@ export class Recorder {
     this.reread();
   }
 
-  endBeforeSetUp() {
-    const lines = this.course.lines();
-    const found = gameEnd(lines, this.course.start);
-    if (found.size < this.typedTo) return endingWithSign(lines, this.typedTo); // what was typed is no set-up
-    if (found.dropped.length > 0) this.hears.says(`taken for setting up, and not for moves: ${found.dropped.join('; ')}`);
-    if (!found.sure) this.hears.says(`LOOK at the last moves of ${this.game.name}: where the game ended isn't sure`);
-    return endingWithSign(lines, found.size);
-  }
-
-  /** Makes the game's capture begin with the start and what came after it: what was reported before was the set-up. */
-  async beginAnew() {
+  /** Makes the game's capture begin with the start and what came after it: the first so many bytes were the set-up. */
+  async beginAnew(bytes) {
+    const { capture } = this;
+    this.beginning = capture;
     await this.typing.exclusively(async () => {
-      if (this.startAt === null) return;
-      const content = await this.fromStart(this.startAt);
+      if (!this.isBeginning) return;
+      const content = await this.fromStart(bytes);
       this.game = { ...this.game, looks: [] };
       await this.renew(content, true);
       this.hears.says(`the pieces have been set up: ${this.game.name} begins now`);
     });
   }
 
-  /** A dump of the start, as the program makes it of what the board has shown up to this byte, and what came behind it. */
-  async fromStart(offset) {
+  /** Whether the game just gets a capture that begins with the start. */
+  get isBeginning() {
+    return !this.isOver && this.beginning === this.capture;
+  }
+
+  /** A dump of the start, as the program makes it of what the board has shown in its first so many bytes, and what came behind them. */
+  async fromStart(bytes) {
     const content = this.capture.bytes();
-    const { kind, put } = readBack(await this.calls.back(this.options, content.slice(0, offset + 1), NO_PLIES));
+    const { kind, put } = readBack(await this.calls.back(this.options, content.slice(0, bytes), NO_PLIES));
     if (!put) throw new ProgramError(`back has refused the start: ${kind}`);
-    return joined(lastDump(put), content.slice(offset + 1));
+    return joined(lastDump(put), content.slice(bytes));
   }
 
   /** The next game begins with the start, which the board has shown since this byte. */
   beginNext(offset) {
     return this.typing.exclusively(async () => {
-      if (!this.isOver || this.starts[0] !== offset) return;
-      await this.begin(await this.fromStart(offset), this.board.next || {});
+      if (!this.isOver || this.nextAt !== offset) return;
+      await this.begin(await this.fromStart(offset + 1), this.board.next || {});
       this.hears.says(`the pieces are at the start: ${this.game.name} begins`);
     });
   }
@@ -662,7 +651,7 @@ export class Recorder {
   /** Begins the next game. If that fails, what comes is kept with the game that is over, after its end. */
   async tryNext() {
     try {
-      await this.beginNext(this.starts[0]);
+      await this.beginNext(this.nextAt);
       this.isLate = false;
     } catch (error) {
       if (!this.isLate) this.hears.says(`the next game can't be begun (${error.message}). Make room: it is tried again`);
@@ -682,7 +671,7 @@ export class Recorder {
    */
   async nextGame(given = {}, takesMove = false) {
     await this.typing.exclusively(async () => {
-      if (!this.isOver && this.course.result !== '*') this.end(Reason.RESULT);
+      if (!this.isOver && this.course.result !== '*') this.closeGame(this.capture.size, Reason.RESULT);
       const dump = lastDump(this.capture.bytes());
       const { plies } = await gameOf(this.calls, given.options || this.options, dump);
       if (plies.length > 0 && !takesMove) {
@@ -717,7 +706,6 @@ export class Recorder {
     const chunks = content.length > 0 ? spread(content, this.guard.now()) : [];
     const board = { ...this.board, next: null };
     game.id = await this.database.beginGame(board, game, chunks, before);
-    this.cancelLingering();
     this.board = { ...board, game: game.id };
     if (!this.isOver) this.times.note(OVER, before.end);
     this.hears.begun({ ...before, pgn, bytes: this.capture.bytes(), times: this.times.all });
@@ -773,12 +761,11 @@ export class Recorder {
    * makes the times of the new capture of this game. If the game goes on with it, plies were taken off.
    */
   async renew(content, keepsBefore, changes = {}, timesOf = (game, capture) => this.times.next(game, capture, 0)) {
-    this.cancelLingering();
     await this.times.hold();
     const chunks = spread(content, this.guard.now());
     const { all } = this.times;
     const before = { game: this.game.id, name: this.game.name, at: this.guard.now(), bytes: this.capture.bytes(), times: all };
-    const game = { ...this.game, hasBefore: this.game.hasBefore || keepsBefore, typedTo: 0, overTo: 0, ...changes };
+    const game = { ...this.game, hasBefore: this.game.hasBefore || keepsBefore, typedTo: 0, overTo: 0, played: 0, ...changes };
     const capture = new Capture(this.database, game.id, chunks);
     const times = timesOf(game, capture);
     const isBack = changes.end === null;
@@ -788,7 +775,6 @@ export class Recorder {
       await this.database.renew(game, chunks, row, keepsBefore ? before : null);
     } catch (error) {
       this.times.goOn();
-      this.hearResult(this.course.result, true);
       throw error;
     }
     if (keepsBefore) this.hears.keeps(before);

@@ -13,7 +13,7 @@ import { DISK_FULL } from './state.js';
 const TRIES = 4; // calls for one line, if the board sends something while each of them runs; the last one lets it wait
 const REOPENS = Symbol('a result is to be taken off');
 const AGAIN = Symbol('the board has sent something meanwhile');
-const ENDING = 'the pieces are at the start, so the game is just being ended. Nothing was done: look, and type it again';
+const ENDING = 'the game has just ended, or begins anew with the pieces at the start. Nothing was done: look, and type it again';
 const PLAYED_AFTER_ALL = 'the game isn\'t forfeited any more';
 const STAYS_OVER = 'The board still shows it, so the game stays over';
 const KEPT = 'What the board had sent is kept';
@@ -130,7 +130,7 @@ export class Typing {
     const { recorder } = this;
     await recorder.attending.read();
     if (recorder.guard.ended) throw new Refused('the recording was just interrupted. Type it again');
-    if (recorder.isAtStart || !this.isStill(seen)) throw new Refused(ENDING);
+    if (recorder.isBeginning || !this.isStill(seen)) throw new Refused(ENDING);
     return put(answer);
   }
 

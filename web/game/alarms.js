@@ -1,7 +1,7 @@
 // The alarms of a game until somebody has looked. The program raises them; here are their sentences. Pure; the caller keeps `looks`.
 
 import { AFTER, AT, SINCE, SUSPECT } from './attended.js';
-import { Looks, lookAt } from './looks.js';
+import { Looks, OVER, lookAt } from './looks.js';
 import { shortOf } from './report.js';
 
 const WHY = {
@@ -44,6 +44,17 @@ export function lookOf({ where, plies: count, why, moves }, plies) {
   const tried = `if the players only tried ${them}, take ${them} off here`;
   const made = `${moves === 1 ? 'a move was' : `${moves} moves were`} made while the clock was stopped: ${tried}`;
   return lookAt(what, where === SINCE ? made : WHY[why] || UNKNOWN, `${where} ${count}`);
+}
+
+/** So many moves were made in a game that is over, with this last ply and this result. A later count replaces it. */
+export function lookAfterEnd(last, count, result) {
+  const over = result === '*' ? 'the game is over' : `the game is over: ${result}`;
+  return lookAt(`after ${last}`, `${count} moves were made, and ${over}`, OVER);
+}
+
+/** This ply corrects the last one of a game after its result, with which the game is over. */
+export function lookCorrected(ply) {
+  return lookAt(`at ${ply}`, 'it corrects the last move after its result: compare with the score sheets');
 }
 
 /** The byte with which an alarm came, by those that settled the plies; the one behind the ply if it came later. */

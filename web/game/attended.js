@@ -3,11 +3,12 @@
 
 const NEWLINE = 0x0a;
 const ALARMED = ['TURNED-ROUND', 'OTHER-BOARD'];
-const ENDS = ['over', 'played', 'begins'];
 export const [KEEP, HOLD, OTHER] = ['keep', 'hold', 'other'];
 export const [KEPT, NUMBER, LENT, WAKE, TEXT] = ['kept', 'number', 'lent', 'wake', 'text'];
 export const [AT, AFTER, SINCE, SUSPECT] = ['at', 'after', 'since', 'SUSPECT']; // where somebody must look
 
+const OVER = /^([A-Z-]+) (1-0|0-1|1\/2-1\/2|\*) ([0-9]+) (sure|unsure)$/;
+const COUNTS = ['played', 'begins'];
 const RAISED = new RegExp(`^(?:(${SUSPECT}) ([0-9]+)|(${AT}|${AFTER}|${SINCE}) ([0-9]+) ([A-Z-]+)(?: ([0-9]+))?)$`);
 
 /** A line that stands in no answer. */
@@ -26,7 +27,7 @@ export function entryOf(at, word, given = null) {
 
 /** The answer before any line of it is read. `game` is the PGN, as bytes, if it was asked for. */
 function noAnswer() {
-  const none = { handling: '', other: '', number: '', asks: '', isFull: false, state: null, due: null };
+  const none = { handling: '', other: '', number: '', asks: '', isFull: false, end: null, state: null, due: null };
   return { kept: new Uint8Array(0), game: null, report: [], looks: [], ...none };
 }
 
@@ -48,6 +49,22 @@ function readLook(text) {
   if (!where) throw new NoAnswer(`live wrote: look ${text.slice(0, 60)}`);
   return { where, plies: Number(plies), why, moves: Number(moves || 0) };
 }
+
+/**
+ * How a game is over, as `STOOD 0-1 335 sure` says it: { why, result, bytes, isSure }. So many bytes of the capture are the game's; if
+ * that isn't sure, somebody must look.
+ */
+function readOver(text) {
+  const [, why, result, bytes, sure] = OVER.exec(text) || [];
+  if (!why) throw new NoAnswer(`live wrote: over ${text.slice(0, 60)}`);
+  return { why, result, bytes: Number(bytes), isSure: sure === 'sure' };
+}
+
+/**
+ * What is said of a game's end: how it is `over`; how many moves were `played` since; how many bytes of the capture belong to the
+ * set-up, if the game `begins` only then. What isn't said is null.
+ */
+const noEnd = () => ({ over: null, played: null, begins: null });
 
 /** Takes what `live` writes, and gives its answers. */
 export class Answers {
@@ -107,8 +124,10 @@ export class Answers {
       answer.looks.push(readLook(rest.join(' ')));
     } else if (word === 'state') {
       answer.state = stateOf(rest);
-    } else if (ENDS.includes(word)) {
-      // How the game ends: nothing uses it yet.
+    } else if (word === 'over') {
+      answer.end = { ...(answer.end || noEnd()), over: readOver(rest.join(' ')) };
+    } else if (COUNTS.includes(word)) {
+      answer.end = { ...(answer.end || noEnd()), [word]: Number(rest[0]) };
     } else if (word === 'done') {
       answer.due = spanOf(rest[0]);
       return true;

@@ -17,7 +17,7 @@ export async function gameOf(program, options, sent) {
   const course = newCourse(options);
   for (const text of await program.lines(['watch', ...ofBoard(options)], await program.whole(options, sent))) {
     const line = lineOf(text);
-    if (line) course.take(line, 0);
+    if (line) course.take(line);
   }
   return course;
 }

@@ -106,3 +106,18 @@ export function settled(plies, stays) {
   if (gone.length === 0) return [];
   return [...gone.map((ply) => `at ${ply}`), ...[reached(plies.slice(0, stays)), ...gone].map((ply) => `since ${ply}`)];
 }
+
+/**
+ * Whether the last ply of a game that is over is another one since then: this is the course up to its end, and the one of all that
+ * came.
+ */
+export function isAltered(ended, all) {
+  const last = ended.plies.length - 1;
+  return last >= 0 && all.settledAt[last] !== ended.settledAt[last];
+}
+
+/** Whether such a game lacks its result by what came since, or has more plies: then it goes on with that as it is. */
+export function wentOn(ended, all) {
+  if (isAltered(ended, all)) return false;
+  return all.plies.length > ended.plies.length || (all.result === '*' && ended.result !== '*');
+}
