@@ -1,26 +1,18 @@
-"""What a recorder has kept of what spectators see and don't see yet, as a restart would have it."""
+"""What a recorder that a case has started with a clock of its own has of a game: what spectators see, and what they don't see yet."""
 
-import functools
-import math
+import json
+import os
 import pathlib
 from typing import List
 
-from played.stage import bytes_of, program
-
-from live.broadcast import kept
-from live.broadcast.history import Shot
-from live.broadcast.late import this_start
-from live.broadcast.said_again import said_again
-from live.game.program import Program
+from live.broadcast.running import Clocks
+from live.broadcast.shot import Shot
 
 
-@functools.lru_cache(maxsize=1)
-def the_program() -> Program:
-    return Program(program())
-
-
-def hidden_shots(delayed: pathlib.Path, games: pathlib.Path) -> List[Shot]:
-    """Those that are shown or hidden, of a list and the folder of its games."""
-    found = kept.read(bytes_of(delayed), this_start(), math.inf)
-    said = said_again(the_program(), str(games), [stamp.front for stamp in found.stamps])
-    return [stamp.entry(said[stamp.front]).shot for stamp in found.stamps if stamp.front in said]
+def hidden_shots(name: object) -> List[Shot]:
+    """Those that are shown or hidden, of the game or the output's game with this name."""
+    path = pathlib.Path(os.path.abspath(str(name)))
+    folder = next((parent for parent in path.parents if (parent / "queued").is_dir()), path.parent)
+    file = folder / "queued" / str(path).replace("/", "%")
+    found = json.loads(file.read_text()) if file.exists() else []
+    return [Shot(text=text.encode(), forfeit=forfeit, clocks=Clocks(**clocks)) for text, forfeit, clocks in found]

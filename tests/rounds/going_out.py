@@ -22,17 +22,33 @@ from rounds.crowds import page_of
 from rounds.hall import Hall, games_of, plain, quits
 from rounds.rounds import boards_of, fetch
 
-PATHS = ["/", "/state.json", "/round.pgn", "/01.pgn", "/02.pgn", "/03.pgn", "/nothing", "/page.js", "/broadcast.pgn", "/01.delayed"]
-# Starts the recorder with a clock that is ahead of the computer's by as many seconds as a file says. It publishes quickly, and a
-# run may take as long as another file says.
+PATHS = ["/", "/state.json", "/round.pgn", "/01.pgn", "/02.pgn", "/03.pgn", "/nothing", "/page.js", "/broadcast.pgn", "/01.delay", "/01.began"]
+# Starts the recorder with clocks that are ahead of the computer's by as many seconds as a file says. It publishes quickly, and a
+# run may take as long as another file says. What spectators see of each game, and what waits, is noted in files beside.
 AHEAD = """
-import pathlib, runpy, sys, time
+import json, os, pathlib, runpy, sys, time
 sys.dont_write_bytecode = True
 ahead, longest, sys.argv = pathlib.Path(sys.argv[1]), pathlib.Path(sys.argv[2]), sys.argv[3:]
 sys.path.insert(0, {top!r})
 from live import loop
-from live.broadcast import publishing
+from live.broadcast import broadcast, publishing
+from live.game import timed
 loop.Loop.now = staticmethod(lambda: time.monotonic() + float(ahead.read_text()))
+timed.milliseconds = lambda: int((loop.Loop.counting() + float(ahead.read_text())) * 1000)
+def noting(name):
+    real, noted = getattr(broadcast.OneGame, name), {{}}
+    def called(self, *words):
+        real(self, *words)
+        shots = [entry.shot for entry in self.waiting.known]
+        if shots != noted.get(self):
+            noted[self] = shots
+            file = ahead.parent / "queued" / os.path.abspath(self.name).replace("/", "%")
+            new = pathlib.Path(str(file) + ".new")
+            new.write_text(json.dumps([[shot.text.decode(), shot.forfeit, vars(shot.clocks)] for shot in shots]))
+            new.replace(file)
+    setattr(broadcast.OneGame, name, called)
+noting("take")
+noting("tell")
 publishing.EACH, publishing.PAUSES = 0.1, (0.1, 0.2)
 run = publishing.run
 publishing.run = lambda words, path, _: run(words, path, float(longest.read_text()))
@@ -62,6 +78,7 @@ class Clock:
     def __init__(self, folder: pathlib.Path) -> None:
         self._ahead, self._longest, script = folder / "ahead", folder / "longest", folder / "ahead.py"
         script.write_text(AHEAD.format(top=str(TOP)))
+        (folder / "queued").mkdir(exist_ok=True)
         self.start: List[object] = [sys.executable, script, self._ahead, self._longest]
         self.be(0)
         self.may_take(300)
@@ -141,7 +158,7 @@ def both_have(files: List[pathlib.Path], wanted: List[List[str]]) -> None:
 
 def hidden(hall: Hall) -> List[str]:
     """The newest text that is kept of each of the two games, shown or not."""
-    shots = [hidden_shots(pathlib.Path(f"{hall.name(number)}.delayed"), hall.games) for number in (1, 2)]
+    shots = [hidden_shots(hall.name(number)) for number in (1, 2)]
     return [text for one in shots for text in texts_of(one[-1].text if one else b"")]
 
 
