@@ -312,7 +312,7 @@ class Broadcast:
         """For how many seconds something of the games is still hidden, as far as is known; None if nothing is."""
         if not self._out.delay:
             return None
-        times = [one.waiting.ends_at if one.is_told else self._loop.now() for one in self._of.values()]
+        times = [one.waiting.ends_at for one in self._of.values() if one.is_told]
         last = max((at for at in times if at is not None), default=None)
         return None if last is None else max(0.0, last - self._loop.now())
 

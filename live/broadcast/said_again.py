@@ -92,10 +92,11 @@ class Kept:
 
     @staticmethod
     def of(paths: Paths, capture: str, opened: Opened) -> Optional[Kept]:
-        """None if the capture isn't there. The times are read first: so nothing is younger than they say."""
+        """None if the capture isn't there, or is a link, which nobody records. The times are read first: so nothing is younger than
+        they say."""
         lines, began, is_last = _content(timed.times_of(capture)), _content(paths.began), capture == paths.capture
         try:
-            source = opened.keep(open_regular(capture, os.O_RDONLY))
+            source = opened.keep(open_regular(capture, os.O_RDONLY | os.O_NOFOLLOW))
         except OSError:
             return None
         size, end = os.fstat(source).st_size, end_mark(paths) if is_last else None

@@ -70,7 +70,7 @@ def said_at_each_place(folder: pathlib.Path) -> None:
     same(said_again(program_, [Paths(f"{folder}/03")], 100000.0, time.monotonic), [])
     os.rename(paths.capture, f"{folder}/precious")
     os.symlink(f"{folder}/precious", paths.capture)
-    same(said_again(program_, [paths], 100000.0, time.monotonic) != [], True)
+    same(said_again(program_, [paths], 100000.0, time.monotonic), [])
 
 
 def back_and_killed(folder: pathlib.Path) -> None:

@@ -14,7 +14,7 @@ import urllib.request
 from typing import Dict, List, Optional, Tuple
 
 from played import TOP
-from played.hidden import hidden_shots
+from played.hidden import NOTES, QUEUED, hidden_shots
 from played.ports import free_port
 from played.recorder import Live, processes
 from played.stage import bytes_of, check, kill, movetext, same, stop, until, until_line
@@ -24,31 +24,14 @@ from rounds.rounds import boards_of, fetch
 
 PATHS = ["/", "/state.json", "/round.pgn", "/01.pgn", "/02.pgn", "/03.pgn", "/nothing", "/page.js", "/broadcast.pgn", "/01.delay", "/01.began"]
 # Starts the recorder with clocks that are ahead of the computer's by as many seconds as a file says. It publishes quickly, and a
-# run may take as long as another file says. What spectators see of each game, and what waits, is noted in files beside.
+# run may take as long as another file says. What waits is noted.
 AHEAD = """
-import json, os, pathlib, runpy, sys, time
+import pathlib, runpy, sys
 sys.dont_write_bytecode = True
 ahead, longest, sys.argv = pathlib.Path(sys.argv[1]), pathlib.Path(sys.argv[2]), sys.argv[3:]
 sys.path.insert(0, {top!r})
-from live import loop
-from live.broadcast import broadcast, publishing
-from live.game import timed
-loop.Loop.now = staticmethod(lambda: time.monotonic() + float(ahead.read_text()))
-timed.milliseconds = lambda: int((loop.Loop.counting() + float(ahead.read_text())) * 1000)
-def noting(name):
-    real, noted = getattr(broadcast.OneGame, name), {{}}
-    def called(self, *words):
-        real(self, *words)
-        shots = [entry.shot for entry in self.waiting.known]
-        if shots != noted.get(self):
-            noted[self] = shots
-            file = ahead.parent / "queued" / os.path.abspath(self.name).replace("/", "%")
-            new = pathlib.Path(str(file) + ".new")
-            new.write_text(json.dumps([[shot.text.decode(), shot.forfeit, vars(shot.clocks)] for shot in shots]))
-            new.replace(file)
-    setattr(broadcast.OneGame, name, called)
-noting("take")
-noting("tell")
+{notes}
+from live.broadcast import publishing
 publishing.EACH, publishing.PAUSES = 0.1, (0.1, 0.2)
 run = publishing.run
 publishing.run = lambda words, path, _: run(words, path, float(longest.read_text()))
@@ -77,8 +60,8 @@ class Clock:
 
     def __init__(self, folder: pathlib.Path) -> None:
         self._ahead, self._longest, script = folder / "ahead", folder / "longest", folder / "ahead.py"
-        script.write_text(AHEAD.format(top=str(TOP)))
-        (folder / "queued").mkdir(exist_ok=True)
+        script.write_text(AHEAD.format(top=str(TOP), notes=NOTES))
+        (folder / QUEUED).mkdir(exist_ok=True)
         self.start: List[object] = [sys.executable, script, self._ahead, self._longest]
         self.be(0)
         self.may_take(300)
