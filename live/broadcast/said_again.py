@@ -4,10 +4,11 @@ and says it again. What it says of some bytes follows from these bytes alone. So
 from __future__ import annotations
 
 import contextlib
+import itertools
 import os
 import subprocess
 import threading
-from dataclasses import dataclass, field
+from dataclasses import dataclass, replace
 from typing import Callable, Iterator, List, Optional, Sequence, Tuple
 
 from live.broadcast.ages import Came, calls_of, came, over_at, within
@@ -23,11 +24,12 @@ from live.game.forfeiting import forfeit_of
 from live.game.game import end_mark, kept_options, result_of
 from live.game.options import Options
 from live.game.program import CHUNK, Program, ending_of
-from live.game.reading import new_course, wanted
+from live.game.reading import PIECE, new_course, wanted
 from live.game.report import Clock, Move, Recovered, Result, line_of
 from live.game.times import HEADED
 
 PATIENCE = 30.0  # seconds that the program may take
+ROUNDED = 2  # milliseconds by which bytes may have come later than their times say
 MARGIN = 120.0  # seconds: what is older than the delay by so much needs no time of its own
 
 Said = Tuple[float, Shot]  # when, by the loop's clock; and what the game was from then on
@@ -61,7 +63,7 @@ def said_again(program: Program, games: Sequence[Paths], delay: float, now: Call
                 if not found:
                     continue
                 places = [one for one in found if one.at <= since][-1:] + [one for one in found if one.at > since]
-                told = Told(program, options, paths, kept.source, [(one.size, one.at / 1000 + ahead) for one in places])
+                told = Told(program, options, paths, kept.source, [(one.size, (one.at + ROUNDED) / 1000 + ahead) for one in places])
                 said[:0] = told.said(until / 1000 + ahead)
                 until = found[0].at
                 if until <= since:
@@ -122,7 +124,6 @@ class Game:
 
     course: Course
     pgn: bytes = b""
-    result: str = "*"
     forfeit: str = ""
 
     @property
@@ -136,6 +137,11 @@ class Game:
         return self.course.fens
 
     @property
+    def result(self) -> str:
+        """Its result."""
+        return self.course.result
+
+    @property
     def clock(self) -> Optional[Clock]:
         """What the clocks show."""
         return self.course.clock
@@ -146,7 +152,7 @@ class Game:
         return self.course.clock_at
 
 
-@dataclass
+@dataclass(frozen=True)
 class Told:
     """A capture that the program is told up to some places, each with a time."""
 
@@ -155,53 +161,58 @@ class Told:
     paths: Paths
     source: int
     places: List[Tuple[int, float]]
-    _shots: Shots = field(default_factory=Shots)
 
     def said(self, now: float) -> List[Said]:
-        """What the game was, each time from then on, up to now."""
-        first = self._answers([False] * len(self.places))
-        changes = [any(map(_changes_game, _next(first).report)) for _ in self.places]
-        asks = [True, *changes[1:]]
-        answers = self._answers(asks)
-        game, said = Game(new_course(self.options)), []  # type: Game, List[Said]
-        for (_, at), asked in zip(self.places, asks):
-            said += self._stood(game, said, at)
-            for answer in [_next(answers), *([_next(answers)] if asked else [])]:
+        """What the game was, each time from then on, up to now. Its text is asked for where it has changed, by another child."""
+        game, shots, said, changed = Game(new_course(self.options)), Shots(), [], []  # type: Game, Shots, List[Said], List[int]
+        for (size, at), answers in zip(self.places, self._answers([size for size, _ in self.places])):
+            said += _stood(said, at, shots, game)
+            if not changed or any(_changes_game(text) for answer in answers for text in answer.report):
+                game.pgn = b"%d" % len(changed)  # in place of the text
+                changed.append(size)
+            for answer in answers:
                 for line in filter(None, map(line_of, wanted(answer.report, game.course.start) if answer.report else ())):
                     game.course.take(line, at)
-                if answer.game is not None:
-                    game.pgn, game.result = answer.game, result_of(answer.game)
-                    game.forfeit = forfeit_of(self.paths, answer.game) if game.result != "*" else ""  # its bytes are the result's
-            said.append((at, self._shots.take(game, at)))
-        return said + self._stood(game, said, now)
+            said.append((at, shots.take(game, at)))
+        said += _stood(said, now, shots, game)
+        texts = [answers[-1].game or b"" for answers in self._answers(changed, (entry(0, TEXT),))]
+        forfeits = [forfeit_of(self.paths, text) if result_of(text) != "*" else "" for text in texts]  # its bytes are the result's
+        return [(at, replace(shot, text=texts[int(shot.text)], forfeit=forfeits[int(shot.text)])) for at, shot in said]
 
-    def _stood(self, game: Game, said: List[Said], until: float) -> List[Said]:
-        """The clocks may have stopped before this time."""
-        at = said[-1][0] + STANDS if said else until
-        return [(at, self._shots.take(game, at))] if at < until else []
-
-    def _answers(self, asks: Sequence[bool]) -> Iterator[Answer]:
-        """What is answered to each piece, and to the question for the text behind it, where that is asked."""
+    def _answers(self, sizes: Sequence[int], asks: Tuple[bytes, ...] = ()) -> Iterator[List[Answer]]:
+        """What is answered to the bytes up to each of these sizes, and to what is asked there."""
         with Opened() as opened:
-            told, at = opened.keep(os.memfd_create("told")), 0
-            for (size, _), asked in zip(self.places, asks):
-                part = part_of(self.source, at, size)
-                _write(told, entry(0, CAPTURE, len(part), part) + (entry(0, TEXT) if asked else b""))
+            told, at, counts = opened.keep(os.memfd_create("told")), 0, []  # type: int, int, List[int]
+            for size in sizes:
+                before, ends = at, [*range(at + PIECE, size, PIECE), size]
+                for end in ends:
+                    part = part_of(self.source, before, end)
+                    _write(told, entry(0, CAPTURE, len(part), part))
+                    before = end
+                for question in asks:
+                    _write(told, question)
                 at = size
+                counts.append(len(ends) + len(asks))
             os.lseek(told, 0, os.SEEK_SET)
-            yield from _answers(self.program, ("live", *self.options.of_live()), told)
+            answers = _answers(self.program, ("live", *self.options.of_live()), told)
+            for count in counts:
+                found = list(itertools.islice(answers, count))
+                if len(found) < count:
+                    raise OSError("live didn't answer all")
+                yield found
+            for _ in answers:
+                pass  # it ends
+
+
+def _stood(said: List[Said], until: float, shots: Shots, game: Game) -> List[Said]:
+    """The clocks may have stopped before this time."""
+    at = said[-1][0] + STANDS if said else until
+    return [(at, shots.take(game, at))] if at < until else []
 
 
 def _changes_game(text: str) -> bool:
     line = line_of(text)
     return line is not None and isinstance(line.event, (Move, Result, Recovered))
-
-
-def _next(answers: Iterator[Answer]) -> Answer:
-    answer = next(answers, None)
-    if answer is None:
-        raise OSError("live didn't answer all")
-    return answer
 
 
 def _write(number: int, text: bytes) -> None:

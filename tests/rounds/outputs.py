@@ -263,13 +263,13 @@ def added_and_removed(folder: pathlib.Path) -> None:
     round_.until_out("public", 2)  # fifteen minutes after it was played, and not after the output was added
     same(stop_at_once(live), 0)
 
-    live = round_.record(*first, "--output", f"public = 20, {round_.command('public')}")
+    live = round_.record(*first, "--output", f"public = 60, {round_.command('public')}")
     hall.begun(live)
-    until_line(live, "output public is 20 minutes late")
+    until_line(live, "output public is 60 minutes late")
     round_.until_out("public", 0)
-    clock.be(1180)
+    clock.be(2000)
     same(holds_within(lambda: texts_of(bytes_of(round_.text("public"))) != UNPLAYED, 2.0), False)
-    clock.be(1800)
+    clock.be(5000)
     round_.until_out("public", 3)
     same(stop(live), 0)
     round_.end()
