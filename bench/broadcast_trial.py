@@ -40,7 +40,7 @@ from emulated.table import Game, games  # noqa: E402
 from live_boards import free_port  # noqa: E402
 from play_board import EMPTY, INITIAL  # noqa: E402
 from played.boards import Board, Cables  # noqa: E402
-from played.hidden import hidden_shots  # noqa: E402
+from played.hidden import NOTES, QUEUED, hidden_shots  # noqa: E402
 from played.recorder import Live  # noqa: E402
 from played.stage import Stage, bytes_of, ended, until, until_line  # noqa: E402
 from rounds.hall import games_of, plain  # noqa: E402
@@ -52,14 +52,13 @@ AWAY = 120.0  # seconds without a network
 AGAIN = 65.0  # seconds until a command that has failed has surely been tried again
 LIMIT = 1800.0  # seconds that one round may take here
 RESULTS = ("1-0", "0-1", "1/2-1/2")
-# Starts the archive's command with a clock that is ahead of the computer's by as many seconds as a file says.
-AHEAD = """
-import pathlib, runpy, sys, time
+# Starts the archive's command with clocks that are ahead of the computer's by as many seconds as a file says.
+AHEAD = f"""
+import pathlib, runpy, sys
 sys.dont_write_bytecode = True
 ahead, sys.argv = pathlib.Path(sys.argv[1]), sys.argv[2:]
 sys.path.insert(0, str(pathlib.Path(sys.argv[0]).parent))
-from live import loop
-loop.Loop.now = staticmethod(lambda: time.monotonic() + float(ahead.read_text()))
+{NOTES}
 runpy.run_path(sys.argv[0], run_name="__main__")
 """
 # The script of BROADCAST for a web server on this computer.
@@ -74,6 +73,7 @@ class Clock:
 
     def __init__(self, folder: pathlib.Path) -> None:
         self._file, self._ahead = folder / "ahead", 0.0
+        (folder / QUEUED).mkdir()
         script = folder / "ahead.py"
         script.write_text(AHEAD)
         self.start: List[object] = [sys.executable, script, self._file]
@@ -325,12 +325,12 @@ class Trial:
             self._until_kept(number, board)
 
     def _until_kept(self, number: int, board: int) -> None:
-        """What is hidden of the board is kept: the clock may go on."""
+        """The board's plies wait for their time: the clock may go on."""
         game = self.played[number, board]
-        name = self.cup / f"round{number}" / f"{board:02}.delayed"
+        name = self.cup / f"round{number}" / f"{board:02}"
 
         def kept() -> bool:
-            shots = hidden_shots(name, name.parent)
+            shots = hidden_shots(name)
             return bool(shots) and (len(shots[-1].moves), shots[-1].result) == (len(game.made), game.result)
 
         until(kept, f"{len(game.made)} plies and {game.result} of board {number}.{board} in {name}", 0.01)

@@ -81,8 +81,8 @@ class Trial:
                 self._plies[number] += 1
 
     def _spoil(self) -> None:
-        """The list of what is hidden is lost, or older, that of the round or of the other output."""
-        for name in ("01.delayed", f"output-{OUTPUT}/01.delayed"):
+        """The times of a game, or when its calls began, are lost or older."""
+        for name in ("01.times", "01.began"):
             path, chance = self._hall.games / name, self._random.random()
             if not path.parent.exists():
                 continue  # it was killed before that

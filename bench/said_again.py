@@ -1,19 +1,21 @@
 #!/usr/bin/env python3
-"""said_again.py [MIB [PLACES]]: how long it takes after a restart until the program has said again what a game was at so many places of
-its capture. The capture is samples/long-game.dgt with so many dumps in it that it has MIB MiB; 4 and 3,000 without them."""
+"""said_again.py [MIB [PLACES]]: how long it takes after a restart until the program has said again what a game was, whose bytes came at so
+many times within the delay. The capture is samples/long-game.dgt with so many dumps in it that it has MIB MiB; 4 and 3,000 without
+them."""
 
 import pathlib
 import sys
 import tempfile
 import time
-import zlib
 from typing import List
 
 TOP = pathlib.Path(__file__).resolve().parents[1]
 sys.dont_write_bytecode = True
 sys.path[:0] = [str(TOP / "tests"), str(TOP)]
-from live.broadcast.history import Front  # noqa: E402
 from live.broadcast.said_again import said_again  # noqa: E402
+from live.game import timed, times  # noqa: E402
+from live.game.began import Began, began_line, this_start  # noqa: E402
+from live.game.files import Paths  # noqa: E402
 from live.game.program import Program  # noqa: E402
 from played.stage import program  # noqa: E402
 
@@ -46,13 +48,16 @@ def main(words: List[str]) -> int:
     capture = grown((TOP / "samples" / "long-game.dgt").read_bytes(), size)
     ends = [len(capture) * (place + 1) // places for place in range(places)]
     with tempfile.TemporaryDirectory() as folder:
-        pathlib.Path(folder, "01.dgt").write_bytes(capture)
-        fronts = [Front("01", end, zlib.crc32(memoryview(capture)[:end])) for end in ends]
+        paths = Paths(f"{folder}/01")
+        heading = times.heading(0, capture[: times.HEADED])
+        heard = [(number, times.HEARD, end - before) for number, (before, end) in enumerate(zip([0, *ends], ends), 1)]
+        pathlib.Path(paths.capture).write_bytes(capture)
+        pathlib.Path(timed.times_of(paths.capture)).write_bytes(heading + times.lines([(0, times.BEGIN, 0), *heard]))
+        pathlib.Path(paths.began).write_bytes(began_line((0, len(heading)), Began(timed.milliseconds() - places - 1, this_start())))
         began = time.monotonic()
-        said = said_again(Program(program()), folder, fronts)
+        said = said_again(Program(program()), [paths], 900.0, time.monotonic)
         seconds = time.monotonic() - began
-    plies = len(said[fronts[-1]].moves)
-    print(f"{len(capture) / (1 << 20):.2f} MiB, {len(said)} places, {plies} plies at the last one: {seconds:.2f} s")
+    print(f"{len(capture) / (1 << 20):.2f} MiB, {len(said)} places, {len(said[-1][1].moves)} plies at the last one: {seconds:.2f} s")
     return 0
 
 

@@ -7,18 +7,16 @@ from __future__ import annotations
 
 import contextlib
 import os
-from typing import Callable, Dict, Iterable, List, Optional, Protocol, Set, Tuple
+from typing import Callable, Dict, Iterable, List, Optional, Protocol, Sequence, Set, Tuple
 
 from live.beside import Worker
-from live.broadcast.fronts import Fronts
 from live.broadcast.games import Game, Shots, written_name
 from live.broadcast.going_out import GoingOut
-from live.broadcast.history import Front, Shot
-from live.broadcast.late import Late
 from live.broadcast.publishing import Publisher
-from live.broadcast.said_again import said_again
+from live.broadcast.said_again import Said, games_before, said_again
 from live.broadcast.steady import Steady
 from live.broadcast.view import Player, SpectatorBoard
+from live.broadcast.waiting import Waiting
 from live.game.files import AnyPath, Paths, folder_of, sync_folder
 from live.game.forfeits import told_to_readers
 from live.game.program import Program
@@ -61,30 +59,49 @@ class Others(Protocol):
 
 
 class OneGame:
-    """A game as it goes out."""
+    """A game as it goes out. If it goes out late, the program must first say again what was said of it; until then nothing is shown."""
 
-    def __init__(self, name: str, late: Late, steady: Steady) -> None:
-        self.name, self.late, self.steady = name, late, steady
-        self._shots = Shots(Fronts() if late.history.delay else None)
+    def __init__(self, name: str, out: GoingOut) -> None:
+        self.name, self.waiting, self.steady = name, Waiting(out.delay), Steady(out.hold)
+        self.is_told = True  # whether what was said of it before is known
+        self._shots = Shots()
         self.board: Optional[SpectatorBoard] = None  # as it is shown
         self._text: Tuple[object, bytes] = ((), b"")  # what the published text was made of, and that text
         self._shown: Tuple[object, ...] = ()  # what the shown board was made of
-        self._shot = late.shot
+        self._shot = self.waiting.shot
+
+    def tell(self, said: Iterable[Said], now: float) -> None:
+        """This was said of it, each at its time."""
+        for came, shot in said:
+            self._releases(came)
+            self.waiting.take(came, self.steady.take(came, shot))
+        self._releases(now)
+        self.is_told = True
+
+    def _releases(self, now: float) -> None:
+        """A last ply has stood long enough before this time."""
+        at = self.steady.due
+        if at is not None and at < now and self.steady.last:
+            self.steady.release()
+            self.waiting.take(at, self.steady.take(at, self.steady.last))
 
     def take(self, game: Game, clock: Callable[[], float]) -> None:
         """Looks at the game as it is now, if that is known."""
         board = game.board
         is_known = not (board.is_new or board.trouble)
         shot = self._shots.take(board, clock()) if is_known else self.steady.last  # what waits goes out all the same
-        now = clock()  # not earlier than what the capture has
+        now = clock()
         if shot:
-            self.late.take(now, self.steady.take(now, shot))
-        else:
-            self.late.look(now)
+            self.waiting.take(now, self.steady.take(now, shot))
+        self.look(now)
+
+    def look(self, now: float) -> None:
+        """Moves on to this time."""
+        self.waiting.look(now)
 
     def show(self, game: Game) -> bool:
         """Shows what is due. Returns whether that has changed."""
-        shot = self.late.shot
+        shot = self.waiting.shot
         names = {side: written_name(game, side) for side in SIDES}
         tags = {**game.tags, **names}
         shown_of = (id(shot), game.number, tuple(tags.items()))
@@ -96,7 +113,7 @@ class OneGame:
             self._text = of, published(shot.text, tags, told_to_readers(shot.forfeit))
         white, black = (Player.of_tags(tags, side, names[side]) for side in SIDES)
         before = self.board
-        shown = SpectatorBoard(game.number, white, black, shot, self._text[1], self.late.history.delay)
+        shown = SpectatorBoard(game.number, white, black, shot, self._text[1], self.waiting.delay)
         if shown != before:
             self.board = shown
         return shown != before
@@ -135,7 +152,7 @@ class Broadcast:
         self._file: Optional[Published] = None
         self._publisher: Optional[Publisher] = None
         self._beside: Optional[Worker] = None
-        self._of = {number: one for number, one in self._of.items() if not one.late.to_say}
+        self._of = {number: one for number, one in self._of.items() if one.is_told}
         self._make_folder()
         if self._place:
             self._file = Published(guard, self._place, self.text, self._hears.say)
@@ -201,12 +218,9 @@ class Broadcast:
 
     def _look(self, changed: Optional[Set[int]] = None) -> None:
         """Looks at all games, or at those that have `changed` and at new ones, and shows what is due."""
-        now = self._loop.now()
         games = {game.number: game for game in self._games()}
-        before, self._of = self._of, {number: self._one(game, now) for number, game in games.items()}
-        for number in set(before) - set(games):
-            before[number].late.close()
-        if any(one.late.to_say for one in self._of.values()):
+        before, self._of = self._of, {number: self._one(game) for number, game in games.items()}
+        if not self.is_told:
             self._changed = None  # then all are looked at
             return
         self._changed = set()
@@ -228,48 +242,49 @@ class Broadcast:
                 self._file.changed()
         self._wait()
 
-    def _one(self, game: Game, now: float) -> OneGame:
+    def _one(self, game: Game) -> OneGame:
         """The game as it goes out; from its beginning if its name has changed."""
         one = self._of.get(game.number)
-        paths = self._paths(game)
-        if one is None or one.name != paths.name:
-            if one:
-                one.late.close()
-            one = OneGame(paths.name, Late(paths, self._out.delay, now, self._sync), Steady(self._out.hold))
-            if one.late.to_say:
-                self._say_again(game.number, one, folder_of(game.board.paths.capture))
+        name = self._paths(game).name
+        if one is None or one.name != name:
+            one = OneGame(name, self._out)
+            last = game.board.paths
+            games = [Paths(f"{folder_of(last.capture)}/{each}") for each in games_before(os.path.basename(name), os.path.basename(last.name))]
+            one.is_told = not self._out.delay or not any(os.path.lexists(paths.capture) for paths in games)
+            if not one.is_told:
+                self._say_again(game.number, one, games)
         return one
 
-    def _say_again(self, number: int, one: OneGame, folder: str, tries: int = TRIES) -> None:
-        """Has the program say again what was hidden and shown of a game. Nothing goes out before. If it fails again and again, all is
-        hidden anew."""
-        fronts = one.late.to_say
+    def _say_again(self, number: int, one: OneGame, games: Sequence[Paths], tries: int = TRIES) -> None:
+        """Has the program say again what was said of a game, and of those before in its series. Nothing goes out before. If it fails
+        again and again, all is hidden anew."""
 
-        def asks() -> Tuple[Dict[Front, Shot], str]:
+        def asks() -> Tuple[List[Said], str]:
             try:
-                return said_again(self._program, folder, fronts), ""
+                return said_again(self._program, games, self._out.delay, self._loop.now), ""
             except Refused:
-                return {}, ""  # the reason is reported when the game is opened
+                return [], ""  # the reason is reported when the game is opened
             except Exception as error:
-                return {}, traced(error)
+                return [], traced(error)
 
-        def answered(answer: Tuple[Dict[Front, Shot], str]) -> None:
+        def answered(answer: Tuple[List[Said], str]) -> None:
             said, trouble = answer
             if self._of.get(number) is not one:
                 return
             if trouble and tries > 1:
-                self._guard.after(AGAIN, lambda: self._say_again(number, one, folder, tries - 1))
+                self._guard.after(AGAIN, lambda: self._say_again(number, one, games, tries - 1))
                 return
             if trouble:
                 self._hears.trouble(trouble)
-            one.late.said(self._loop.now(), said)
+            one.tell(said, self._loop.now())
             self._look()
 
         self._worker().do(asks, answered)
 
-    def _sync(self, job: Callable[[], None]) -> None:
-        """Does beside the loop what waits for the disk."""
-        self._worker().do(job, lambda _: None)
+    @property
+    def is_told(self) -> bool:
+        """Whether what was said of the games before is known."""
+        return all(one.is_told for one in self._of.values())
 
     def _worker(self) -> Worker:
         if self._beside is None:
@@ -281,7 +296,7 @@ class Broadcast:
         """Sets a timer for the next thing that is due."""
         if not self._out.delay and not self._out.hold:
             return
-        times = [at for one in self._of.values() for at in (one.late.history.next_at, one.steady.due) if at is not None]
+        times = [at for one in self._of.values() for at in (one.waiting.next_at, one.steady.due) if at is not None]
         if self._due:
             self._due.cancel()
             self._due = None
@@ -294,10 +309,10 @@ class Broadcast:
 
     @property
     def hidden_for(self) -> Optional[float]:
-        """For how many seconds something of the games is still hidden; None if nothing is."""
+        """For how many seconds something of the games is still hidden, as far as is known; None if nothing is."""
         if not self._out.delay:
             return None
-        times = [one.late.ends_at for one in self._of.values()]
+        times = [one.waiting.ends_at for one in self._of.values() if one.is_told]
         last = max((at for at in times if at is not None), default=None)
         return None if last is None else max(0.0, last - self._loop.now())
 
@@ -305,8 +320,7 @@ class Broadcast:
     def is_out(self) -> bool:
         """Whether all that is shown is written and carried away."""
         is_written = self._file is None or not self.boards or self._file.is_written
-        is_written = is_written and not any(one.late.to_say for one in self._of.values())
-        return is_written and (self._publisher is None or self._publisher.is_idle)
+        return is_written and self.is_told and (self._publisher is None or self._publisher.is_idle)
 
     # How it is carried away.
 
@@ -371,6 +385,4 @@ class Broadcast:
         """Lets nothing further go out. Returns what was wrong at the end."""
         self._closed = True
         self._guard.end()
-        for one in self._of.values():
-            one.late.close()
         return [f"{self._place} isn't published: {self.alarm}"] if self.alarm else []

@@ -3,12 +3,11 @@
 from __future__ import annotations
 
 from dataclasses import dataclass
-from typing import Optional, Protocol, Sequence, Tuple
+from typing import List, Optional, Protocol, Sequence, Tuple
 
 from live.board.board import Board
-from live.broadcast.fronts import Fronts
-from live.broadcast.history import Shot
 from live.broadcast.running import STANDING, Clocks, Running
+from live.broadcast.shot import Shot
 from live.game.course import clocks_of
 from live.game.report import Clock, Move
 from live.game.tags import Tags
@@ -45,6 +44,38 @@ def written_name(game: Named, side: str) -> str:
     return game.tags.get(side) or game.player_name(f"--{side.lower()}")
 
 
+class Played(Protocol):
+    """What is read of a game at one moment: its list of plies, that of its positions, its text, and its clocks."""
+
+    @property
+    def plies(self) -> List[Move]:
+        """Its moves."""
+
+    @property
+    def fens(self) -> List[str]:
+        """Its positions, of the start and after each ply."""
+
+    @property
+    def pgn(self) -> bytes:
+        """Its text."""
+
+    @property
+    def result(self) -> str:
+        """Its result."""
+
+    @property
+    def forfeit(self) -> str:
+        """How it was forfeited, if it was."""
+
+    @property
+    def clock(self) -> Optional[Clock]:
+        """What the clocks show, if known."""
+
+    @property
+    def clock_at(self) -> float:
+        """When that came."""
+
+
 @dataclass(frozen=True)
 class Seen:
     """Shows whether a game has changed since it was last seen: its lists only grow at their ends, or are replaced."""
@@ -56,23 +87,22 @@ class Seen:
     forfeit: str
 
     @staticmethod
-    def of(board: Board) -> "Seen":
+    def of(board: Played) -> "Seen":
         plies, fens = board.plies, board.fens
         last = (plies[-1] if plies else None, fens[-1] if fens else "")
         return Seen((id(plies), id(fens)), (len(plies), len(fens)), last, board.pgn, board.forfeit)
 
 
 class Shots:
-    """Takes snapshots of one game. With `fronts` each one has what the capture had then."""
+    """Takes snapshots of one game."""
 
-    def __init__(self, fronts: Optional[Fronts] = None) -> None:
-        self._fronts = fronts
+    def __init__(self) -> None:
         self._seen: Optional[Seen] = None
         self._shot = Shot()
         self._running = Running()
         self._clocks = STANDING
 
-    def take(self, board: Board, now: float) -> Shot:
+    def take(self, board: Played, now: float) -> Shot:
         """The game as it is now. Returns the same shot as before if nothing is new."""
         seen = Seen.of(board)
         clocks = self._running.look(now, board.clock, board.clock_at, self._shot.result == "*")
@@ -81,8 +111,7 @@ class Shots:
             plies = board.plies[: max(0, len(board.fens) - 1)]
             moves = tuple(Ply(ply.san, ply.clock) for ply in plies)
             shown = clocks_shown(None, plies) if clocks is STANDING else clocks
-            front = self._fronts.now(board.paths) if self._fronts else None
-            self._shot = Shot(board.result, moves, tuple(board.fens), board.pgn, shown, board.forfeit, front, board.clock_at)
+            self._shot = Shot(board.result, moves, tuple(board.fens), board.pgn, shown, board.forfeit)
         return self._shot
 
 

@@ -3,6 +3,7 @@ game of the round or series for which it was given."""
 
 from __future__ import annotations
 
+import json
 import math
 import os
 from dataclasses import dataclass
@@ -100,35 +101,42 @@ def _given_last(paths: Paths) -> float:
 
 
 def keep_delay(paths: Paths, seconds: float, games: Sequence[Paths]) -> None:
-    """Keeps it. What is hidden of these games is forgotten before the delay that hides it. Refused if a file can't be written."""
+    """Keeps it, with each of these games too: so no one file that is lost shows them all at once. With 0 it goes from the games first.
+    Refused if a file can't be written."""
+    own = dict.fromkeys([*(game.delay for game in games), paths.delay])
     try:
-        if seconds:
-            hundredths = math.ceil(round(seconds / MINUTE * 100, 6))  # of a minute: never less than was given
-            put_in_place(paths.delay, b"%.6g\n" % (hundredths / 100))
+        if not seconds:
+            for path in (*(game.delayed for game in games), *own):
+                remove(path)
             return
-        for path in (*(game.delayed for game in games), paths.delay):
-            remove(path)
+        hundredths = math.ceil(round(seconds / MINUTE * 100, 6))  # of a minute: never less than was given
+        text = b"%.6g\n" % (hundredths / 100)
+        for path in own:
+            if os.path.islink(path) or existing(path) != text:
+                put_in_place(path, text)
     except OSError as error:
         raise Refused(FAILED, not_written(paths.delay, error)) from None
 
 
 def delay_of(paths: Paths, given: Optional[float], games: Sequence[Paths]) -> float:
-    """The delay of these games from now on: the given one, which is kept, or else the kept one. If that is lost, it is the one with
-    which they were hidden."""
+    """The delay of these games from now on: the given one, which is kept, or else the kept one. If that is lost, it is the longest
+    that was kept with a game."""
     if given is not None:
         keep_delay(paths, given, games)
         return given
-    return kept_delay(paths) if has_delay(paths) else max(map(_delay_in_list, games), default=0.0)
+    if has_delay(paths):
+        return kept_delay(paths)
+    return max((max(_given_last(game), _earlier(game)) for game in games), default=0.0)
 
 
-def _delay_in_list(game: Paths) -> float:
-    """The delay in NAME.delayed; 0 if there is none."""
-    from live.broadcast import kept  # only games that are hidden need it
-
+def _earlier(game: Paths) -> float:
+    """The delay with which an earlier version hid a game, by the first line of its NAME.delayed; 0 if it didn't."""
     try:
-        content = existing(game.delayed)
+        delay = float(json.loads(existing(game.delayed).partition(b"\n")[0])["delay"])
     except OSError as error:
         if error.errno in NO_SUCH_FILE:
             return 0.0
         raise Refused(FAILED, f"{game.delayed} can't be read ({text_of(error)}): give --delay, or remove it") from None
-    return kept.delay_in(content) if content else 0.0
+    except (ValueError, TypeError, KeyError):
+        return 0.0
+    return delay if 0.0 < delay < math.inf else 0.0

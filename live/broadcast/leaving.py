@@ -13,7 +13,7 @@ from live.lock import locked
 from live.loop import Loop
 from live.refused import REFUSED, Refused
 
-LOOK = 0.5  # seconds
+LOOK, SOON = 0.5, 0.05  # seconds
 
 
 def clock_in(seconds: float) -> str:
@@ -40,12 +40,22 @@ class Leaving:
 
     def __init__(self, loop: Loop, broadcast: Broadcast, says: Callable[[str], None]) -> None:
         self._loop, self._broadcast, self._says = loop, broadcast, says
-        self._waits = self._was_asked = False
+        self._waits = self._was_asked = self._is_over = False
         self.ends = False  # wait only for the command's last run
 
     def over(self) -> None:
         """The recording has ended by itself."""
+        self._is_over = True
+        self._over()
+
+    def _over(self) -> None:
+        """What to do, once it is known what spectators haven't seen."""
         left = self._left()
+        if not self._is_over:
+            return  # it goes on meanwhile
+        if not self._broadcast.is_told:
+            self._loop.after(SOON, self._over)
+            return
         if left is None and not self._waits:
             self._finish()
         elif left is not None and not self.ends:
@@ -68,7 +78,7 @@ class Leaving:
 
     def goes_on(self) -> None:
         """The game is recorded again."""
-        self._waits = self._was_asked = False
+        self._waits = self._was_asked = self._is_over = False
 
     def _left(self) -> Optional[float]:
         """The number of seconds for which something of the game is still hidden."""

@@ -142,7 +142,7 @@ def left_in(folder: pathlib.Path) -> List[str]:
 
 
 def _own(place: pathlib.Path) -> List[pathlib.Path]:
-    """The files of an output in its folder: what it has hidden, then its text."""
+    """The files of an output in its folder: what an earlier version had hidden, then its text."""
     return [path for name in (HIDDEN, new_of(HIDDEN), TEXT, new_of(TEXT)) for path in sorted(place.glob(name))]
 
 
@@ -164,8 +164,7 @@ def refuse_links(folder: pathlib.Path, outputs: Sequence[Output]) -> None:
 
 
 def removed(folder: pathlib.Path, output: Output) -> str:
-    """Removes what belongs to an output from the round's folder, and nothing else: what it has hidden, then its text. Returns a
-    message; empty if there was nothing."""
+    """Removes what belongs to an output from the round's folder, and nothing else. Returns a message; empty if there was nothing."""
     place = folder / output.folder
     if not place.is_dir() or place.is_symlink():
         return ""

@@ -19,7 +19,7 @@ from live.loop import Loop
 def broadcast_of(
     loop: Loop, program: Program, out: GoingOut, folder: pathlib.Path, games: Callable[[], Iterable[Game]], hears: HearsBroadcast
 ) -> Broadcast:
-    """An output whose text, and what is hidden of each game, is in this folder."""
+    """An output whose text is in this folder."""
     return Broadcast(loop, program, out, folder / TEXT, games, lambda game: Paths(f"{folder}/{game.name}"), hears)
 
 

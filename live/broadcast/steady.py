@@ -6,7 +6,7 @@ from __future__ import annotations
 import dataclasses
 from typing import Optional, Tuple
 
-from live.broadcast.history import Shot, unplayed
+from live.broadcast.shot import Shot, unplayed
 
 
 def plies_of(shot: Shot) -> Tuple[str, ...]:

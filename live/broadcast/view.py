@@ -5,8 +5,8 @@ from __future__ import annotations
 from dataclasses import dataclass
 from typing import Dict, Iterable, Optional, Tuple
 
-from live.broadcast.history import Shot
 from live.broadcast.matches import Paired, matches_of
+from live.broadcast.shot import Shot
 from live.game.forfeits import score_of
 from live.game.tags import Tags
 from live.web.view import json_text, pgn_path, same_front, sheet_of

@@ -9,8 +9,8 @@ from typing import Sequence, Tuple
 from live.board.single import QUITS, Single
 from live.broadcast.broadcast import Broadcast
 from live.broadcast.going_out import HOLD, GoingOut, delay_of, keep_delay, minutes
-from live.broadcast.late import is_unseen
 from live.broadcast.leaving import Leaving, clock_in, hold
+from live.broadcast.unseen import is_unseen
 from live.doors.calls import Call
 from live.game.file_names import has_delay
 from live.game.files import Paths

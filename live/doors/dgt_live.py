@@ -126,7 +126,7 @@ def publish_anew(paths: Paths, given: Options = Options()) -> List[str]:
     if not (given.tags or os.path.lexists(paths.broadcast)):
         return []
     if has_delay(paths) or os.path.lexists(paths.delayed):
-        from live.broadcast.late import is_hidden
+        from live.broadcast.unseen import is_hidden
 
         if is_hidden(paths):
             return [f"{paths.broadcast} gets its tags as the rest of it is shown"]

@@ -57,8 +57,13 @@ class Paths:
         return self._with("look")
 
     @functools.cached_property
+    def began(self) -> str:
+        """When each call of its times began."""
+        return self._with("began")
+
+    @functools.cached_property
     def delayed(self) -> str:
-        """What spectators haven't seen yet."""
+        """What an earlier version hid from spectators."""
         return self._with("delayed")
 
     @functools.cached_property

@@ -22,6 +22,7 @@ README = "README.txt"
 # other file speaks of bytes that it lacks.
 FILES = (
     ("times", "when these bytes came, and what else happened at the board"),
+    ("began", "when each call in the times began, by the computer's own clock"),
     ("pgn", "the game, as it was recorded"),
     ("options", "the options, with the players' names, and the day on which the game began"),
     ("log", "what was printed of the game, with date and time of day"),

@@ -15,6 +15,7 @@ import time
 from typing import Callable, List, Optional, Protocol, Tuple
 
 from live.game import times
+from live.game.began import Began, began_line, keep_began, this_start
 from live.game.files import LARGEST, Capture, Paths, existing, open_regular, part_of, put_in_place, sync_folder, text_of
 from live.loop import Away, Callback, Loop
 
@@ -264,11 +265,12 @@ class Times:
         if self._is_lost:
             self._begin_again()
         events = self._events[:]
-        content = times.lines(events, self._began or 0)
-        if not self._size:
-            content = times.heading(self.generation, self._capture.bytes(0, min(times.HEADED, self._capture.size))) + content
+        first = b"" if self._size else self._capture.bytes(0, min(times.HEADED, self._capture.size))
+        heading = b"" if self._size else times.heading(self.generation, first)
+        content = heading + times.lines(events, self._began or 0)
         if self._size + len(content) > LARGEST:
             raise OSError(errno.EFBIG, "it has 64 MiB")
+        self._keep_begins(events, self._size + len(heading))
         if os.write(number, content) < len(content):
             raise OSError(errno.ENOSPC, os.strerror(errno.ENOSPC))
         self._size += len(content)
@@ -281,6 +283,16 @@ class Times:
         if self._is_lost:
             self._told.append(f"{self._path} is written again")
         self._trouble, self._is_lost = "", False
+
+    def _keep_begins(self, events: List[times.Happened], size: int) -> None:
+        """Keeps when calls begin, before the lines that say that they do: those come at the end of a file of this size."""
+        lines = b""
+        for number, (at, what, _) in enumerate(events):
+            if what == times.BEGIN:
+                begin = (self.generation, size + len(times.lines(events[:number], self._began or 0)))
+                lines += began_line(begin, Began(at, this_start()))
+        if lines:
+            keep_began(self._paths.began, lines)
 
     def _open(self) -> int:
         """Opens the file for what was found: what is torn goes, and what isn't of this capture is kept beside."""

@@ -7,7 +7,7 @@ from __future__ import annotations
 
 import re
 from dataclasses import dataclass
-from typing import Iterator, Optional, Sequence, Tuple, Union
+from typing import Iterator, List, Optional, Sequence, Tuple, Union
 
 VERSION = 1
 HEADED = 4096  # bytes of a capture that a new heading has the digest of, at most
@@ -90,6 +90,32 @@ class Newer:
     """A file of another version of the format."""
 
     version: int
+
+
+@dataclass(frozen=True)
+class Call:
+    """A call: where its `begin` stands in the file; how many bytes the capture had then; and what happened next."""
+
+    offset: int
+    size: int
+    events: List[Happened]
+
+    @property
+    def lasted(self) -> int:
+        """The time of its last event."""
+        return max((at for at, _, _ in self.events), default=0)
+
+
+def calls(content: Content, found: Kept) -> List[Call]:
+    """The calls of a file, in their order."""
+    made: List[Call] = []
+    for line in EVENT.finditer(content, found.begins, found.ends):
+        at, counted, count, alone = line.groups()
+        if counted == BEGIN.encode():
+            made.append(Call(line.start(), int(count), []))
+        elif made:
+            made[-1].events.append((int(at), (counted or alone).decode(), int(count) if counted else None))
+    return made
 
 
 def kept(content: Content) -> Union[Kept, Newer, None]:

@@ -8,20 +8,23 @@ import sys
 import tempfile
 import threading
 import time
-import zlib
-from dataclasses import replace
-from typing import Callable, List, Optional, Sequence, Tuple
+from typing import Callable, Dict, List, Optional, Tuple
 
-from live.broadcast import kept
-from live.broadcast.fronts import Fronts
+from live.broadcast.ages import Came, calls_of, came, over_at, within
+from live.broadcast.broadcast import OneGame
 from live.broadcast.going_out import GoingOut, delay_of, read_command, read_delay
-from live.broadcast.history import ALWAYS, Front, History, Shot, due
-from live.broadcast.late import Late
 from live.broadcast.publishing import Plan, last_line, run
 from live.broadcast.running import Clocks, Running, seconds_of, side_between
+from live.broadcast.said_again import Kept, games_before
+from live.broadcast.shot import Shot
+from live.broadcast.unseen import is_hidden, is_unseen
 from live.broadcast.view import Player, SpectatorBoard
-from live.game.files import Paths
+from live.broadcast.waiting import ALWAYS, Entry, Waiting
+from live.game import times
+from live.game.began import Began, Begin, began_line, keep_began, read_began, this_start
+from live.game.files import Capture, Opened, Paths
 from live.game.report import Clock
+from live.game.timed import Times, milliseconds
 from live.refused import Refused
 from live.web.view import Ply
 
@@ -29,43 +32,42 @@ from decided.table import refused, same
 
 TOP = pathlib.Path(__file__).resolve().parents[2]
 START, AFTER_E4, AFTER_E5 = "start", "after e4", "after e5"
-FRONTS = [Front("01", size, size % 7) for size in (67, 100, 110, 177)]
-QUIET = Shot(positions=(START,), text=b"[White]\n\n*\n\n", front=FRONTS[0])
-E4 = Shot("*", (Ply("e4", "1:29:55"),), (START, AFTER_E4), b"[White]\n\n1. e4 *\n\n", Clocks("1:29:55", "1:30:00", "b", 100.0), "", FRONTS[1], 100.0)
-E5 = Shot("*", (Ply("e4", "1:29:55"), Ply("e5")), (START, AFTER_E4, AFTER_E5), b"[White]\n\n1. e4 e5 *\n\n", front=FRONTS[2])
-WON = Shot("1-0", E5.moves, E5.positions, b"[White]\n\n1. e4 e5 1-0\n\n", front=FRONTS[3])
-SAID = {shot.front: replace(shot, clocks=replace(shot.clocks, runs="", at=0.0), front=None) for shot in (QUIET, E4, E5, WON) if shot.front}
+QUIET = Shot(positions=(START,), text=b"[White]\n\n*\n\n")
+E4 = Shot("*", (Ply("e4", "1:29:55"),), (START, AFTER_E4), b"[White]\n\n1. e4 *\n\n", Clocks("1:29:55", "1:30:00", "b", 100.0))
+E5 = Shot("*", (Ply("e4", "1:29:55"), Ply("e5")), (START, AFTER_E4, AFTER_E5), b"[White]\n\n1. e4 e5 *\n\n")
+WON = Shot("1-0", E5.moves, E5.positions, b"[White]\n\n1. e4 e5 1-0\n\n")
 
 
 def shown_when() -> None:
-    """Entries that came at these times; at a time, with a delay and so many shown before: how many are shown."""
-    cases: List[Tuple[List[float], float, float, int, int]] = [
-        ([], 1000.0, 900.0, 0, 0),
-        ([100.0], 999.9, 900.0, 0, 0),
-        ([100.0], 1000.0, 900.0, 0, 1),
-        ([100.0, 200.0, 300.0], 1099.0, 900.0, 0, 1),
-        ([100.0, 200.0, 300.0], 1100.0, 900.0, 0, 2),
-        ([100.0, 200.0, 300.0], 9999.0, 900.0, 0, 3),
-        ([ALWAYS, 200.0], 0.0, 900.0, 0, 1),
-        ([100.0, 200.0], 150.0, 0.0, 0, 1),
-        ([100.0, 200.0], 200.0, 0.0, 0, 2),
-        ([100.0, 200.0, 300.0], 400.0, 900.0, 2, 2),  # what was shown stays, with a longer delay too
-        ([100.0, 200.0], 400.0, 900.0, 7, 2),
-        ([500.0, 200.0], 1101.0, 900.0, 0, 0),  # none before one that came before it
+    """Entries that came at these times; at a time, with a delay: how many were shown."""
+    cases: List[Tuple[List[float], float, float, int]] = [
+        ([], 1000.0, 900.0, 0),
+        ([100.0], 999.9, 900.0, 0),
+        ([100.0], 1000.0, 900.0, 1),
+        ([100.0, 200.0, 300.0], 1099.0, 900.0, 1),
+        ([100.0, 200.0, 300.0], 1100.0, 900.0, 2),
+        ([100.0, 200.0, 300.0], 9999.0, 900.0, 3),
+        ([ALWAYS, 200.0], 0.0, 900.0, 1),
+        ([100.0, 200.0], 150.0, 0.0, 1),
+        ([100.0, 200.0], 200.0, 0.0, 2),
+        ([500.0, 200.0], 1101.0, 900.0, 0),  # none before one that came before it
     ]
-    for came, now, delay, before, expected in cases:
-        same(f"{came} at {now}, {delay} late, {before} before", due(came, now, delay, before), expected)
+    for times_, now, delay, expected in cases:
+        waiting = Waiting(delay, [Entry(at, E4) for at in times_])
+        is_news = waiting.look(now)
+        same(f"{times_} at {now}, {delay} late", (len(times_) - len(waiting.entries), is_news), (expected, expected > 0))
+        same("and none of them goes back", (waiting.look(now - 60.0), len(times_) - len(waiting.entries)), (False, expected))
 
 
 def game_goes_by() -> None:
     """A game with a delay of 15 minutes: what is taken when, what is shown then, and when the next one is."""
-    history = History(900.0)
+    waiting = Waiting(900.0)
     seen: List[Tuple[float, bytes, str, Optional[float]]] = []
     for now, shot in [(0.0, QUIET), (60.0, E4), (100.0, E5), (959.9, None), (960.0, None), (1000.0, WON), (1899.0, None), (1900.0, None)]:
         if shot:
-            history.take(now, shot)
-        history.look(now)
-        seen.append((now, history.shot.text.split(b"\n")[2], history.shot.result, history.next_at))
+            waiting.take(now, shot)
+        waiting.look(now)
+        seen.append((now, waiting.shot.text.split(b"\n")[2], waiting.shot.result, waiting.next_at))
     same("what is shown", seen, [
         (0.0, b"*", "*", None),
         (60.0, b"*", "*", 960.0),
@@ -76,140 +78,204 @@ def game_goes_by() -> None:
         (1899.0, b"1. e4 e5 *", "*", 1900.0),
         (1900.0, b"1. e4 e5 1-0", "1-0", None),
     ])  # fmt: skip
-    same("nothing is hidden at the end", (history.is_hidden, history.ends_at, len(history.entries)), (False, None, 1))
-    history = History(900.0)
-    history.take(0.0, E4)
-    history.look(0.0)
-    same("a game that is seen first with moves is shown without them", (history.shot, history.ends_at), (QUIET, 900.0))
-    history.take(0.0, E4)
-    same("the same shot is no news", len(history.entries), 2)
-    history = History(900.0)
-    history.take(0.0, Shot("0-1", E5.moves, E5.positions, b'[White]\n[Result "0-1"]\n[FEN "x"]\n\n1. e4 e5 0-1\n\n'))
-    history.look(899.9)
+    same("nothing is hidden at the end", (waiting.ends_at, len(waiting.known)), (None, 1))
+    waiting = Waiting(900.0)
+    waiting.take(0.0, E4)
+    waiting.look(0.0)
+    same("a game that is seen first with moves is shown without them", (waiting.shot, waiting.ends_at), (QUIET, 900.0))
+    waiting.take(0.0, E4)
+    same("the same shot is no news", len(waiting.known), 2)
+    waiting = Waiting(900.0)
+    waiting.take(0.0, Shot("0-1", E5.moves, E5.positions, b'[White]\n[Result "0-1"]\n[FEN "x"]\n\n1. e4 e5 0-1\n\n'))
+    waiting.look(899.9)
     quiet = Shot(positions=(START,), text=b'[White]\n[Result "*"]\n[FEN "x"]\n\n*\n\n')
-    same("and without its result", history.shot, quiet)
-    history = History(900.0)
+    same("and without its result", waiting.shot, quiet)
+    waiting = Waiting(900.0)
     for now, shot in ((0.0, Shot()), (1.0, QUIET), (2.0, Shot(positions=(START,), text=QUIET.text, clocks=E4.clocks)), (3.0, E4)):
-        history.take(now, shot)
-        history.look(now)
-    same("a text that comes before the first move is shown, and no clock", (history.shot, history.next_at), (QUIET, 903.0))
-    plain = History(0.0)
+        waiting.take(now, shot)
+        waiting.look(now)
+    same("a text that comes before the first move is shown, and no clock", (waiting.shot, waiting.next_at), (QUIET, 903.0))
+    plain = Waiting(0.0)
     plain.take(5.0, E4)
     plain.look(5.0)
     same("without a delay it is shown at once", plain.shot, E4)
 
 
-def read_again(content: bytes, boot: str, now: float, lost: Sequence[Front] = ()) -> History:
-    """What a restart has, if these bytes of the capture are lost."""
-    found = kept.read(content, boot, now)
-    return found.history(900.0, [None if stamp.front in lost else SAID.get(stamp.front) for stamp in found.stamps])
-
-
 def restarts() -> None:
-    """What a process kept before it was killed, read by the next one, at any moment, as far as it was written."""
-    whole = History(900.0)
-    for now, shot in ((0.0, QUIET), (60.0, E4), (100.0, E5), (130.0, WON)):
-        whole.take(now, shot)
-    content = kept.content_of(whole, "this start")
-    again = read_again(content, "this start", 140.0)
-    same("all of it", (again.entries, again.shown), (whole.entries, 0))
-    same("with no move, clock or result", [word for word in (b"e4", b"e5", b"1:29", b"1-0", b"White", b"start,") if word in content], [])
-    for now, text in ((140.0, QUIET), (959.0, QUIET), (960.0, E4), (1000.0, E5), (1030.0, WON)):
-        again = read_again(content, "this start", now)
-        again.look(now)
-        same(f"killed, and read at {now}", again.shot, text)
-        renewed = read_again(kept.content_of(again, "this start"), "this start", now)
-        renewed.look(now)
-        same("and killed once more", (renewed.shot, renewed.entries), (again.shot, again.entries))
-    again = read_again(content + kept.shown_line(2), "another start", 5.0)
-    again.look(5.0)
-    same("after a start of the computer what was shown stays", again.shot.text, E4.text)
-    same("its clock stands", again.shot.clocks, Clocks("1:29:55", "1:30:00"))
-    same("and the rest came just now", [entry.came for entry in again.entries], [ALWAYS, 5.0, 5.0])
-    again = read_again(kept.content_of(again, "this start"), "this start", 6.0)
-    again.look(6.0)
-    same("also after a kill", (again.shot.text, [entry.came for entry in again.entries]), (E4.text, [ALWAYS, 5.0, 5.0]))
-    again = read_again(content, "this start", 50.0)
-    same("times that are still to come are another clock's", [entry.came for entry in again.entries], [50.0] * 4)
-    for lost, shown, at_last in ((FRONTS[1:2], QUIET, WON), (FRONTS[:2], QUIET, WON), (FRONTS[3:], E4, E5), (FRONTS[1:], QUIET, QUIET), (FRONTS, Shot(), Shot())):
-        again = read_again(content, "this start", 960.0, lost)
-        again.look(960.0)
-        then = read_again(content, "this start", 2000.0, lost)
-        then.look(2000.0)
-        same(f"without {len(lost)} of its fronts", (again.shot, then.shot), (shown, at_last))
-    for lost, shown in ((FRONTS[2:3], E4), (FRONTS[1:3], QUIET), (FRONTS[:3], QUIET)):
-        again = read_again(content + kept.shown_line(3), "this start", 500.0, lost)
-        again.look(500.0)
-        same(f"of what is shown {len(lost)} have other bytes", (again.shot, again.next_at), (shown, 1030.0))
-    sizes = []
-    for size in range(len(content)):
-        cut = read_again(content[:size], "this start", 2000.0)
-        same(f"the first {size} bytes are the first entries", cut.entries, whole.entries[: len(cut.entries)])
-        sizes.append(len(cut.entries))
-    same("one more for each line", sorted(set(sizes)), [0, 1, 2, 3, 4])
-    earlier = b'{"came":60.0,"result":"*","moves":[0,["e4",""]],"positions":[0,"start"],"text":[0,"x"],"clocks":["","","",0.0]}\n{"shown":1}\n'
-    for damaged in (b"", b"\x00\xff\n", b"{}\n", b"[]\n", b'{"boot":1}\n{"came":"x"}\n', content.replace(b'"of":["01",110', b'"of":["01"'), earlier):
-        same(f"what can't be read: {damaged[:20]!r}", len(kept.read(damaged, "this start", 2000.0).stamps) < 4, True)
-    same("what an earlier version has hidden stays hidden", read_again(earlier, "this start", 2000.0).entries, [])
+    """What was said of a game, each at its time; the next process is told that and goes on with the game: what it shows at any moment is
+    what the first one would have shown."""
+    said = [(0.0, QUIET), (60.0, E4), (100.0, E5), (130.0, WON)]
+    for now, shown in ((140.0, QUIET), (959.0, QUIET), (960.0, E4), (1000.0, E5), (1030.0, WON)):
+        one = OneGame("01", GoingOut(900.0, hold=0.0))
+        one.tell(said, now)
+        one.look(now)
+        same(f"killed, and said again at {now}", one.waiting.shot, shown)
+    for delay, shown in ((900.0, E4), (3600.0, QUIET), (30.0, WON)):
+        one = OneGame("01", GoingOut(delay, hold=0.0))
+        one.tell(said, 970.0)
+        one.look(970.0)
+        same(f"at 970, {delay} late", one.waiting.shot, shown)
+    one = OneGame("01", GoingOut(900.0, hold=0.0))
+    one.tell([], 500.0)
+    one.look(500.0)
+    same("nothing can be said again", (one.is_told, one.waiting.shot, one.waiting.ends_at), (True, Shot(), None))
+    running = Shot("*", E4.moves, E4.positions, E4.text)  # its clock isn't pressed
+    pressed = Shot("*", E4.moves, (START, "8/8 b"), E4.text, E4.clocks)
+    for name, said, out in (
+        ("a ply stood for two seconds", [(60.0, running), (70.0, E5)], [(ALWAYS, QUIET), (62.0, running), (72.0, E5)]),
+        ("no reply after it", [(60.0, running)], [(ALWAYS, QUIET), (62.0, running)]),
+        ("a reply came sooner", [(60.0, running), (61.0, E5)], [(ALWAYS, QUIET), (61.0, running), (63.0, E5)]),
+        ("the clock was pressed", [(60.0, pressed)], [(ALWAYS, QUIET), (60.0, pressed)]),
+    ):
+        one = OneGame("01", GoingOut(900.0, hold=2.0))
+        one.tell([(0.0, QUIET), *said], 500.0)
+        found = [(entry.came, entry.shot) for entry in one.waiting.known]
+        same(name, found, out)
+    one = OneGame("01", GoingOut(900.0, hold=2.0))
+    one.tell([(0.0, QUIET), (60.0, running)], 61.0)
+    same("a ply that was just made", ([entry.shot for entry in one.waiting.known], one.steady.due), ([QUIET], 62.0))
 
 
-def said_late(paths: Paths, delay: float, now: float) -> Late:
-    """The next process: the program has said again what was kept."""
-    late = Late(paths, delay, now)
-    same("before that nothing is shown", (late.shot, late.history.next_at), (Shot(), None))
-    late.said(now, SAID)
-    return late
+def ages_of_bytes() -> None:
+    """Calls of a file of times; when they began, by which start of the computer; the size of the capture at the end, at 10,000: by when its
+    bytes had come."""
+    first = times.Call(50, 0, [(10, "heard", 67), (500, "asked", 3), (1000, "heard", 10), (900, "added", 5)])
+    second = times.Call(200, 82, [(0, "away", 99999), (20, "heard", 8)])
+    third = times.Call(300, 90, [(5, "opened", None)])
+    here, there = "this", "another"
+    b1, b2, b3 = (0, 50), (0, 200), (0, 300)
+    cases: List[Tuple[str, List[times.Call], int, Dict[Begin, Began], List[Tuple[int, int]]]] = [
+        ("nothing is known", [], 90, {}, [(90, 10000)]),
+        ("one call", [first], 82, {b1: Began(2000, here)}, [(67, 2010), (77, 3000), (82, 3000)]),
+        ("bytes without a time", [first], 90, {b1: Began(2000, here)}, [(67, 2010), (77, 3000), (82, 3000), (90, 10000)]),
+        ("it has fewer", [first], 70, {b1: Began(2000, here)}, [(67, 2010), (70, 3000)]),
+        ("two calls, and `away` counts for nothing", [first, second], 90, {b1: Began(2000, here), b2: Began(7000, here)},
+         [(67, 2010), (77, 3000), (82, 3000), (90, 7020)]),
+        ("a call under another start of the computer ended as the next began", [first, second], 90,
+         {b1: Began(5, there), b2: Began(7000, here)}, [(67, 6010), (77, 7000), (82, 7000), (90, 7020)]),
+        ("all under another start: the last event was just now", [first, second], 90, {b1: Began(5, there), b2: Began(9, there)},
+         [(67, 8990), (77, 9980), (82, 9980), (90, 10000)]),
+        ("nobody kept when the first one began", [first, second], 90, {b2: Began(7000, here)}, [(67, 7000), (77, 7000), (82, 7000), (90, 7020)]),
+        ("nor the last one", [first, second], 90, {b1: Began(2000, here)}, [(67, 2010), (77, 3000), (82, 3000), (90, 10000)]),
+        ("it began later than now", [first], 82, {b1: Began(10001, here)}, [(67, 10000), (77, 10000), (82, 10000)]),
+        ("it goes on in the next call", [first, second], 90, {b1: Began(6500, here), b2: Began(7000, here)},
+         [(67, 6510), (77, 7000), (82, 7000), (90, 7020)]),
+        ("of another generation", [first], 82, {(1, 50): Began(2000, here)}, [(67, 10000), (77, 10000), (82, 10000)]),
+        ("bytes that came as a call began", [first, times.Call(300, 120, [])], 120, {b1: Began(2000, here), b3: Began(4000, here)},
+         [(67, 2010), (77, 3000), (82, 3000), (120, 4000)]),
+        ("bytes that a power cut took", [first, times.Call(300, 70, [(5, "heard", 9)])], 79, {b1: Began(2000, here), b3: Began(4000, here)},
+         [(67, 2010), (70, 4000), (79, 4005)]),
+        ("three", [first, second, third], 90, {b1: Began(5, there), b2: Began(6, there), b3: Began(8000, here)},
+         [(67, 6990), (77, 7980), (82, 7980), (90, 8000)]),
+    ]  # fmt: skip
+    for name, calls, size, began, wanted in cases:
+        same(name, within(came(calls, 0, began, here, 10000), size, 10000), [Came(*one) for one in wanted])
+    same("no byte", within([], 0, 10000), [])
+    same("over", [over_at(calls) for calls in ([], [first], [first, times.Call(1, 0, [(1, "over", 70), (2, "heard", 1), (3, "over", 80)]), third])], [None, None, 80])
+    capture = b"\x86\x00\x43" + bytes(64) + b"more"
+    heading = times.heading(3, capture[:67])
+    content = heading + b"0 begin 67\n0 away 12\n5 heard 4\n7 over 71\n0 begin 71\n9 o"
+    at = len(heading)
+    found = [times.Call(at, 67, [(0, "away", 12), (5, "heard", 4), (7, "over", 71)]), times.Call(content.index(b"0 begin 71"), 71, [])]
+    same("calls of a file", calls_of(content, capture), (found, 3))
+    for name, text, first_bytes in (
+        ("another capture's", content, b"\x86\x00\x43" + bytes(63) + b"x"), ("a longer one's", content, capture[:66]), ("none", b"", capture),
+        ("a newer program's", content.replace(b"1 times", b"2 times"), capture), ("torn", content[:20], capture),
+    ):  # fmt: skip
+        same(name, calls_of(text, first_bytes), ([], 0))
 
 
-def on_the_disk() -> None:
-    """A process takes shots, is killed, and the next one shows each at the second at which it would have been shown."""
+def calls_are_kept() -> None:
+    """A game is recorded in three calls, and goes back: for each `begin` in its times there is when it began, and nothing is torn."""
+    with tempfile.TemporaryDirectory() as folder:
+        paths, before = Paths(f"{folder}/01"), milliseconds()
+        for call in range(3):
+            capture = Capture.open(paths.capture)
+            kept = Times(paths, capture)
+            kept.look()
+            kept.begin()
+            capture.append(bytes([0x86, 0, 67]) + bytes(64))
+            kept.note("heard", 67)
+            kept.write()
+            if call == 1:
+                with open(paths.began, "ab") as file:
+                    file.write(b"0 123 4")  # the power failed
+            kept.close()
+            capture.close()
+        content, first = pathlib.Path(f"{paths.name}.times").read_bytes(), pathlib.Path(paths.capture).read_bytes()
+        began = read_began(pathlib.Path(paths.began).read_bytes())
+        calls, generation = calls_of(content, first)
+        same("each call", (sorted(began), generation, len(calls)), ([(0, call.offset) for call in calls], 0, 3))
+        same("by this clock", all(before <= one.at <= milliseconds() and one.start == this_start() for one in began.values()), True)
+        same("all has a time", came(calls, 0, 201, began, this_start(), milliseconds())[-1].size, 201)
+    with tempfile.TemporaryDirectory() as folder:
+        path = f"{folder}/01.began"
+        for begin, one in (((0, 50), Began(5, "a-1")), ((0, 50), Began(7, "a-2")), ((1, 50), Began(9, "b"))):
+            keep_began(path, began_line(begin, one))
+        same("the last line about a begin counts", read_began(pathlib.Path(path).read_bytes()), {(0, 50): Began(7, "a-2"), (1, 50): Began(9, "b")})
+    for torn in (b"", b"\n", b"0 50 7 a", b"x 50 7 a\n", b"0 50 -7 a\n", b"0 50 7\n", b"\xff\n", b"0 50 7 a b\n"):
+        same(f"no line: {torn!r}", read_began(torn), {})
+
+
+def what_is_kept() -> None:
+    """A capture grows, ends, and another one takes its place: how many of its bytes are the game's."""
     with tempfile.TemporaryDirectory() as folder:
         paths = Paths(f"{folder}/01")
-        late = Late(paths, 900.0, 0.0)
-        same("nothing was said before", late.to_say, [])
-        for now, shot in ((0.0, QUIET), (60.0, E4)):
-            late.take(now, shot)
-        same("the first process", (late.shot, late.history.next_at), (QUIET, 960.0))
-        late = Late(paths, 900.0, 500.0)
-        same("what must be said again", (late.to_say, late.ends_at), (FRONTS[:2], 960.0))
-        late = said_late(paths, 900.0, 500.0)
-        same("the next one", (late.shot, late.history.next_at), (QUIET, 960.0))
-        late.take(520.0, E5)
-        late = said_late(paths, 900.0, 1000.0)
-        same("and one more", (late.shot, late.history.next_at), (E4, 1420.0))
-        late.look(1420.0)
-        same("up to the end", (late.shot, late.history.is_hidden), (E5, False))
-        late = said_late(paths, 900.0, 1430.0)
-        same("what was shown is shown", late.shot, E5)
-        late = said_late(paths, 3600.0, 1430.0)
-        same("with a longer delay too", late.shot, E5)
-        os.unlink(paths.delayed)
-        late = Late(paths, 900.0, 1500.0)
-        late.take(1500.0, WON)
-        same("without its file all is hidden but the players", (late.shot, late.history.next_at), (QUIET, 2400.0))
-        late = Late(paths, 0.0, 1600.0)
-        late.take(1600.0, WON)
-        same("without a delay all is shown", (late.shot, os.path.exists(paths.delayed)), (WON, False))
-
-
-def how_far_a_capture_has_come() -> None:
-    """It grows, ends, goes on, is cut, and another one takes its place: its front is always that of the file."""
-    with tempfile.TemporaryDirectory() as folder:
-        paths, fronts = Paths(f"{folder}/01"), Fronts()
-        same("none", fronts.now(paths), None)
         capture, end = pathlib.Path(paths.capture), pathlib.Path(paths.end)
+
+        def size_of(path: str) -> Optional[int]:
+            with Opened() as opened:
+                kept = Kept.of(paths, path, opened)
+                return kept and kept.size
+
+        same("none", size_of(paths.capture), None)
         for content, mark in ((b"", b""), (b"abc", b""), (b"abcdef", b""), (b"abcdefghi", b"4\n"), (b"abcdefghi", b""), (b"xyz", b""), (b"xyz", b"99\n")):
             capture.write_bytes(content)
             end.write_bytes(mark)
-            size = min(int(mark or 99), len(content))
-            same(f"{content!r}, ends at {mark!r}", fronts.now(paths), Front("01", size, zlib.crc32(content[:size])))
+            same(f"{content!r}, ends at {mark!r}", size_of(paths.capture), min(int(mark or 99), len(content)))
+        end.write_bytes(b"1\n")
         capture.rename(paths.before_back(1))
-        capture.write_bytes(b"other")
-        same("another one", fronts.now(paths), Front("01", 5, zlib.crc32(b"other")))
-        capture.unlink()
-        capture.symlink_to(paths.before_back(1))
-        os.mkfifo(f"{folder}/02.dgt")
-        same("a pipe", fronts.now(Paths(f"{folder}/02")), None)
+        same("an earlier one has no end", size_of(paths.before_back(1)), 3)
+        os.mkfifo(paths.capture)
+        same("a pipe", size_of(paths.capture), None)
+    for name, last, wanted in (("01", "01", ["01"]), ("blitz", "blitz-3", ["blitz-3", "blitz-2", "blitz-1"]), ("blitz", "blitz", ["blitz"]),
+                               ("a", "b-2", ["b-2"]), ("blitz", "blitz-x", ["blitz-x"])):  # fmt: skip
+        same(f"games of {name} up to {last}", games_before(name, last), wanted)
+
+
+def hidden_or_not() -> None:
+    """A game that nobody shows: whether something of it is hidden, and whether spectators haven't seen all."""
+    with tempfile.TemporaryDirectory() as folder:
+        paths = Paths(f"{folder}/01")
+        text, capture = b'[Result "1-0"]\n\n1. e4 1-0\n\n', b"\x86\x00\x43" + bytes(64)
+        pathlib.Path(paths.pgn).write_bytes(text)
+        pathlib.Path(paths.capture).write_bytes(capture)
+        heading = times.heading(0, capture)
+
+        def began(ago: int) -> None:
+            pathlib.Path(f"{paths.name}.times").write_bytes(heading + b"0 begin 67\n")
+            pathlib.Path(paths.began).write_bytes(began_line((0, len(heading)), Began(milliseconds() - ago, this_start())))
+
+        began(0)
+        same("no delay", (is_hidden(paths), is_unseen(paths, lambda _: text)), (False, False))
+        delay_of(paths, 60.0, [paths])
+        same("just played", (is_hidden(paths), is_unseen(paths, lambda _: text)), (True, True))
+        began(50_000)
+        same("fifty seconds ago", is_hidden(paths), True)
+        began(61_000)
+        same("a minute ago", (is_hidden(paths), is_unseen(paths, lambda _: text)), (False, False))
+        pathlib.Path(paths.broadcast).write_bytes(b"earlier")
+        same("and its text isn't out", is_unseen(paths, lambda _: text), True)
+        pathlib.Path(paths.broadcast).write_bytes(text)
+        same("it is", is_unseen(paths, lambda _: text), False)
+        for path in (paths.began, f"{paths.name}.times", paths.capture):
+            pathlib.Path(path).write_bytes(b"x")
+            same(f"{path} is damaged", is_hidden(paths), True)
+        began(61_000)
+        pathlib.Path(paths.pgn).write_bytes(b'[Result "*"]\n\n*\n\n')
+        same("not played", is_hidden(paths), False)
+        pathlib.Path(paths.delay).write_bytes(b"soon\n")
+        same("a delay that can't be read", is_hidden(paths), True)
 
 
 def kept_delays() -> None:
@@ -223,16 +289,17 @@ def kept_delays() -> None:
         same("a delay that is given takes its place", delay_of(paths, 60.0, [game]), 60.0)
         delay_of(paths, 20.0, [game])
         same("no shorter when it is read again", 20.0 <= delay_of(paths, None, [game]) < 20.6, True)
-        Late(game, 900.0, 0.0).take(0.0, E4)
-        for lost, found in ((None, 900.0), (paths.delay, 900.0), (game.delayed, 900.0), ("both", 0.0)):
+        for lost, found in ((None, 900.0), (paths.delay, 900.0), (game.delay, 900.0), ("both", 0.0)):
             delay_of(paths, 900.0, [game])
-            Late(game, 900.0, 0.0).take(0.0, E4)
-            for path in [path for path in (paths.delay, game.delayed) if lost in (path, "both")]:
+            for path in [path for path in (paths.delay, game.delay) if lost in (path, "both")]:
                 os.unlink(path)
             same(f"{lost} is lost", delay_of(paths, None, [game]), found)
-        Late(game, 900.0, 0.0).take(0.0, E4)
+        earlier = b'{"boot":"","delay":900.0}\n{"came":null,"of":["01",67,5],"text":3}\n{"shown":1}\n'
+        for content, found in ((earlier, 900.0), (b"", 0.0), (b"{}\n", 0.0), (b'{"delay":"nan"}\n', 0.0), (b"\xff\n", 0.0), (b"[]\n", 0.0)):
+            pathlib.Path(game.delayed).write_bytes(content)
+            same(f"an earlier version has left {content!r}", delay_of(paths, None, [game]), found)
         delay_of(paths, 0.0, [game])
-        same("what is hidden goes with its delay", (os.listdir(folder), delay_of(paths, None, [game])), ([], 0.0))
+        same("all goes with a delay of 0", (os.listdir(folder), delay_of(paths, None, [game])), ([], 0.0))
     with tempfile.TemporaryDirectory() as folder:
         given = {"round": 900.0, "blitz": 60.0, "02": 1200.0, "9-9": 30.0}
         for name, seconds in given.items():
@@ -490,5 +557,5 @@ def for_spectators() -> None:
     ))  # fmt: skip
 
 
-TABLES = [shown_when, game_goes_by, restarts, on_the_disk, how_far_a_capture_has_come, kept_delays, clocks_run, runs_of_a_command, one_run_at_a_time,
-          scripts_of_the_docs, for_spectators]  # fmt: skip
+TABLES = [shown_when, game_goes_by, restarts, ages_of_bytes, calls_are_kept, what_is_kept, hidden_or_not, kept_delays, clocks_run, runs_of_a_command,
+          one_run_at_a_time, scripts_of_the_docs, for_spectators]  # fmt: skip

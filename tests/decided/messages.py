@@ -394,7 +394,7 @@ AT_THE_START = {
     "board": "asked_first attended_game board cable disk on_the_way plan recorder recording single standing state typed_lines whose",
     "device": "connection ended line network_address protocol serial_line",
     "doors": "calls dgt_live door",
-    "game": "alarms attended attending control course doubted edited file_names files forfeiting front game log looks making_pgn names opening options "
+    "game": "alarms attended attending began control course doubted edited file_names files forfeiting front game log looks making_pgn names opening options "
     "program reading reply report tags timed times",
     "terminal": "columns screen terminal",
 }
@@ -463,7 +463,7 @@ def kept() -> None:
         modules, found = (set(line.split()) for line in said_by(KEEPS.format(door=door)).splitlines())
         same(f"{door}: something is kept", "live.board.arbiter" in found and not found & modules, True)
         inner = [name for name in modules | found if re.fullmatch(r"live\.(?!doors)\w+\.\w+", name)]
-        needed = set().union(*map(imported, inner)) - {"live.broadcast.kept"}  # which is needed as a call begins
+        needed = set().union(*map(imported, inner))
         same(f"{door}: what is needed later", sorted(needed - modules - found), [])
 
 

@@ -4,7 +4,7 @@ from typing import List, Optional, Tuple
 
 from decided.table import refused, same
 from live.broadcast.going_out import read_hold
-from live.broadcast.history import Shot
+from live.broadcast.shot import Shot
 from live.broadcast.running import Clocks
 from live.broadcast.steady import Steady
 from live.refused import Refused

@@ -15,7 +15,7 @@ from typing import Any, Callable, Counter, Dict, List, Mapping, Optional, Sequen
 
 sys.dont_write_bytecode = True
 sys.path[:0] = [str(pathlib.Path(__file__).resolve().parents[number]) for number in (2, 1)]
-from live.broadcast.history import Shot  # noqa: E402
+from live.broadcast.shot import Shot  # noqa: E402
 from live.broadcast.running import Clocks  # noqa: E402
 from live.broadcast.view import Player, SpectatorBoard  # noqa: E402
 from live.web import page, serving  # noqa: E402

@@ -8,7 +8,7 @@ from typing import Dict, List, Optional, Tuple, cast
 
 from decided.table import same
 
-from live.broadcast.history import Shot
+from live.broadcast.shot import Shot
 from live.broadcast.running import Clocks
 from live.broadcast.view import Player, SpectatorBoard, said_of_matches
 from live.web.round_page import Game, view_of, ways_to_mend

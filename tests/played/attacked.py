@@ -169,7 +169,7 @@ def links_not_followed(folder: pathlib.Path) -> None:
     """Each file beside a game is a link to one that is precious, or to nothing: nothing is written there, by one board or a round."""
     precious, nowhere = folder / "precious", folder / "nowhere"
     precious.write_bytes(b"mine\n")
-    kinds = ("dgt", "pgn", "log", "options", "look", "back", "serial", "end", "delayed", "delay", "broadcast.pgn", "before.dgt")
+    kinds = ("dgt", "pgn", "log", "options", "look", "back", "serial", "end", "times", "began", "delayed", "delay", "broadcast.pgn", "before.dgt")
     endings = (*kinds, *(f"{kind}.new" for kind in kinds))
     hall = Hall(folder, 2)
     hall.games.mkdir()
@@ -180,16 +180,15 @@ def links_not_followed(folder: pathlib.Path) -> None:
         (hall.games / name).symlink_to(precious)
     output = hall.games / "output-late"
     output.mkdir()
-    for name in ("broadcast.pgn", *(f"{number:02}.delayed" for number in (1, 2))):
-        for ending in ("", ".new"):
-            (output / f"{name}{ending}").symlink_to(precious)
+    for name in ("broadcast.pgn", "broadcast.pgn.new"):
+        (output / name).symlink_to(precious)
     live = hall.record("--delay", "1", typed=True)
     for number in (1, 2):
         until_line(live, f"{number:02}.dgt is a link")
     live.type("q")
     until(lambda: not live.runs, "the end")
     for number in (1, 2):
-        pathlib.Path(f"{hall.name(number)}.delay").unlink()  # it is only read
+        pathlib.Path(f"{hall.name(number)}.delay").unlink(missing_ok=True)
         refuses(Live(hall.boards[number - 1].device, hall.name(number)), 3, f"{number:02}.dgt is a link")
         for ending in ("dgt", "end", "options"):
             pathlib.Path(f"{hall.name(number)}.{ending}").unlink()

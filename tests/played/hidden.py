@@ -1,26 +1,50 @@
-"""What a recorder has kept of what spectators see and don't see yet, as a restart would have it."""
+"""What a recorder that a case has started with clocks of its own has of a game: what spectators see, and what they don't see yet."""
 
-import functools
-import math
+import json
+import os
 import pathlib
 from typing import List
 
-from played.stage import bytes_of, program
+from live.broadcast.running import Clocks
+from live.broadcast.shot import Shot
+from live.web.view import Ply
 
-from live.broadcast import kept
-from live.broadcast.history import Shot
-from live.broadcast.late import this_start
-from live.broadcast.said_again import said_again
-from live.game.program import Program
+QUEUED = "queued"  # a folder beside the games
+# Part of a script that starts a recorder: all its clocks are ahead by as many seconds as the file `ahead` says. It notes in files of that
+# folder what spectators see of each game, and what waits, whenever that has changed.
+NOTES = """
+import json, os, pathlib, time
+from live import loop
+from live.broadcast import broadcast
+from live.game import timed
+loop.Loop.now = staticmethod(lambda: time.monotonic() + float(ahead.read_text()))
+timed.milliseconds = lambda: int((loop.Loop.counting() + float(ahead.read_text())) * 1000)
+def notes(name):
+    real, noted = getattr(broadcast.OneGame, name), {}
+    def called(self, *words):
+        real(self, *words)
+        shots = [entry.shot for entry in self.waiting.known]
+        if shots != noted.get(self):
+            noted[self] = shots
+            file = ahead.parent / "queued" / os.path.abspath(self.name).replace("/", "%")
+            new = pathlib.Path(str(file) + ".new")
+            new.write_text(json.dumps([
+                [shot.result, [[ply.san, ply.clock] for ply in shot.moves], shot.text.decode(), vars(shot.clocks), shot.forfeit] for shot in shots
+            ]))
+            new.replace(file)
+    setattr(broadcast.OneGame, name, called)
+notes("take")
+notes("tell")
+"""
 
 
-@functools.lru_cache(maxsize=1)
-def the_program() -> Program:
-    return Program(program())
-
-
-def hidden_shots(delayed: pathlib.Path, games: pathlib.Path) -> List[Shot]:
-    """Those that are shown or hidden, of a list and the folder of its games."""
-    found = kept.read(bytes_of(delayed), this_start(), math.inf)
-    said = said_again(the_program(), str(games), [stamp.front for stamp in found.stamps])
-    return [stamp.entry(said[stamp.front]).shot for stamp in found.stamps if stamp.front in said]
+def hidden_shots(name: object) -> List[Shot]:
+    """Those that are shown or hidden, of the game with this name, or of an output's game. They have no positions."""
+    path = pathlib.Path(os.path.abspath(str(name)))
+    folder = next((parent for parent in path.parents if (parent / QUEUED).is_dir()), path.parent)
+    file = folder / QUEUED / str(path).replace("/", "%")
+    found = json.loads(file.read_text()) if file.exists() else []
+    return [
+        Shot(result, tuple(Ply(san, clock) for san, clock in moves), (), text.encode(), Clocks(**clocks), forfeit)
+        for result, moves, text, clocks, forfeit in found
+    ]

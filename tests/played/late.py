@@ -1,11 +1,12 @@
 """A single game that goes out late: what is still hidden as it ends is shown at its times, by the same call or by the next one.
 The case controls the recorder's clock: fifteen minutes take no time."""
 
+import os
 import pathlib
 import re
 from typing import List
 
-from live.broadcast.history import Shot
+from live.broadcast.shot import Shot
 from played import words
 from played.boards import Board
 from played.hidden import hidden_shots
@@ -22,10 +23,6 @@ REST = "spectators get what they haven't seen of it"
 LEFT = "spectators haven't seen all moves. Start it again to show them, the last ones at "
 WON = RUY_TEXT.replace("*", "1-0")
 DRAWN = RUY_TEXT.replace("*", "1/2-1/2")
-EARLIER = b"""{"boot":"","delay":900.0}
-{"came":null,"result":"*","moves":[0],"positions":[0,"start"],"text":[0,"[]\\n\\n*\\n\\n"],"clocks":["","","",0.0]}
-{"shown":1}
-"""  # of an earlier version
 
 
 class Game:
@@ -60,7 +57,7 @@ class Game:
 
     def hidden(self) -> List[Shot]:
         """What is shown and what is hidden, as a restart would have it."""
-        return hidden_shots(pathlib.Path(f"{self.name}.delayed"), self.folder)
+        return hidden_shots(self.name)
 
     @property
     def shown(self) -> List[str]:
@@ -116,6 +113,7 @@ def rest_after_a_kill(folder: pathlib.Path) -> None:
     game.until_kept(WON)
     kill(live)
     game.board.pull()
+    os.utime(f"{game.name}.times", (0, 0))  # by the clock on the wall nobody was there for years
     game.clock.be(600)
     live = game.record(delay="")
     until_line(live, REST)
@@ -133,6 +131,31 @@ def rest_after_a_kill(folder: pathlib.Path) -> None:
     same(ended(live), 0)
     same(game.shown, [WON] * 2)
     refuses(game.record(delay=""), 1, "is over: choose another name")
+
+
+def after_a_start_of_the_computer(folder: pathlib.Path) -> None:
+    """The computer is started again: nobody knows how long it was off, so what was hidden waits for the rest of its time."""
+    game = Game(folder)
+    live = game.record()
+    game.play(live)
+    game.clock.be(450)
+    live.type("1-0")
+    until_line(live, WAITS)
+    game.until_kept(WON)
+    kill(live)
+    began = pathlib.Path(f"{game.name}.began")
+    began.write_text("".join(f"{line.rpartition(' ')[0]} 0000-beef\n" for line in began.read_text().splitlines()))
+    for seconds, shown in ((5000, "*"), (5380, "*"), (5520, RUY_TEXT), (5830, RUY_TEXT)):
+        if seconds == 5000:
+            game.clock.be(seconds)
+            live = game.record(delay="")
+            until_line(live, WAITS)
+        game.clock.be(seconds)
+        game.until_shown(shown)
+        same((holds_within(lambda: game.shown != [shown] * 2, 1.0), seconds), (False, seconds))
+    game.clock.be(6000)
+    same(ended(live), 0)
+    same(game.shown, [WON] * 2)
 
 
 def killed_until_after(folder: pathlib.Path) -> None:
@@ -235,19 +258,26 @@ def away_at_the_end(folder: pathlib.Path) -> None:
     same(re.findall("isn't published", live.complaint()), [])
 
 
-def list_lost(folder: pathlib.Path) -> None:
-    """It is killed, and the list of what is hidden is empty, gone or an earlier version's: nothing goes out that --add or an option makes, and the same
-    command hides the game for fifteen minutes more."""
+def times_lost(folder: pathlib.Path) -> None:
+    """It is killed, and it is lost or unknown when its bytes came, or when its call began: nothing goes out that --add or an option makes, and the
+    same command hides the game for fifteen minutes more."""
     game = Game(folder)
     live = game.record()
     game.play(live)
     kill(live)
     game.board.pull()
-    hidden = pathlib.Path(f"{game.name}.delayed")
-    for options, spoil in ((("--add", "1-0"), "empty"), (("--tag", "Section=A"), "gone"), (("--add", "*"), "gone"), (("--add", "1-0"), "earlier")):
-        hidden.write_bytes(EARLIER if spoil == "earlier" else b"")
-        if spoil == "gone":
-            hidden.unlink()
+    files = [pathlib.Path(f"{game.name}.{ending}") for ending in ("times", "began")]
+    ways = (
+        (("--add", "1-0"), b"", None),
+        (("--tag", "Section=A"), None, b""),
+        (("--add", "*"), b"1 times 0\n67 digest 5\n0 begin 0\n0 heard 9999\n", b"0 21 1 0\n"),
+        (("--add", "1-0"), None, None),
+    )
+    for options, *contents in ways:
+        for file, content in zip(files, contents):
+            file.unlink(missing_ok=True)
+            if content is not None:
+                file.write_bytes(content)
         same(ended(Live("", game.name, *options)), 0)
         same((options, game.shown[0]), (options, "*"))
     live = game.record(delay="")
@@ -286,7 +316,7 @@ def refused_with_a_delay(folder: pathlib.Path) -> None:
     live = game.record()
     game.play(live)
     kill(live)
-    files = [pathlib.Path(f"{game.name}.{ending}") for ending in ("delay", "delayed")]
+    files = [pathlib.Path(f"{game.name}.{ending}") for ending in ("delay", "began")]
     before = [bytes_of(path) for path in files]
     same(before[0], b"15\n")
     for delay in ("--delay 5", "--delay 0"):
@@ -294,7 +324,7 @@ def refused_with_a_delay(folder: pathlib.Path) -> None:
         same([bytes_of(path) for path in files], before)
     live = game.record(delay="--delay 0")
     game.until_shown(RUY_TEXT)
-    same((stop(live), [path.exists() for path in files]), (0, [False, False]))
+    same((stop(live), files[0].exists()), (0, False))
     same(ended(Live("", game.name, "--add", "1-0")), 0)
     refuses(game.record(delay="--delay 5"), 1, "is over: choose another name")
-    same([path.exists() for path in files], [False, False])
+    same(files[0].exists(), False)

@@ -77,7 +77,7 @@ def packed_in_one_file(folder: pathlib.Path) -> None:
     board.play("b8c6")
     until_game(live.name, "1. e4 c5 2. Nf3 Nc6 *")
     parts = packed(live.name)
-    of_the_game = ["dgt", "times", "pgn", "options", "log", "front", "before-1.dgt", "before-1.times", "edited.pgn"]
+    of_the_game = ["dgt", "times", "began", "pgn", "options", "log", "front", "before-1.dgt", "before-1.times", "edited.pgn"]
     same(list(parts), ["README.txt", *(f"game.{ending}" for ending in of_the_game)])
     after = bytes_of(folder / "game.dgt")
     assert parts["game.dgt"].startswith(before) and after.startswith(parts["game.dgt"]), "it isn't what the board had sent by then"

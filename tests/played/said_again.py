@@ -1,19 +1,20 @@
-"""What goes out late is said again after a restart, from the captures: by bytes of a capture that was replaced too, over the games of
-a series, and in no other words than the program says of the bytes that had come by then."""
+"""What goes out late is said again after a restart, from the captures and their times: of a capture that was replaced too, over the
+games of a series, and in no other words than the program says of the bytes that had come by then."""
 
 import os
 import pathlib
 import time
-import zlib
 from typing import List
 
-from live.broadcast.history import Front
-from live.broadcast.said_again import said_again
+from live.broadcast.said_again import MARGIN, said_again
+from live.game import timed, times
+from live.game.began import Began, began_line, this_start
 from live.game.files import Paths
 from live.game.game import put_options
 from live.game.options import Options
 from live.game.program import Program
 from live.game.report import Clock, Move, Position, line_of
+from live.game.times import HEADED
 from play_board import BLACK, KING
 from played import TOP
 from played.back import answered
@@ -21,45 +22,60 @@ from played.late import AGAIN, DRAWN, WAITS, WON, Game
 from played.stage import RUY_TEXT, begun, bytes_of, ended, kill, program, rest, run, same, stop, until, until_dumped, until_line
 
 
-def said_at_each_front(folder: pathlib.Path) -> None:
-    """Of each front of a game that ends at one of its bytes, the program says its `record` and its `watch`, however many are asked for
-    at once; also of one whose capture was replaced, and of none that is another's."""
+def said_at_each_place(folder: pathlib.Path) -> None:
+    """Of a game whose bytes came a second after each other, the program says at each time its `record` and its `watch` of the bytes until
+    then. What is older than the delay comes as one; so does what has no time, or is another capture's."""
     sample = (TOP / "samples" / "long-game.dgt").read_bytes()
-    paths, other = Paths(f"{folder}/01"), Paths(f"{folder}/02")
-    pathlib.Path(paths.before_back(1)).write_bytes(sample[:900])
-    pathlib.Path(paths.capture).write_bytes(sample[:500] + sample[600:])
-    pathlib.Path(other.capture).write_bytes(sample)
-    pathlib.Path(other.capture).chmod(0o600)
+    paths, now, program_ = Paths(f"{folder}/02"), time.monotonic(), Program(program())
+    pathlib.Path(paths.capture).write_bytes(sample)
+    sizes = [*range(97, len(sample), 97), len(sample)]
+    lasted = 1000 * len(sizes)
+    began = timed.milliseconds() - lasted - 5000
+    heading = times.heading(0, sample[:HEADED])
+    lines = [b"0 begin 0\n", *(b"%d heard %d\n" % (1000 * number, size - before) for number, (before, size) in enumerate(zip([0, *sizes], sizes), 1))]
+    pathlib.Path(f"{folder}/02.times").write_bytes(heading + b"".join(lines))
+    pathlib.Path(paths.began).write_bytes(began_line((0, len(heading)), Began(began, this_start())))
     options = Options.of_words(["--white=Anna", "--event=Club", "--first=black", "--recover"])
-    put_options(other, options)
-    sizes = [0, 1, 66, 67, 68, *range(100, len(sample), 97), len(sample)]
-    fronts = [Front("02", size, zlib.crc32(sample[:size])) for size in sizes]
-    said = said_again(Program(program()), str(folder), [*reversed(fronts), *fronts])
-    same(set(said), set(fronts))
-    for front in fronts:
-        shot, sent = said[front], sample[: front.size]
-        same((front.size, shot.text), (front.size, run("record", *options.of_record(), given=sent).stdout))
-        lines = [line_of(text) for text in run("watch", *options.of_board(), given=sent).stdout.decode().splitlines()]
-        events = [line.event for line in lines if line]
+    put_options(paths, options)
+    said = said_again(program_, [paths], 100000.0, time.monotonic)
+    ago = [now - came for came, _ in said]
+    same((all(1 < one < lasted / 1000 + 30 for one in ago), ago == sorted(ago, reverse=True)), (True, True))
+    found = {round(came - (said[0][0] - 1)): shot for came, shot in said[: len(sizes)]}
+    same(sorted(found), [*range(1, len(sizes) + 1)])
+    for number, size in [*list(enumerate(sizes, 1))[::5], (len(sizes), sizes[-1])]:
+        shot, sent = found[number], sample[:size]
+        same((size, shot.text), (size, run("record", *options.of_record(), given=sent).stdout))
+        read = [line_of(text) for text in run("watch", *options.of_board(), given=sent).stdout.decode().splitlines()]
+        events = [line.event for line in read if line]
         plies: List[Move] = []
         for event in events:
             if isinstance(event, Move):
                 plies[len(plies) - event.corrects :] = [event]
-        same((front.size, [ply.san for ply in shot.moves]), (front.size, [ply.san for ply in plies]))
-        same((front.size, shot.positions[-1:]), (front.size, tuple(event.fen for event in events if isinstance(event, Position))[-1:]))
+        same((size, [ply.san for ply in shot.moves]), (size, [ply.san for ply in plies]))
+        same((size, shot.positions[-1:]), (size, tuple(event.fen for event in events if isinstance(event, Position))[-1:]))
         clocks = [event for event in events if isinstance(event, Clock)][-1:]
-        same((front.size, shot.clocks.white, shot.clocks.black), (front.size, *([clocks[0].white, clocks[0].black] if clocks else ["", ""])))
-    mine = [Front("01", size, zlib.crc32(sample[:size])) for size in (300, 500, 700, 900, 901)]
-    same(set(said_again(Program(program()), str(folder), mine)), set(mine[:4]))
-    same(said_again(Program(program()), str(folder), [Front("03", 0, 0), Front("", 0, 0), Front("01", 300, 7)]), {})
-    os.unlink(paths.capture)
-    os.symlink(other.capture, paths.capture)
-    same(set(said_again(Program(program()), str(folder), [Front("01", 901, 1), *mine[:1]])), {mine[0]})
+        if not shot.clocks.runs:
+            same((size, shot.clocks.white, shot.clocks.black), (size, *([clocks[0].white, clocks[0].black] if clocks else ["", ""])))
+    whole = run("record", *options.of_record(), given=sample).stdout
+    earlier = time.monotonic()
+    late = said_again(program_, [paths], 30.0 - MARGIN, time.monotonic)
+    same((len({came for came, _ in late}) < 35, late[-1][1].text), (True, whole))
+    same((late[0][0] <= time.monotonic() - 30, late[1][0] >= earlier - 30), (True, True))
+    pathlib.Path(f"{folder}/02.times").write_bytes(heading + b"".join(lines[:9]))
+    cut = said_again(program_, [paths], 100000.0, time.monotonic)
+    ago = [now - came for came, _ in cut]
+    same((len([one for one in ago if one > 1]), cut[-1][1].text, ago[-1] < 0), (9, whole, True))  # eight, and that the clock stands
+    pathlib.Path(f"{folder}/02.times").write_bytes(heading.replace(b" digest ", b" digest 1") + b"".join(lines))
+    same([(shot.text, came > now) for came, shot in said_again(program_, [paths], 100000.0, time.monotonic)], [(whole, True)])
+    same(said_again(program_, [Paths(f"{folder}/03")], 100000.0, time.monotonic), [])
+    os.rename(paths.capture, f"{folder}/precious")
+    os.symlink(f"{folder}/precious", paths.capture)
+    same(said_again(program_, [paths], 100000.0, time.monotonic), [])
 
 
 def back_and_killed(folder: pathlib.Path) -> None:
     """Plies are taken off, so that the game has another capture, and it is killed: spectators see first what they would have seen of
-    the old one, and then the new one. What is kept of both has no move."""
+    the old one, and then the new one."""
     game = Game(folder)
     live = game.record()
     game.play(live)
@@ -71,8 +87,6 @@ def back_and_killed(folder: pathlib.Path) -> None:
     answered(live, "back 1... e5", "back to 1... e5; taken off: 2. Nf3 Nc6 3. Bb5")
     game.until_kept("1. e4 e5 *")
     kill(live)
-    hidden = bytes_of(f"{game.name}.delayed")
-    same((b'"shown":' in hidden, [word for word in (b"1. e4", b"Nf3", b"1:2", b"rnbq") if word in hidden]), (True, []))
     for seconds, shown in ((600, "*"), (910, RUY_TEXT), (1000, RUY_TEXT), (1210, "1. e4 e5 *")):
         game.clock.be(seconds)
         live = game.record(delay="")
@@ -162,4 +176,4 @@ def result_put_right(folder: pathlib.Path) -> None:
     same((ended(live), game.shown), (0, [DRAWN] * 2))
 
 
-CASES = [said_at_each_front, back_and_killed, series_killed, clocks_run_again, result_put_right]
+CASES = [said_at_each_place, back_and_killed, series_killed, clocks_run_again, result_put_right]

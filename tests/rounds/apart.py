@@ -129,7 +129,7 @@ RAISES = """
 import os, runpy, sys
 sys.dont_write_bytecode = True
 sys.path.insert(0, {top!r})
-from live.broadcast import broadcast, late
+from live.broadcast import broadcast
 def raising(whose, name, of):
     real = getattr(whose, name)
     def called(self, *words):
@@ -142,7 +142,7 @@ def raising(whose, name, of):
 for name in ("_wait", "text", "_make_folder"):
     raising(broadcast.Broadcast, name, lambda one: str(one._place))
 for name in ("take", "look"):
-    raising(late.Late, name, lambda one: str(one._path))
+    raising(broadcast.OneGame, name, lambda one: one.name)
 sys.argv = sys.argv[1:]
 runpy.run_path(sys.argv[0], run_name="__main__")
 """

@@ -33,7 +33,7 @@ def another_round(folder: pathlib.Path) -> None:
     hall.play(0, 2, [0, 1, 2])
     same(stop(live), 0)
     files = {path: bytes_of(path) for path in sorted(hall.games.iterdir())}
-    assert hall.games / "01.delayed" in files, files.keys()
+    assert hall.games / "01.delay" in files, files.keys()
     write("Anna,Ben", "Gus,Hal", "Ida,Jan", "Kim,Lea")
     place = hall.games.parent / "games-2"
     for options in ((), ("--round", "4"), ("--delay", "0"), ("--page", "8000")):

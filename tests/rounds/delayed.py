@@ -125,8 +125,7 @@ def each_file_lost_or_old(folder: pathlib.Path) -> None:
 
 def hidden_texts(hall: Hall, number: int) -> List[str]:
     """The movetexts that are kept of a game, hidden or shown."""
-    shots = hidden_shots(pathlib.Path(f"{hall.name(number)}.delayed"), hall.games)
-    return [text for shot in shots for text in texts_of(shot.text)]
+    return [text for shot in hidden_shots(hall.name(number)) for text in texts_of(shot.text)]
 
 
 class Start:
@@ -179,7 +178,7 @@ def stuck_as_it_is_said_again(folder: pathlib.Path) -> None:
     round_.play(2, 4)
     until(lambda: [hidden_texts(hall, number)[-1:] for number in (1, 2)] == [[FIRST[3]], [SECOND[3]]], "four plies, hidden", 0.02)
     kill(live)
-    before, lists = bytes_of(goes_out), {number: bytes_of(f"{hall.name(number)}.delayed") for number in (1, 2)}
+    before = bytes_of(goes_out)
     command, stuck = stuck_program(folder, folder / "stuck"), folder / "stuck"
     for how in ("killed", "fails", "goes on"):
         marks = stuck.with_name("stuck.fails" if how == "fails" else "stuck")
@@ -200,7 +199,6 @@ def stuck_as_it_is_said_again(folder: pathlib.Path) -> None:
             until(lambda: texts_of(bytes_of(goes_out)) == [FIRST[3], SECOND[3]], "four plies", 0.02)
         kill(live)
         marks.unlink(missing_ok=True)
-        same([bytes_of(f"{hall.name(number)}.delayed") == lists[number] for number in (1, 2)], [how == "killed"] * 2)
     witness.end()
 
 

@@ -12,6 +12,7 @@ import outside
 from played.ports import free_port
 from played.recorder import Live
 from played.stage import Skipped, bytes_of, check, movetext, same, stop, until, until_line
+from played.hidden import hidden_shots
 from rounds.delayed import DELAY, Delayed
 from rounds.hall import ROUND, Hall, agrees
 from rounds.witness import served, texts_of
@@ -110,7 +111,7 @@ def late_forfeits(folder: pathlib.Path) -> None:
         witness.plays(text)
         live.type(f"{number} {typed}")
         until_line(live, f"{hall.name(number)}: forfeit {words_told}: it isn't played")
-    until(lambda: [b"forfeit" in bytes_of(f"{hall.name(number)}.delayed") for number in (1, 2)] == [True, True], "both, hidden", 0.02)
+    until(lambda: [shot.forfeit for number in (1, 2) for shot in hidden_shots(hall.name(number))[-1:]] == ["+-", "--"], "both, hidden", 0.02)
     witness.look_at(port)
     live.was_killed = True
     live.send_all(signal.SIGKILL)

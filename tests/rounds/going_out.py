@@ -14,7 +14,7 @@ import urllib.request
 from typing import Dict, List, Optional, Tuple
 
 from played import TOP
-from played.hidden import hidden_shots
+from played.hidden import NOTES, QUEUED, hidden_shots
 from played.ports import free_port
 from played.recorder import Live, processes
 from played.stage import bytes_of, check, kill, movetext, same, stop, until, until_line
@@ -22,17 +22,16 @@ from rounds.crowds import page_of
 from rounds.hall import Hall, games_of, plain, quits
 from rounds.rounds import boards_of, fetch
 
-PATHS = ["/", "/state.json", "/round.pgn", "/01.pgn", "/02.pgn", "/03.pgn", "/nothing", "/page.js", "/broadcast.pgn", "/01.delayed"]
-# Starts the recorder with a clock that is ahead of the computer's by as many seconds as a file says. It publishes quickly, and a
-# run may take as long as another file says.
+PATHS = ["/", "/state.json", "/round.pgn", "/01.pgn", "/02.pgn", "/03.pgn", "/nothing", "/page.js", "/broadcast.pgn", "/01.delay", "/01.began"]
+# Starts the recorder with clocks that are ahead of the computer's by as many seconds as a file says. It publishes quickly, and a
+# run may take as long as another file says. What waits is noted.
 AHEAD = """
-import pathlib, runpy, sys, time
+import pathlib, runpy, sys
 sys.dont_write_bytecode = True
 ahead, longest, sys.argv = pathlib.Path(sys.argv[1]), pathlib.Path(sys.argv[2]), sys.argv[3:]
 sys.path.insert(0, {top!r})
-from live import loop
+{notes}
 from live.broadcast import publishing
-loop.Loop.now = staticmethod(lambda: time.monotonic() + float(ahead.read_text()))
 publishing.EACH, publishing.PAUSES = 0.1, (0.1, 0.2)
 run = publishing.run
 publishing.run = lambda words, path, _: run(words, path, float(longest.read_text()))
@@ -61,7 +60,8 @@ class Clock:
 
     def __init__(self, folder: pathlib.Path) -> None:
         self._ahead, self._longest, script = folder / "ahead", folder / "longest", folder / "ahead.py"
-        script.write_text(AHEAD.format(top=str(TOP)))
+        script.write_text(AHEAD.format(top=str(TOP), notes=NOTES))
+        (folder / QUEUED).mkdir(exist_ok=True)
         self.start: List[object] = [sys.executable, script, self._ahead, self._longest]
         self.be(0)
         self.may_take(300)
@@ -141,7 +141,7 @@ def both_have(files: List[pathlib.Path], wanted: List[List[str]]) -> None:
 
 def hidden(hall: Hall) -> List[str]:
     """The newest text that is kept of each of the two games, shown or not."""
-    shots = [hidden_shots(pathlib.Path(f"{hall.name(number)}.delayed"), hall.games) for number in (1, 2)]
+    shots = [hidden_shots(hall.name(number)) for number in (1, 2)]
     return [text for one in shots for text in texts_of(one[-1].text if one else b"")]
 
 

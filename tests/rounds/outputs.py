@@ -96,7 +96,7 @@ class Outputs:
         until(lambda: [self.hidden(name, number) for number in (1, 2)] == [FIRST[ply - 1], SECOND[ply - 1]], f"ply {ply}, hidden in {name}", 0.02)
 
     def hidden(self, name: str, number: int) -> str:
-        shots = hidden_shots(self.place(name) / f"{number:02}.delayed", self.hall.games)
+        shots = hidden_shots(self.place(name) / f"{number:02}")
         return "".join(texts_of(shots[-1].text)) if shots else ""
 
     def until_out(self, name: str, ply: int) -> None:
@@ -200,8 +200,9 @@ def stop_at_once(live: Live) -> int:
 
 
 def added_and_removed(folder: pathlib.Path) -> None:
-    """Between two calls an output is added: it hides what was played before for its whole delay. One is left out: nothing goes out there,
-    and what is left stays. One is removed: its text and what it has hidden go, and nothing else. What can't be is refused first."""
+    """Between two calls an output is added: it is as late with what was played before as with the rest. One is left out: nothing goes out
+    there, and what is left stays. One is removed: its text goes, and nothing else. One gets a longer delay: what is too young for it is
+    hidden again. What can't be is refused first."""
     round_ = Outputs(folder, {"": 0.0, "agency": 180.0, "public": 900.0, "club": 180.0})
     hall, clock = round_.hall, round_.clock
     round_.watch()
@@ -256,17 +257,19 @@ def added_and_removed(folder: pathlib.Path) -> None:
     hall.begun(live)
     round_.until_out("agency", 2)  # whose time is over, and the third ply came while nothing went out there
     round_.until_hidden("agency", 3)
+    same(texts_of(bytes_of(round_.text("public"))), UNPLAYED)
     clock.be(1000)
     round_.until_out("agency", 3)
-    same(texts_of(bytes_of(round_.text("public"))), UNPLAYED)
+    round_.until_out("public", 2)  # fifteen minutes after it was played, and not after the output was added
     same(stop_at_once(live), 0)
 
-    live = round_.record(*first, "--output", f"public = 20, {round_.command('public')}")
+    live = round_.record(*first, "--output", f"public = 60, {round_.command('public')}")
     hall.begun(live)
-    until_line(live, "output public is 20 minutes late")
-    clock.be(1180)  # fifteen minutes after it was added, and twenty after nothing
+    until_line(live, "output public is 60 minutes late")
+    round_.until_out("public", 0)
+    clock.be(2000)
     same(holds_within(lambda: texts_of(bytes_of(round_.text("public"))) != UNPLAYED, 2.0), False)
-    clock.be(1800)
+    clock.be(5000)
     round_.until_out("public", 3)
     same(stop(live), 0)
     round_.end()
@@ -291,7 +294,7 @@ def files_of_one_lost_or_old(folder: pathlib.Path) -> None:
         board.pull()
     new = {name: content for name, content in files_of(hall.games).items() if not name.endswith(".log")}
     names = [name for name in sorted(new) if "02" not in name]
-    assert {"output-public/01.delayed", "output-public/broadcast.pgn"} < set(names), names
+    assert {"01.times", "01.began", "output-public/broadcast.pgn"} < set(names), names
     spoiled = [(name, content) for name in names for content in (None, b"", old.get(name)) if content != new[name]]
     for at in range(0, len(spoiled), 4):
         starts = [Start(round_, folder / f"start{number}", new, spoiled[number]) for number in range(at, min(at + 4, len(spoiled)))]
@@ -399,7 +402,7 @@ def one_board(folder: pathlib.Path) -> None:
     for move in ("e2e4", "e7e5"):
         hall.boards[0].play(move)
     until(lambda: texts_of(bytes_of(copied)) == ["1. e4 e5 *"], "both plies, at once", 0.05)
-    late = kept_texts(games / "output-public" / "01.delayed")
+    late = kept_texts(games / "output-public" / "01")
     until(lambda: late()[-1:] == ["1. e4 e5 *"], "both plies, hidden", 0.05)
     until(lambda: texts_of(bytes_of(place / "round" / "round.pgn")) == ["*"], "no ply on the site", 0.05)
     clock.be(2000)
@@ -411,8 +414,8 @@ def one_board(folder: pathlib.Path) -> None:
 
 
 def kept_texts(path: pathlib.Path) -> Callable[[], List[str]]:
-    """What is kept of a game's texts in a file, hidden or shown."""
-    return lambda: [text for shot in hidden_shots(path, path.parent.parent) for text in texts_of(shot.text)]
+    """The texts of a game in an output, hidden or shown."""
+    return lambda: [text for shot in hidden_shots(path) for text in texts_of(shot.text)]
 
 
 def where_sites_are(folder: pathlib.Path) -> None:

@@ -1,0 +1,38 @@
+"""A game at one moment, as it goes out. Pure."""
+
+from __future__ import annotations
+
+import re
+from dataclasses import dataclass
+from typing import Tuple
+
+from live.broadcast.running import STANDING, Clocks
+from live.web.view import Ply
+
+RESULT = re.compile(rb'^\[Result "[^"]*"\]$', re.MULTILINE)
+
+
+@dataclass(frozen=True)
+class Shot:
+    """`positions` are FENs, of the start and after each ply; `text` is the text of NAME.pgn."""
+
+    result: str = "*"
+    moves: Tuple[Ply, ...] = ()
+    positions: Tuple[str, ...] = ()
+    text: bytes = b""
+    clocks: Clocks = STANDING
+    forfeit: str = ""  # how it was forfeited, if it was
+
+    @property
+    def says_nothing(self) -> bool:
+        """Whether the game has neither a move nor a result, nor its text."""
+        return not self.forfeit and not self.moves and self.result == "*" and self.text.partition(b"\n\n")[2].strip() in (b"", b"*")
+
+
+NOTHING = Shot()
+
+
+def unplayed(shot: Shot) -> Shot:
+    """The game before its first move."""
+    head = RESULT.sub(b'[Result "*"]', shot.text.partition(b"\n\n")[0])
+    return Shot(positions=shot.positions[:1], text=head + b"\n\n*\n\n" if shot.text else b"")
