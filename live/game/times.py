@@ -13,9 +13,9 @@ VERSION = 1
 HEADED = 4096  # bytes of a capture that a new heading has the digest of, at most
 BEGIN, AWAY, OPENED, ANSWERED, GONE, CALLED = "begin", "away", "opened", "answered", "gone", "called"
 HEARD, ADDED, STOPPED, ASKED, TOOK, OVER = "heard", "added", "stopped", "asked", "took", "over"
-LOOKED, BACK, SUSPECT = "ok", "back", "suspect"
+LOOKED, BACK, REOPENED, SUSPECT = "ok", "back", "reopened", "suspect"
 COUNTS = (BEGIN, AWAY, HEARD, ADDED, STOPPED, ASKED, OVER, SUSPECT)  # words with a number
-ALONE = (OPENED, ANSWERED, GONE, CALLED, TOOK, LOOKED, BACK)
+ALONE = (OPENED, ANSWERED, GONE, CALLED, TOOK, LOOKED, BACK, REOPENED)
 TOO_LARGE = 2**64
 FNV_START, FNV_TIMES = 14695981039346656037, 1099511628211  # of FNV-1a with 64 bits
 
