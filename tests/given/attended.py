@@ -258,6 +258,15 @@ ONE_HOME = dump("rnbqkb1r/pppp1ppp/5n2/4p3/4P3/8/PPPP1PPP/RNBQKBNR")
 D4 = dump("rnbqkbnr/pppp1ppp/8/4p3/3PP3/8/PPP2PPP/RNBQKBNR")
 KNIGHTS = [*SIGNED[:3], heard(2100, BOTH_PAWNS), heard(3100, KNIGHT), heard(4100, BOTH_OUT), heard(6100, DRAWN)]
 KNIGHTS_HOME = [*KNIGHTS, heard(20000, ONE_HOME), heard(25000, BOTH_PAWNS)]
+# The same, kept: the capture, and the first lines of its file of times.
+SIGNED_BYTES = INITIAL + KINGS_PAWN + BLACK_WINS
+SIGNED_TIMES = HEADING + b"0 begin 0\n100 heard 67\n1100 heard 67\n3100 heard 67\n"
+
+
+def signed(more: bytes) -> List[bytes]:
+    """The files of a call before, whose times end with this, and the beginning of a call."""
+    return [kept(SIGNED_TIMES + more, SIGNED_BYTES), b"0 begin 201\n"]
+
 
 # What a host tells; in which answer what is said of the end.
 ENDS = [
@@ -281,6 +290,25 @@ ENDS = [
     ("a move of the set-up", [b"0 begin 0\n", heard(100, HALF), heard(1100, KINGS_PAWN), heard(5000, INITIAL)], [(3, b"begins 201")]),
     ("a call before", captured(INITIAL, KINGS_PAWN, HALF, INITIAL), [(1, b"over UNFINISHED * 134 unsure")]),
     ("a result of one", [*captured(INITIAL, KINGS_PAWN, BLACK_WINS), b"9999 wake\n", b"10000 wake\n"], [(3, b"over STOOD 0-1 201 sure")]),
+    ("an arbiter reopens it", [*SIGNED, b"13100 wake\n", b"14000 reopened\n", b"60000 wake\n"], [(4, b"over STOOD 0-1 201 sure")]),
+    ("before it is over", [*SIGNED, b"13099 reopened\n", b"60000 wake\n"], []),
+    ("as time ends it", [*SIGNED, b"20000 reopened\n", b"60000 wake\n"], []),
+    (
+        "it goes on, and ends again",
+        [*SIGNED, b"13100 wake\n", b"14000 reopened\n", heard(21100, BOTH_PAWNS), heard(41100, HALF), heard(45000, INITIAL)],
+        [(4, b"over STOOD 0-1 201 sure"), (8, b"over UNFINISHED * 268 sure")],
+    ),
+    ("moves after it", [*SIGNED, b"13100 wake\n", b"14000 reopened\n", heard(20000, BOTH_PAWNS), heard(25000, KNIGHT)], [(4, b"over STOOD 0-1 201 sure")]),
+    ("the host has noted that it is over", [*SIGNED, b"13100 wake\n", b"13100 over 201\n", b"0 begin 201\n"], [(4, b"over STOOD 0-1 201 sure"), (6, b"over STOOD 0-1 201 sure")]),
+    ("it hasn't", [*SIGNED, b"13100 wake\n", b"0 begin 201\n", b"9999 wake\n", b"10000 wake\n"], [(4, b"over STOOD 0-1 201 sure"), (7, b"over STOOD 0-1 201 sure")]),
+    ("the computer slept", [*SIGNED, b"20000 stopped 10000\n", b"29999 wake\n", b"30000 wake\n"], [(6, b"over STOOD 0-1 201 sure")]),
+    ("for less", [*SIGNED, b"20000 stopped 9999\n"], [(4, b"over STOOD 0-1 201 sure")]),
+    ("it was over before", [*SIGNED, b"13100 wake\n", b"13100 over 201\n", b"60000 stopped 35000\n", b"90000 wake\n"], [(4, b"over STOOD 0-1 201 sure")]),
+    ("it slept in a call before", [*signed(b"60000 stopped 50000\n65000 over 201\n"), b"9999 wake\n", b"10000 wake\n"], [(4, b"over STOOD 0-1 201 sure")]),
+    ("over in a call before", signed(b"13100 over 201\n"), [(2, b"over STOOD 0-1 201 sure")]),
+    ("noted too soon", [*signed(b"13099 over 201\n"), b"9999 wake\n", b"10000 wake\n"], [(4, b"over STOOD 0-1 201 sure")]),
+    ("reopened in a call before", [*signed(b"13100 over 201\n14000 reopened\n"), b"60000 wake\n"], []),
+    ("two calls before", signed(b"13100 over 201\n0 begin 201\n0 away 35000\n"), [(2, b"over STOOD 0-1 201 sure")]),
 ]
 
 # ---- what is no entry
@@ -298,6 +326,7 @@ NO_ENTRIES = [
         b"5 text 3\n",
         b"5 heard\n",
         b"5 ok 3\n",
+        b"5 reopened 3\n",
         b"5 suspect\n",
         b"18446744073709551616 opened\n",  # 2^64
         b"0 capture 67108865\n",  # more than a capture may have

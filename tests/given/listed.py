@@ -135,7 +135,7 @@ LISTED = [
         sent=b"1 times 2\n67 digest 2582411440320444296\n"
         + b"0 begin 67\n0 away 35000\n5 opened\n5 asked 3\n12 heard 67\n1600 added 5\n3600000 heard 0\n"
         + b"0 begin 139\n59999 answered\n60000 took\n3599999 stopped 86400001\n3661001 called\n36000000 gone\n36000001 over 134\n"
-        + b"36000002 ok\n36000003 back\n36000004 suspect 7\n",
+        + b"36000002 ok\n36000003 back\n36000004 suspect 7\n36000005 reopened\n",
         out=b"generation 2, bytes when it began: 67\n" + b"0:00:00.000 a call begins, bytes in the capture: 67\n"
         + b"0:00:00.000 nobody had listened before this call for 0:00:35.000\n" + b"0:00:00.005 the line is open\n"
         + b"0:00:00.005 the board is asked, bytes sent: 3\n" + b"0:00:00.012 bytes 67 to 133 came\n"
@@ -146,7 +146,7 @@ LISTED = [
         + b"0:59:59.999 nobody had listened for 24:00:00.001\n" + b"1:01:01.001 the serial server is called again\n"
         + b"10:00:00.000 the line has gone away\n" + b"10:00:00.001 the game is over, its bytes: 134\n"
         + b"10:00:00.002 somebody has looked: no alarm is open\n" + b"10:00:00.003 the pieces are to be put where they belong\n"
-        + b"10:00:00.004 the recorder suspects something, its number: 7\n",
+        + b"10:00:00.004 the recorder suspects something, its number: 7\n" + b"10:00:00.005 an arbiter reopens the game\n",
     ),
     but(
         TIMES,

@@ -1,4 +1,5 @@
 mod CourseLemmas
 mod DueLemmas
 mod OnceLemmas
+mod StayLemmas
 mod TakeLemmas

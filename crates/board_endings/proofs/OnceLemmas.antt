@@ -31,7 +31,7 @@ use Rattle.board_endings.specs.Items.{Noted, Sent, bytes_of, events_of}
 use Rattle.board_endings.specs.Laws.{EndsOnce, TellsOnce}
 use Rattle.board_endings.specs.Moves.{TellsMove}
 use Rattle.board_endings.specs.Saying.{IsEnd, end_by}
-use Rattle.board_endings.specs.Telling.{TellsEvent, TellsNew, TellsPicture, TellsResult, game_by, happening_of, happens, is_new, timed, with_picture}
+use Rattle.board_endings.specs.Telling.{TellsEvent, TellsNew, TellsPicture, TellsResult, game_by, happening_of, is_new, timed, with_news, with_picture}
 
 bit_same : (x y : ℕ) → x < 2 → y < 2 → (x ≡ 1 → y ≡ 1) → (y ≡ 1 → x ≡ 1) → x ≡ y
 bit_same x y a b f g = elim (cases_eq x 1) [
@@ -101,7 +101,7 @@ tells_once setting [] a b valid g h = g ∙ sym h
 tells_once setting (Sent at added bytes event ∷ items) a b valid g h =
     event_once (is_new setting (events_of items) event) setting (events_of items) at added bytes event g.0 h.0 a b valid (tells_once setting items g.0 h.0 valid g.1 h.1) g.2 h.2
 tells_once setting (Noted at news ∷ items) a b valid g h =
-    g.2 ∙ ap (λ (l : List Event). happens at (bytes_of items) (happening_of news) ∷ l) (tells_once setting items g.0 h.0 valid g.1 h.1) ∙ sym h.2
+    g.2 ∙ ap (λ (l : List Event). with_news at (bytes_of items) (happening_of news) l) (tells_once setting items g.0 h.0 valid g.1 h.1) ∙ sym h.2
 
 end_once : SaidInOneWay → (past : List Event) (a b : End) → IsEnd past a → IsEnd past b → a ≡ b
 end_once one [] a b g h = g ∙ sym h

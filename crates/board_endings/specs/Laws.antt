@@ -1,11 +1,12 @@
 -- What holds of each history. Items are listed with the latest first.
-use Rattle.std.specs.Prelude.{◌≡◌, ◌<◌, ◌≤◌, ◌^◌, ℕ, List, Option}
+use Rattle.std.specs.Prelude.{◌≡◌, ◌<◌, ◌≤◌, ◌^◌, ◌∷◌, ℕ, true, List, Option, is_some}
 use Rattle.chess_rules.specs.Valid.{Valid}
 use Rattle.board_events.specs.Settings.{Setting}
 use Rattle.square_runs.specs.Lasting.{IsBefore}
 use Rattle.game_over.specs.declared.happened.Event.{Event}
 use Rattle.board_endings.specs.declared.news.End.{End}
-use Rattle.board_endings.specs.Items.{Item}
+use Rattle.board_endings.specs.declared.news.News.TheVariants.{Begins, Passes}
+use Rattle.board_endings.specs.Items.{Item, Noted}
 use Rattle.board_endings.specs.Saying.{IsDueAt, IsEndAt}
 use Rattle.board_endings.specs.Telling.{Tells}
 
@@ -21,3 +22,8 @@ EndsOnce = (setting : Setting) (items : List Item) (now : ℕ) (a b : End) → V
 abbrev pub SameUntilDue : Type 0
 SameUntilDue = (setting : Setting) (items : List Item) (now later : ℕ) (due : Option ℕ) (end : End) → Valid setting.start → now ≤ later → later < 2 ^ 64
     → IsBefore later due → IsDueAt setting items now due → IsEndAt setting items now end → IsEndAt setting items later end
+
+-- If a game is over at some time, and it was told then that time has passed, the game stays so when a recorder begins.
+abbrev pub StaysOver : Type 0
+StaysOver = (setting : Setting) (items : List Item) (at later now : ℕ) (end : End) → is_some end.over ≡ true → IsEndAt setting items at end
+    → IsEndAt setting (Noted later Begins ∷ Noted at Passes ∷ items) now end

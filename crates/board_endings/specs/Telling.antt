@@ -24,7 +24,7 @@ use Rattle.game_over.specs.declared.happened.Outcome.{Outcome}
 use Rattle.game_over.specs.declared.happened.Outcome.TheVariants.{WhiteWins, BlackWins, Draw}
 use Rattle.game_over.specs.Over.{ended_by, passes}
 use Rattle.board_endings.specs.declared.news.News.{News}
-use Rattle.board_endings.specs.declared.news.News.TheVariants.{Begins, GoesBack, Reopens}
+use Rattle.board_endings.specs.declared.news.News.TheVariants.{Begins, GoesBack, Reopens, Passes}
 use Rattle.board_endings.specs.declared.picture.Told.{Told}
 use Rattle.board_endings.specs.Items.{Item, Noted, Sent, bytes_of, events_of}
 use Rattle.board_endings.specs.Moves.{TellsMove}
@@ -105,11 +105,16 @@ TellsEvent false setting past at added bytes event earlier told = told ≡ earli
 TellsEvent true setting past at added bytes event earlier told = (picture : Told) × TellsNew setting past added event picture
     × (told ≡ with_picture at bytes picture earlier)
 
--- Nobody listened before a recorder begins: no time has ended the game by then.
-abbrev pub happening_of : News → Happening
-happening_of Begins = Resumes
-happening_of GoesBack = HasGoneBack
-happening_of Reopens = IsReopened
+-- What news tell, if more than that time has passed. Nobody listened before a recorder begins: no time has ended the game by then.
+abbrev pub happening_of : News → Option Happening
+happening_of Begins = Some Resumes
+happening_of GoesBack = Some HasGoneBack
+happening_of Reopens = Some IsReopened
+happening_of Passes = None
+
+abbrev pub with_news : ℕ → ℕ → Option Happening → List Event → List Event
+with_news at bytes None past = timed at bytes past
+with_news at bytes (Some what) past = happens at bytes what ∷ past
 
 -- This is told of these items.
 abbrev pub Tells : Setting → List Item → List Event → Type 0
@@ -117,4 +122,4 @@ Tells setting [] told = told ≡ []
 Tells setting (Sent at added bytes event ∷ items) told = (earlier : List Event) × Tells setting items earlier
     × TellsEvent (is_new setting (events_of items) event) setting (events_of items) at added bytes event earlier told
 Tells setting (Noted at news ∷ items) told = (earlier : List Event) × Tells setting items earlier
-    × (told ≡ happens at (bytes_of items) (happening_of news) ∷ earlier)
+    × (told ≡ with_news at (bytes_of items) (happening_of news) earlier)

@@ -18,18 +18,19 @@ use board_alarms::When;
 use board_events::Session;
 use chess_game::result_at;
 use chess_rules::Position;
-use game_over::{Event, Happening};
+use game_over::Happening;
 use settle_core::Outcome;
 use std::alloc::{AllocError, Global};
 
-/// What news are to a game.
-fn happening(news: News) -> Happening
+/// What news are to a game, if they are more than that time has passed.
+fn happening(news: News) -> Option<Happening>
     ensures { result ≡ happening_of news }
 {
     match news {
-        News::Begins => Happening::Resumes,
-        News::GoesBack => Happening::GoesBack,
-        News::Reopens => Happening::Reopens,
+        News::Begins => Some(Happening::Resumes),
+        News::GoesBack => Some(Happening::GoesBack),
+        News::Reopens => Some(Happening::Reopens),
+        News::Passes => None,
     }
 }
 
@@ -108,11 +109,7 @@ impl Endings {
     pub fn note(&mut self, at: u64, news: News) -> Result<(), AllocError>
         ensures { (setting : Setting) (items : List Item) → StandsFor self.old setting items → OnOk result (StandsFor self.new setting (Noted at news ∷ items)) }
     {
-        self.judging.take(Event {
-            at,
-            bytes: self.bytes,
-            what: happening(news),
-        })
+        self.judging.take_news(at, self.bytes, happening(news))
     }
 
     /// How the game stands with its end at this time, which is none before the last at which something came.

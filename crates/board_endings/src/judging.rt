@@ -6,7 +6,7 @@ ghost use Rattle.game_over.specs.Over.{ended_by, passes};
 ghost use Rattle.game_over.specs.Result.{has_come};
 ghost use Rattle.board_endings.specs.Keeping.{HasJudged};
 ghost use Rattle.board_endings.specs.Saying.{IsEnd, end_by, no_end, reopened as reopened_of};
-ghost use Rattle.board_endings.specs.Telling.{happens, timed, with_ended, with_picture};
+ghost use Rattle.board_endings.specs.Telling.{happens, timed, with_ended, with_news, with_picture};
 
 use crate::news::End;
 use crate::picture::Told;
@@ -136,6 +136,21 @@ impl Judging {
             bytes,
             what: Happening::Shows(shown),
         })
+    }
+
+    /// Tells what news tell, or that time has passed.
+    pub fn take_news(
+        &mut self,
+        at: u64,
+        bytes: u64,
+        told: Option<Happening>,
+    ) -> Result<(), AllocError>
+        ensures { (past : List EventOf) → HasJudged self.old past → OnOk result (HasJudged self.new (with_news at bytes told past)) }
+    {
+        match told {
+            None => self.pass(at, bytes),
+            Some(what) => self.take(Event { at, bytes, what }),
+        }
     }
 
     /// Tells what a picture tells that came then, with so many bytes.

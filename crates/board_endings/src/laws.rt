@@ -1,5 +1,5 @@
 //! What holds of each history. Each law is the contract of a function, which does nothing.
-ghost use Rattle.board_endings.specs.Laws.{EndsOnce, SameUntilDue, TellsOnce};
+ghost use Rattle.board_endings.specs.Laws.{EndsOnce, SameUntilDue, StaysOver, TellsOnce};
 
 use game_over::laws::said_in_one_way;
 
@@ -19,4 +19,9 @@ pub fn ends_once()
 /// Until time is due to end the game, it stands as it does now.
 pub fn same_until_due()
     ensures { SameUntilDue }
+{}
+
+/// If a game is over at some time, and it was told then that time has passed, the game stays so when a recorder begins.
+pub fn stays_over()
+    ensures { StaysOver }
 {}

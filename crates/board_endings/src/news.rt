@@ -5,12 +5,14 @@ use game_over::Over;
 /// What comes beside the events of a board.
 #[derive(Clone, Copy)]
 pub enum News {
-    /// A recorder begins: nobody listened before.
+    /// A recorder begins, or goes on: nobody listened before.
     Begins,
     /// The game has gone back: all that came so far was written for that.
     GoesBack,
     /// An arbiter takes the result off, or says that the game isn't over.
     Reopens,
+    /// Time has passed: if it alone has ended the game by now, the game stays so.
+    Passes,
 }
 
 /// How a game stands with its end.

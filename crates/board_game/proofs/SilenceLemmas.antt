@@ -35,7 +35,7 @@ use Rattle.board_standing.specs.declared.state.Kind.{Kind}
 use Rattle.board_standing.specs.declared.state.Kind.TheVariants.{Waits, Agrees, Ended, InHand, Wrong, NoStart, SettingUp, Silent, Unplugged}
 use Rattle.pair_frames.specs.PutIn.{put_in}
 use Rattle.board_game.specs.declared.note.Note.{Note}
-use Rattle.board_game.specs.declared.note.Note.TheVariants.{Line, Looked, PutsBack, Suspects}
+use Rattle.board_game.specs.declared.note.Note.TheVariants.{Line, Looked, PutsBack, Reopens as IsReopened, Passes, Resumes, Suspects}
 use Rattle.board_game.specs.Alarming.{AlarmsAre, alarm_items, news_of, of_line, with_news}
 use Rattle.board_game.specs.Ending.{IsEndOf, end_items, end_news, end_of_line, with_end_news}
 use Rattle.board_game.specs.Hearing.{Hears, HearsEvent, HearsPicture, HearsResult, IsHeard, heard_of, with_heard}
@@ -182,6 +182,9 @@ hears_quiet setting (Noted at (Line what) ∷ items) heard h =
     (line_quiet (is_silence what) setting at what (quiet items) (quiet_heard h.0) (hears_quiet setting items h.0 h.1))
 hears_quiet setting (Noted at Looked ∷ items) heard h = (quiet_heard h.0, hears_quiet setting items h.0 h.1, ap (λ (l : List Told). quiet_heard l) h.2)
 hears_quiet setting (Noted at PutsBack ∷ items) heard h = (quiet_heard h.0, hears_quiet setting items h.0 h.1, ap (λ (l : List Told). quiet_heard l) h.2)
+hears_quiet setting (Noted at IsReopened ∷ items) heard h = (quiet_heard h.0, hears_quiet setting items h.0 h.1, ap (λ (l : List Told). quiet_heard l) h.2)
+hears_quiet setting (Noted at Passes ∷ items) heard h = (quiet_heard h.0, hears_quiet setting items h.0 h.1, ap (λ (l : List Told). quiet_heard l) h.2)
+hears_quiet setting (Noted at Resumes ∷ items) heard h = (quiet_heard h.0, hears_quiet setting items h.0 h.1, ap (λ (l : List Told). quiet_heard l) h.2)
 hears_quiet setting (Noted at (Suspects n) ∷ items) heard h = (quiet_heard h.0, hears_quiet setting items h.0 h.1, ap (λ (l : List Told). quiet_heard l) h.2)
 
 -- ---- what is read of it
@@ -421,6 +424,9 @@ quiet_alarms (Noted at (Line what) ∷ items) =
     line_alarms (is_silence what) at what (quiet items) refl ∙ ap (λ (is : List AlarmItem). with_news at (of_line what) is) (quiet_alarms items)
 quiet_alarms (Noted at Looked ∷ items) = ap (λ (is : List AlarmItem). with_news at (news_of Looked) is) (quiet_alarms items)
 quiet_alarms (Noted at PutsBack ∷ items) = ap (λ (is : List AlarmItem). with_news at (news_of PutsBack) is) (quiet_alarms items)
+quiet_alarms (Noted at IsReopened ∷ items) = quiet_alarms items
+quiet_alarms (Noted at Passes ∷ items) = quiet_alarms items
+quiet_alarms (Noted at Resumes ∷ items) = quiet_alarms items
 quiet_alarms (Noted at (Suspects n) ∷ items) = ap (λ (is : List AlarmItem). with_news at (news_of (Suspects n)) is) (quiet_alarms items)
 
 alarms_alike : ShowsOnce → RecoversOnce → AlarmsOpenOnce → (setting : Setting) (recovers : Bool) (one other : List Came) (a b : List Look) → Valid setting.start
@@ -458,6 +464,9 @@ quiet_ends (Noted at (Line what) ∷ items) =
     line_ends (is_silence what) at what (quiet items) refl ∙ ap (λ (is : List EndItem). with_end_news at (end_of_line what) is) (quiet_ends items)
 quiet_ends (Noted at Looked ∷ items) = ap (λ (is : List EndItem). with_end_news at (end_news Looked) is) (quiet_ends items)
 quiet_ends (Noted at PutsBack ∷ items) = ap (λ (is : List EndItem). with_end_news at (end_news PutsBack) is) (quiet_ends items)
+quiet_ends (Noted at IsReopened ∷ items) = ap (λ (is : List EndItem). with_end_news at (end_news IsReopened) is) (quiet_ends items)
+quiet_ends (Noted at Passes ∷ items) = ap (λ (is : List EndItem). with_end_news at (end_news Passes) is) (quiet_ends items)
+quiet_ends (Noted at Resumes ∷ items) = ap (λ (is : List EndItem). with_end_news at (end_news Resumes) is) (quiet_ends items)
 quiet_ends (Noted at (Suspects n) ∷ items) = ap (λ (is : List EndItem). with_end_news at (end_news (Suspects n)) is) (quiet_ends items)
 
 ends_alike : ShowsOnce → RecoversOnce → EndingsAreOne → (setting : Setting) (recovers : Bool) (one other : List Came) (now : ℕ) (a b : End) → Valid setting.start

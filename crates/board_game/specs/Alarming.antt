@@ -9,7 +9,7 @@ use Rattle.board_alarms.specs.declared.news.News.TheVariants.{Gone, Begins, Puts
 use Rattle.board_alarms.specs.Hearing.{AreOpen}
 use Rattle.board_alarms.specs.Items.{Item as AlarmItem, Sent as Comes, Noted as Notes}
 use Rattle.board_game.specs.declared.note.Note.{Note}
-use Rattle.board_game.specs.declared.note.Note.TheVariants.{Line, Looked, PutsBack, Suspects}
+use Rattle.board_game.specs.declared.note.Note.TheVariants.{Line, Looked, PutsBack, Reopens, Passes, Resumes, Suspects}
 use Rattle.board_game.specs.History.{Came, Item, Makes, Noted, Pair, Sent}
 
 -- what news of the line are to alarms: that it is gone, or that a recorder begins
@@ -22,6 +22,9 @@ abbrev pub news_of : Note → Option News
 news_of (Line heard) = of_line heard
 news_of Looked = Some HasLooked
 news_of PutsBack = Some MustPutBack
+news_of Reopens = None
+news_of Passes = None
+news_of Resumes = None
 news_of (Suspects n) = Some (IsSuspected n)
 
 abbrev pub with_news : ℕ → Option News → List AlarmItem → List AlarmItem

@@ -3,13 +3,13 @@ use Rattle.std.specs.Prelude.{◌+◌, ℕ, Bool, List, [], ◌∷◌, Option, S
 use Rattle.board_events.specs.Settings.{Setting}
 use Rattle.board_endings.specs.declared.news.End.{End}
 use Rattle.board_endings.specs.declared.news.News.{News}
-use Rattle.board_endings.specs.declared.news.News.TheVariants.{Begins, GoesBack}
+use Rattle.board_endings.specs.declared.news.News.TheVariants.{Begins, GoesBack, Reopens, Passes}
 use Rattle.board_endings.specs.Items.{Item as EndItem, Sent as Comes, Noted as Notes}
 use Rattle.board_endings.specs.Saying.{IsDueAt, IsEndAt}
 use Rattle.board_standing.specs.declared.heard.Heard.{Heard}
 use Rattle.board_standing.specs.declared.heard.Heard.TheVariants.{Begins as RecorderBegins}
 use Rattle.board_game.specs.declared.note.Note.{Note}
-use Rattle.board_game.specs.declared.note.Note.TheVariants.{Line, Looked, PutsBack, Suspects}
+use Rattle.board_game.specs.declared.note.Note.TheVariants.{Line, Looked, PutsBack, Reopens as IsReopened, Passes as HasPassed, Resumes, Suspects}
 use Rattle.board_game.specs.History.{Came, Item, Makes, Noted, Pair, Sent}
 
 -- what news of the line are to the end of a game: that a recorder begins
@@ -17,11 +17,15 @@ abbrev pub end_of_line : Heard → Option News
 end_of_line RecorderBegins = Some Begins
 end_of_line other = None
 
--- What came before plies are taken off, or a game is taken up, was written for that.
+-- What came before plies are taken off, or a game is taken up, was written for that. If nobody listened for a time, that is as if a
+-- recorder began.
 abbrev pub end_news : Note → Option News
 end_news (Line heard) = end_of_line heard
 end_news Looked = None
 end_news PutsBack = Some GoesBack
+end_news IsReopened = Some Reopens
+end_news HasPassed = Some Passes
+end_news Resumes = Some Begins
 end_news (Suspects n) = None
 
 abbrev pub with_end_news : ℕ → Option News → List EndItem → List EndItem

@@ -16,7 +16,7 @@ use Rattle.board_standing.specs.declared.heard.Heard.{Heard}
 use Rattle.board_standing.specs.declared.heard.Heard.TheVariants.{Shows, Repeats, Moves, Ends, Reopens}
 use Rattle.board_standing.specs.declared.heard.Picture.{Picture}
 use Rattle.board_game.specs.declared.note.Note.{Note}
-use Rattle.board_game.specs.declared.note.Note.TheVariants.{Line, Looked, PutsBack, Suspects}
+use Rattle.board_game.specs.declared.note.Note.TheVariants.{Line, Looked, PutsBack, Reopens as IsReopened, Passes, Resumes, Suspects}
 use Rattle.board_game.specs.History.{Came, Item, Sent, Pair, Noted, Makes, events_of}
 
 -- The mask has exactly the squares on which two pictures differ.
@@ -81,6 +81,9 @@ abbrev pub heard_of : Note → Option Heard
 heard_of (Line heard) = Some heard
 heard_of Looked = None
 heard_of PutsBack = None
+heard_of IsReopened = None
+heard_of Passes = None
+heard_of Resumes = None
 heard_of (Suspects n) = None
 
 -- This is heard of these items. A pair is heard by the events that are put in for it.

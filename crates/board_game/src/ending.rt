@@ -35,6 +35,9 @@ fn news_of(note: Note) -> Option<News>
     match note {
         Note::Line(heard) => of_line(heard),
         Note::PutsBack => Some(News::GoesBack),
+        Note::Reopens => Some(News::Reopens),
+        Note::Passes => Some(News::Passes),
+        Note::Resumes => Some(News::Begins),
         Note::Looked | Note::Suspects(_) => None,
     }
 }

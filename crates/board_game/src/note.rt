@@ -11,6 +11,12 @@ pub enum Note {
     Looked,
     /// Plies were taken off, or the game is taken up: the pieces are to be put where they belong, if they don't stand there.
     PutsBack,
+    /// An arbiter reopens the game: he has taken its result off, or says that it isn't over.
+    Reopens,
+    /// Time has passed: if it alone has ended the game by now, the game stays so.
+    Passes,
+    /// Nobody listened for a time, in which a result may have been taken back.
+    Resumes,
     /// Something is suspected that no board shows. Who tells it knows by this number what it is.
     Suspects(u64),
 }

@@ -120,7 +120,7 @@ fn heard_of(note: Note) -> Option<Heard>
 {
     match note {
         Note::Line(heard) => Some(heard),
-        Note::Looked | Note::PutsBack | Note::Suspects(_) => None,
+        _ => None,
     }
 }
 
@@ -143,6 +143,7 @@ fn news_of(note: Note) -> Option<News>
         Note::Line(heard) => of_line(heard),
         Note::Looked => Some(News::Looked),
         Note::PutsBack => Some(News::PutsBack),
+        Note::Reopens | Note::Passes | Note::Resumes => None,
         Note::Suspects(n) => Some(News::Suspects(n)),
     }
 }

@@ -14,7 +14,7 @@ use Rattle.board_cable.specs.Moments.{Moment as CableMoment, is_heard, sent, str
 use Rattle.board_cable.specs.Turns.{Tells, Told, Turn, handling_of, told}
 use Rattle.board_game.specs.History.{Came}
 use Rattle.board_game.specs.declared.note.Note.{Note}
-use Rattle.board_game.specs.declared.note.Note.TheVariants.{Line as LineNews, Looked, PutsBack, Suspects}
+use Rattle.board_game.specs.declared.note.Note.TheVariants.{Line as LineNews, Looked, PutsBack, Reopens, Passes, Resumes, Suspects}
 use Rattle.board_standing.specs.declared.heard.Heard.TheVariants.{Answers}
 use Rattle.board_live.specs.declared.happened.What.{What}
 use Rattle.board_live.specs.declared.happened.What.TheVariants.{Cable, Keeps, KeepsAdded, Notes, Tells as Telling}
@@ -96,6 +96,9 @@ fed_told at None past has fed = fed
 fed_told at (Some (LineNews heard)) past has fed = fed_more (record { at = at; what = Telling heard; bytes = [] }) past has refl refl fed
 fed_told at (Some Looked) past has fed = fed_more (record { at = at; what = Notes Looked; bytes = [] }) past has refl refl fed
 fed_told at (Some PutsBack) past has fed = fed_more (record { at = at; what = Notes PutsBack; bytes = [] }) past has refl refl fed
+fed_told at (Some Reopens) past has fed = fed_more (record { at = at; what = Notes Reopens; bytes = [] }) past has refl refl fed
+fed_told at (Some Passes) past has fed = fed_more (record { at = at; what = Notes Passes; bytes = [] }) past has refl refl fed
+fed_told at (Some Resumes) past has fed = fed_more (record { at = at; what = Notes Resumes; bytes = [] }) past has refl refl fed
 fed_told at (Some (Suspects n)) past has fed = fed_more (record { at = at; what = Notes (Suspects n); bytes = [] }) past has refl refl fed
 
 pub fed_kept : (at : ℕ) (added : Bool) (bytes : List ℕ) (past : List Moment) (has : List Came) → Fed past has → Fed (with_kept at added bytes past) (with_bytes (when at added) bytes has)

@@ -5,7 +5,7 @@ use Rattle.board_cable.specs.Keeping.{kept}
 use Rattle.board_cable.specs.Turns.{Told, Turn}
 use Rattle.board_game.specs.History.{Came}
 use Rattle.board_game.specs.declared.note.Note.{Note}
-use Rattle.board_game.specs.declared.note.Note.TheVariants.{Line as LineNews, Looked, PutsBack, Suspects}
+use Rattle.board_game.specs.declared.note.Note.TheVariants.{Line as LineNews, Looked, PutsBack, Reopens, Passes, Resumes, Suspects}
 use Rattle.board_live.specs.declared.happened.What.TheVariants.{Keeps, KeepsAdded, Notes, Tells as Telling}
 use Rattle.board_live.specs.Coming.{when, with_bytes, with_news}
 use Rattle.board_live.specs.Laws.{with_kept, with_told}
@@ -43,6 +43,9 @@ files_told at None past filed f = f
 files_told at (Some (LineNews heard)) past filed f = files_more (record { at = at; what = Telling heard; bytes = [] }) past filed refl refl f
 files_told at (Some Looked) past filed f = files_more (record { at = at; what = Notes Looked; bytes = [] }) past filed refl refl f
 files_told at (Some PutsBack) past filed f = files_more (record { at = at; what = Notes PutsBack; bytes = [] }) past filed refl refl f
+files_told at (Some Reopens) past filed f = files_more (record { at = at; what = Notes Reopens; bytes = [] }) past filed refl refl f
+files_told at (Some Passes) past filed f = files_more (record { at = at; what = Notes Passes; bytes = [] }) past filed refl refl f
+files_told at (Some Resumes) past filed f = files_more (record { at = at; what = Notes Resumes; bytes = [] }) past filed refl refl f
 files_told at (Some (Suspects n)) past filed f = files_more (record { at = at; what = Notes (Suspects n); bytes = [] }) past filed refl refl f
 
 pub files_kept : (at : ℕ) (added : Bool) (bytes : List ℕ) (past filed : List Moment) → Files past filed → Files (with_kept at added bytes past) (with_kept at added bytes filed)

@@ -8,7 +8,7 @@ use Rattle.board_cable.specs.Keeping.{kept}
 use Rattle.board_cable.specs.Turns.{Told, Turn, handling_of, request_of, told}
 use Rattle.board_events.specs.Settings.{Setting}
 use Rattle.board_game.specs.declared.note.Note.{Note}
-use Rattle.board_game.specs.declared.note.Note.TheVariants.{Line, Looked, PutsBack, Suspects}
+use Rattle.board_game.specs.declared.note.Note.TheVariants.{Line, Looked, PutsBack, Reopens, Passes, Resumes, Suspects}
 use Rattle.board_standing.specs.declared.state.State.{State}
 use Rattle.board_live.specs.declared.happened.What.{What}
 use Rattle.board_live.specs.declared.happened.What.TheVariants.{Cable, Keeps, KeepsAdded, Tells, Notes}
@@ -43,6 +43,9 @@ abbrev pub told_as : Note → What
 told_as (Line heard) = Tells heard
 told_as Looked = Notes Looked
 told_as PutsBack = Notes PutsBack
+told_as Reopens = Notes Reopens
+told_as Passes = Notes Passes
+told_as Resumes = Notes Resumes
 told_as (Suspects n) = Notes (Suspects n)
 
 abbrev pub with_told : ℕ → Option Note → List Moment → List Moment

@@ -3,13 +3,16 @@ ghost use Rattle.std.specs.Prelude.{◌≡◌};
 ghost use Rattle.std.specs.Str.{bytes_eq};
 ghost use Rattle.board_cable.specs.Moments.{sent};
 ghost use Rattle.board_live.specs.Coming.{lined, silence};
-ghost use Rattle.board_live.specs.Moments.{already, at_cable, begins, cable_moment, is_added, moment_of, news_of};
+ghost use Rattle.board_live.specs.Moments.{already, at_cable, begins, cable_moment, is_added, moment_of, news_of, stopped};
 ghost use Rattle.board_live.specs.Numbers.{is_number, is_told, number_news};
 ghost use Rattle.board_live.specs.Saying.{live_by};
 
 use board_cable::{Happened as Cabled, What as AtCable};
 use board_game::Note;
 use board_standing::Heard;
+
+/// A board that is quiet for so long isn't heard.
+const QUIET: u64 = 10_000;
 
 /// What happens.
 #[derive(Clone, Copy)]
@@ -18,6 +21,8 @@ pub enum What {
     Cable(AtCable),
     /// Bytes were added by hand: they are in the capture already.
     Adds,
+    /// Nobody listened for so many milliseconds.
+    Stops(u64),
     /// Of a call before this one: the capture got these bytes from the board.
     Keeps,
     /// Of a call before this one: these bytes were added by hand.
@@ -41,7 +46,7 @@ fn at_cable(what: What) -> AtCable
 {
     match what {
         What::Cable(what) => what,
-        What::Adds => AtCable::Interrupts,
+        What::Adds | What::Stops(_) => AtCable::Interrupts,
         What::Keeps | What::KeepsAdded | What::Tells(_) | What::Notes(_) => AtCable::Wakes,
     }
 }
@@ -92,6 +97,17 @@ pub fn lined(heard: Option<Heard>) -> Option<Note>
     }
 }
 
+/// What it tells that nobody listened for so long.
+pub fn stopped(time: u64) -> Option<Note>
+    ensures { result ≡ stopped time }
+{
+    if time < QUIET {
+        None
+    } else {
+        Some(Note::Resumes)
+    }
+}
+
 /// What comes of the game beside its bytes.
 pub fn news_of(what: What) -> Option<Note>
     ensures { result ≡ news_of what }
@@ -100,6 +116,7 @@ pub fn news_of(what: What) -> Option<Note>
         What::Cable(AtCable::Begins) => Some(Note::Line(Heard::Begins)),
         What::Cable(AtCable::Opens) => Some(Note::Line(Heard::Plugs)),
         What::Cable(AtCable::Closes) => Some(Note::Line(Heard::Unplugs)),
+        What::Stops(time) => stopped(time),
         What::Tells(heard) => Some(Note::Line(heard)),
         What::Notes(note) => Some(note),
         _ => None,

@@ -13,5 +13,5 @@ pub mod laws;
 mod live;
 mod saying;
 
-pub use happened::{Happened, What};
+pub use happened::{Happened, What, stopped};
 pub use live::{Answer, Live};

@@ -2,11 +2,11 @@
 use Rattle.std.proofs.Common.{◌≡◌, ℕ, Bool, true, false, List, [], ◌∷◌, ◌++◌, Option, Some, None, refl, sym, ap, ◌∙◌}
 use Rattle.std.proofs.lemmas.List.{append_assoc, append-nil}
 use Rattle.board_times.specs.declared.words.Word.{Word}
-use Rattle.board_times.specs.declared.words.Word.TheVariants.{Version, Digest, Begin, Away, Opened, Answered, Gone, Called, Heard, Added, Stopped, Asked, Took, Over, Looked, Back, Suspect, Wake, Lent, Number, Kept, Capture, Text}
+use Rattle.board_times.specs.declared.words.Word.TheVariants.{Version, Digest, Begin, Away, Opened, Answered, Gone, Called, Heard, Added, Stopped, Asked, Took, Over, Looked, Back, Reopened, Suspect, Wake, Lent, Number, Kept, Capture, Text}
 use Rattle.board_times.specs.declared.lines.Tail.{Tail}
 use Rattle.board_times.specs.declared.lines.Line.{Line}
 use Rattle.board_times.specs.declared.events.What.{What}
-use Rattle.board_times.specs.declared.events.What.TheVariants.{Begins, IsAway, Opens, Answers, Goes, Calls, Hears, Adds, Stops, Asks, Takes, Ends, Looks, PutsBack, Suspects}
+use Rattle.board_times.specs.declared.events.What.TheVariants.{Begins, IsAway, Opens, Answers, Goes, Calls, Hears, Adds, Stops, Asks, Takes, Ends, Looks, PutsBack, Reopens, Suspects}
 use Rattle.board_times.specs.declared.events.Event.{Event}
 use Rattle.board_times.specs.Lines.{Fits, line_text}
 use Rattle.board_times.specs.Times.{AllFit, BeginsNoEvent, line_of, lines_of, tail_of}
@@ -28,6 +28,7 @@ what_back Takes = refl
 what_back (Ends n) = refl
 what_back Looks = refl
 what_back PutsBack = refl
+what_back Reopens = refl
 what_back (Suspects n) = refl
 
 pub event_back : (event : Event) → event_of (line_of event) ≡ Some event
@@ -77,6 +78,8 @@ tail_is Looked None = refl
 tail_is Looked (Some n) = refl
 tail_is Back None = refl
 tail_is Back (Some n) = refl
+tail_is Reopened None = refl
+tail_is Reopened (Some n) = refl
 tail_is Suspect None = refl
 tail_is Suspect (Some n) = refl
 tail_is Wake None = refl

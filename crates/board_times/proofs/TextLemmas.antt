@@ -9,7 +9,7 @@ use Rattle.std.proofs.lemmas.Bool.{and_parts, cases_eq, eq-eqb, ne_eqb}
 use Rattle.std.proofs.lemmas.Fmt.{decimal_injective, decimal_is_IsNumeral}
 use Rattle.std.proofs.lemmas.List.{append_assoc, append-nil}
 use Rattle.board_times.specs.declared.words.Word.{Word}
-use Rattle.board_times.specs.declared.words.Word.TheVariants.{Version, Digest, Begin, Away, Opened, Answered, Gone, Called, Heard, Added, Stopped, Asked, Took, Over, Looked, Back, Suspect, Wake, Lent, Number, Kept, Capture, Text}
+use Rattle.board_times.specs.declared.words.Word.TheVariants.{Version, Digest, Begin, Away, Opened, Answered, Gone, Called, Heard, Added, Stopped, Asked, Took, Over, Looked, Back, Reopened, Suspect, Wake, Lent, Number, Kept, Capture, Text}
 use Rattle.board_times.specs.declared.lines.Tail.{Tail}
 use Rattle.board_times.specs.declared.lines.Line.{Line}
 use Rattle.board_times.specs.Words.{word_text}
@@ -109,6 +109,7 @@ word_back Took = refl
 word_back Over = refl
 word_back Looked = refl
 word_back Back = refl
+word_back Reopened = refl
 word_back Suspect = refl
 word_back Wake = refl
 word_back Lent = refl
@@ -134,6 +135,7 @@ word_lacks_blank Took = refl
 word_lacks_blank Over = refl
 word_lacks_blank Looked = refl
 word_lacks_blank Back = refl
+word_lacks_blank Reopened = refl
 word_lacks_blank Suspect = refl
 word_lacks_blank Wake = refl
 word_lacks_blank Lent = refl
@@ -159,6 +161,7 @@ word_lacks_feed Took = refl
 word_lacks_feed Over = refl
 word_lacks_feed Looked = refl
 word_lacks_feed Back = refl
+word_lacks_feed Reopened = refl
 word_lacks_feed Suspect = refl
 word_lacks_feed Wake = refl
 word_lacks_feed Lent = refl
@@ -196,6 +199,7 @@ word_text_read text =
     text_step text (bytes_eq text (codes "over")) Over _ (bytes_eq-Decides text (codes "over")).0 (
     text_step text (bytes_eq text (codes "ok")) Looked _ (bytes_eq-Decides text (codes "ok")).0 (
     text_step text (bytes_eq text (codes "back")) Back _ (bytes_eq-Decides text (codes "back")).0 (
+    text_step text (bytes_eq text (codes "reopened")) Reopened _ (bytes_eq-Decides text (codes "reopened")).0 (
     text_step text (bytes_eq text (codes "suspect")) Suspect _ (bytes_eq-Decides text (codes "suspect")).0 (
     text_step text (bytes_eq text (codes "wake")) Wake _ (bytes_eq-Decides text (codes "wake")).0 (
     text_step text (bytes_eq text (codes "lent")) Lent _ (bytes_eq-Decides text (codes "lent")).0 (
@@ -203,7 +207,7 @@ word_text_read text =
     text_step text (bytes_eq text (codes "kept")) Kept _ (bytes_eq-Decides text (codes "kept")).0 (
     text_step text (bytes_eq text (codes "capture")) Capture _ (bytes_eq-Decides text (codes "capture")).0 (
     text_step text (bytes_eq text (codes "text")) Text _ (bytes_eq-Decides text (codes "text")).0 (
-    refl)))))))))))))))))))))))
+    refl))))))))))))))))))))))))
 
 pub word_is : (text : List ℕ) (word : Word) → word_read text ≡ Some word → text ≡ word_text word
 unfolding text_or

@@ -2,7 +2,7 @@
 -- stand in their order.
 use Rattle.std.specs.Prelude.{ℕ, ◌+◌, ◌-◌, ◌/◌, ◌%◌, ◌==◌, nat_lt, List, [], ◌∷◌, ◌++◌, codes, decimal, if◌then◌else◌}
 use Rattle.board_times.specs.declared.events.What.{What}
-use Rattle.board_times.specs.declared.events.What.TheVariants.{Begins, IsAway, Opens, Answers, Goes, Calls, Hears, Adds, Stops, Asks, Takes, Ends, Looks, PutsBack, Suspects}
+use Rattle.board_times.specs.declared.events.What.TheVariants.{Begins, IsAway, Opens, Answers, Goes, Calls, Hears, Adds, Stops, Asks, Takes, Ends, Looks, PutsBack, Reopens, Suspects}
 use Rattle.board_times.specs.declared.events.Event.{Event}
 use Rattle.board_times.specs.declared.events.Heading.{Heading}
 use Rattle.board_times.specs.declared.reading.Kept.{Kept}
@@ -39,6 +39,7 @@ words_of Takes before behind = codes "the arbiter takes the board on the cable"
 words_of (Ends size) before behind = codes "the game is over, its bytes: " ++ decimal size
 words_of Looks before behind = codes "somebody has looked: no alarm is open"
 words_of PutsBack before behind = codes "the pieces are to be put where they belong"
+words_of Reopens before behind = codes "an arbiter reopens the game"
 words_of (Suspects n) before behind = codes "the recorder suspects something, its number: " ++ decimal n
 
 -- the line of an event: its time in its call, and what happened

@@ -1,7 +1,7 @@
 -- The words of the file of times, and behind them those of a host alone.
 use Rattle.std.specs.Prelude.{ℕ, List, codes}
 use Rattle.board_times.specs.declared.words.Word.{Word}
-use Rattle.board_times.specs.declared.words.Word.TheVariants.{Version, Digest, Begin, Away, Opened, Answered, Gone, Called, Heard, Added, Stopped, Asked, Took, Over, Looked, Back, Suspect, Wake, Lent, Number, Kept, Capture, Text}
+use Rattle.board_times.specs.declared.words.Word.TheVariants.{Version, Digest, Begin, Away, Opened, Answered, Gone, Called, Heard, Added, Stopped, Asked, Took, Over, Looked, Back, Reopened, Suspect, Wake, Lent, Number, Kept, Capture, Text}
 
 abbrev pub word_text : Word → List ℕ
 word_text Version = codes "times"
@@ -20,6 +20,7 @@ word_text Took = codes "took"
 word_text Over = codes "over"
 word_text Looked = codes "ok"
 word_text Back = codes "back"
+word_text Reopened = codes "reopened"
 word_text Suspect = codes "suspect"
 word_text Wake = codes "wake"
 word_text Lent = codes "lent"

@@ -37,6 +37,8 @@ pub enum What {
     Looks,
     /// Plies were taken off, or the game is taken up: the pieces are to be put where they belong.
     PutsBack,
+    /// An arbiter reopens the game: he has taken its result off, or says that it isn't over.
+    Reopens,
     /// The recorder suspects something that no board shows. By this number it knows what.
     Suspects(u64),
 }
@@ -78,6 +80,7 @@ impl What {
             What::Ends(n) => with_number(Word::Over, n),
             What::Looks => alone(Word::Looked),
             What::PutsBack => alone(Word::Back),
+            What::Reopens => alone(Word::Reopened),
             What::Suspects(n) => with_number(Word::Suspect, n),
         }
     }
@@ -125,6 +128,7 @@ fn without(word: Word) -> Option<What>
         Word::Took => Some(What::Takes),
         Word::Looked => Some(What::Looks),
         Word::Back => Some(What::PutsBack),
+        Word::Reopened => Some(What::Reopens),
         _ => None,
     }
 }

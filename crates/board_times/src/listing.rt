@@ -116,6 +116,7 @@ fn add_words(what: What, before: u64, behind: u64, out: &mut Vec<u8>) -> Result<
         What::Ends(size) => add_with_decimal(b"the game is over, its bytes: ", size, out),
         What::Looks => add_text(b"somebody has looked: no alarm is open", out),
         What::PutsBack => add_text(b"the pieces are to be put where they belong", out),
+        What::Reopens => add_text(b"an arbiter reopens the game", out),
         What::Suspects(n) => {
             add_with_decimal(b"the recorder suspects something, its number: ", n, out)
         }

@@ -23,6 +23,7 @@ pub enum Word {
     Over,
     Looked,
     Back,
+    Reopened,
     Suspect,
     // of a host alone
     Wake,
@@ -55,6 +56,7 @@ impl Word {
             Word::Over => b"over",
             Word::Looked => b"ok",
             Word::Back => b"back",
+            Word::Reopened => b"reopened",
             Word::Suspect => b"suspect",
             Word::Wake => b"wake",
             Word::Lent => b"lent",
@@ -123,6 +125,9 @@ pub(crate) fn word_of(text: &[u8]) -> Option<Word>
     }
     if are_same(text, b"back") {
         return Some(Word::Back);
+    }
+    if are_same(text, b"reopened") {
+        return Some(Word::Reopened);
     }
     if are_same(text, b"suspect") {
         return Some(Word::Suspect);

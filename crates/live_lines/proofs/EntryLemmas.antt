@@ -3,11 +3,11 @@ use Rattle.std.proofs.Common.{◌≡◌, ℕ, Bool, true, false, List, ◌++◌,
 use Rattle.std.proofs.Math.Seq.{take-append_seam, drop-append_seam}
 use Rattle.std.proofs.lemmas.List.{append_assoc}
 use Rattle.board_times.specs.declared.words.Word.{Word}
-use Rattle.board_times.specs.declared.words.Word.TheVariants.{Version, Digest, Begin, Away, Opened, Answered, Gone, Called, Heard, Added, Stopped, Asked, Took, Over, Looked, Back, Suspect, Wake, Lent, Number, Kept, Capture, Text}
+use Rattle.board_times.specs.declared.words.Word.TheVariants.{Version, Digest, Begin, Away, Opened, Answered, Gone, Called, Heard, Added, Stopped, Asked, Took, Over, Looked, Back, Reopened, Suspect, Wake, Lent, Number, Kept, Capture, Text}
 use Rattle.board_times.specs.declared.lines.Tail.{Tail}
 use Rattle.board_times.specs.declared.lines.Line.{Line}
 use Rattle.board_times.specs.declared.events.What.{What as Happening}
-use Rattle.board_times.specs.declared.events.What.TheVariants.{Begins, IsAway, Opens, Answers, Goes, Calls, Hears, Adds, Stops, Asks, Takes, Ends, Looks, PutsBack, Suspects}
+use Rattle.board_times.specs.declared.events.What.TheVariants.{Begins, IsAway, Opens, Answers, Goes, Calls, Hears, Adds, Stops, Asks, Takes, Ends, Looks, PutsBack, Reopens, Suspects}
 use Rattle.board_times.specs.declared.events.Event.{Event}
 use Rattle.board_times.specs.Lines.{Fits, line_text}
 use Rattle.board_times.specs.Times.{line_of, tail_of as tail_of_event}
@@ -47,6 +47,7 @@ own_none Takes = refl
 own_none (Ends n) = refl
 own_none Looks = refl
 own_none PutsBack = refl
+own_none Reopens = refl
 own_none (Suspects n) = refl
 
 back_by : (at : ℕ) (what : What) → entry_of (line_with at (tail_of what)) ≡ Some (entry_with at what)
@@ -101,6 +102,8 @@ own_tail Looked None = refl
 own_tail Looked (Some n) = refl
 own_tail Back None = refl
 own_tail Back (Some n) = refl
+own_tail Reopened None = refl
+own_tail Reopened (Some n) = refl
 own_tail Suspect None = refl
 own_tail Suspect (Some n) = refl
 own_tail Wake None = refl

@@ -15,7 +15,7 @@ use Rattle.board_live.specs.Restarts.{as_filed}
 use Rattle.board_live.proofs.History.{Files, files_kept, files_more, files_none, files_told}
 use Rattle.board_times.specs.declared.events.Event.{Event}
 use Rattle.board_times.specs.declared.events.What.{What as Happening}
-use Rattle.board_times.specs.declared.events.What.TheVariants.{Begins, IsAway, Opens, Answers, Goes as LineGoes, Calls, Hears, Adds, Stops, Asks, Takes, Ends, Looks as LooksAt, PutsBack as Back, Suspects as Suspected}
+use Rattle.board_times.specs.declared.events.What.TheVariants.{Begins, IsAway, Opens, Answers, Goes as LineGoes, Calls, Hears, Adds, Stops, Asks, Takes, Ends, Looks as LooksAt, PutsBack as Back, Reopens as Reopened, Suspects as Suspected}
 use Rattle.board_times.specs.Fitting.{covered, covered_after}
 use Rattle.live_lines.specs.declared.clock.Clock.{Clock}
 use Rattle.live_lines.specs.declared.entries.Entry.{Entry}
@@ -222,6 +222,7 @@ lines at (Happens Takes) bytes file lived size more past g whole none begins = o
 lines at (Happens (Ends n)) bytes file lived size more past g whole none begins = one_line at (Ends n) bytes file lived size more past g refl refl refl refl
 lines at (Happens LooksAt) bytes file lived size more past g whole none begins = one_line at LooksAt bytes file lived size more past g refl refl refl refl
 lines at (Happens Back) bytes file lived size more past g whole none begins = one_line at Back bytes file lived size more past g refl refl refl refl
+lines at (Happens Reopened) bytes file lived size more past g whole none begins = one_line at Reopened bytes file lived size more past g refl refl refl refl
 lines at (Happens (Suspected n)) bytes file lived size more past g whole none begins = one_line at (Suspected n) bytes file lived size more past g refl refl refl refl
 lines at Wakes bytes file lived size more past g whole none begins = no_line (record { at = at; what = Wakes }) bytes (meaning_of Wakes bytes) file lived size more past g refl refl refl refl
 lines at Lends bytes file lived size more past g whole none begins = no_line (record { at = at; what = Lends }) bytes (meaning_of Lends bytes) file lived size more past g refl refl refl refl
@@ -447,6 +448,7 @@ began_alike (Happens Takes) a c b stays = refl
 began_alike (Happens (Ends n)) a c b stays = refl
 began_alike (Happens LooksAt) a c b stays = refl
 began_alike (Happens Back) a c b stays = refl
+began_alike (Happens Reopened) a c b stays = refl
 began_alike (Happens (Suspected n)) a c b stays = refl
 began_alike Wakes a c b stays = refl
 began_alike Lends a c b stays = refl

@@ -4,7 +4,7 @@ use Rattle.std.proofs.Math.Seq.{take-append_seam, take-append-add}
 use Rattle.std.proofs.lemmas.Fmt.{length-decimal-le}
 use Rattle.std.proofs.lemmas.List.{append_assoc, append-nil, length-append}
 use Rattle.board_times.specs.declared.words.Word.{Word}
-use Rattle.board_times.specs.declared.words.Word.TheVariants.{Version, Digest, Begin, Away, Opened, Answered, Gone, Called, Heard, Added, Stopped, Asked, Took, Over, Looked, Back, Suspect, Wake, Lent, Number, Kept, Capture, Text}
+use Rattle.board_times.specs.declared.words.Word.TheVariants.{Version, Digest, Begin, Away, Opened, Answered, Gone, Called, Heard, Added, Stopped, Asked, Took, Over, Looked, Back, Reopened, Suspect, Wake, Lent, Number, Kept, Capture, Text}
 use Rattle.board_times.specs.declared.lines.Line.{Line}
 use Rattle.board_times.specs.Words.{word_text}
 use Rattle.board_times.specs.Lines.{Fits, NumberFits, line_text, number_text, tail_text}
@@ -65,6 +65,7 @@ short_word Took = omega arith
 short_word Over = omega arith
 short_word Looked = omega arith
 short_word Back = omega arith
+short_word Reopened = omega arith
 short_word Suspect = omega arith
 short_word Wake = omega arith
 short_word Lent = omega arith

@@ -2,24 +2,28 @@
 -- first.
 use Rattle.std.specs.Prelude.{◌-◌, ℕ, Bool, true, false, List, [], ◌∷◌, ◌++◌, Option, Some, None, drop, take}
 use Rattle.board_live.specs.Laws.{with_kept, with_told}
-use Rattle.board_live.specs.Moments.{Moment}
+use Rattle.board_live.specs.Moments.{Moment, stopped}
 use Rattle.board_game.specs.declared.note.Note.{Note}
-use Rattle.board_game.specs.declared.note.Note.TheVariants.{Line, Looked as HasLooked, PutsBack as MustPutBack, Suspects as IsSuspected}
+use Rattle.board_game.specs.declared.note.Note.TheVariants.{Line, Looked as HasLooked, PutsBack as MustPutBack, Reopens as IsReopened, Passes, Suspects as IsSuspected}
 use Rattle.board_standing.specs.declared.heard.Heard.TheVariants.{Begins as RecorderBegins, Plugs, Unplugs}
 use Rattle.board_times.specs.declared.events.Event.{Event}
 use Rattle.board_times.specs.declared.events.What.{What as Happening}
-use Rattle.board_times.specs.declared.events.What.TheVariants.{Begins, Opens, Goes, Hears, Adds, Looks, PutsBack, Suspects}
+use Rattle.board_times.specs.declared.events.What.TheVariants.{Begins, Opens, Goes, Hears, Adds, Stops, Ends, Looks, PutsBack, Reopens, Suspects}
 use Rattle.board_times.specs.Fitting.{covered_after}
 use Rattle.live_lines.specs.declared.clock.Clock.{Clock}
 use Rattle.live_lines.specs.Clock.{clock_at}
 
--- what an event tells beside bytes: news of the line, and what concerns alarms
+-- What an event tells beside bytes: news of the line, what concerns alarms, and what an arbiter says of the end. If time alone had
+-- ended the game when it was written that it is over, it stays so.
 abbrev pub news_of : Happening → Option Note
 news_of (Begins n) = Some (Line RecorderBegins)
 news_of Opens = Some (Line Plugs)
 news_of Goes = Some (Line Unplugs)
 news_of Looks = Some HasLooked
 news_of PutsBack = Some MustPutBack
+news_of Reopens = Some IsReopened
+news_of (Ends n) = Some Passes
+news_of (Stops time) = stopped time
 news_of (Suspects n) = Some (IsSuspected n)
 news_of _ = None
 

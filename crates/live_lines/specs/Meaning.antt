@@ -1,13 +1,13 @@
 -- What an entry is to a board that is recorded. Entries are listed with the latest first.
 use Rattle.std.specs.Prelude.{ℕ, Bool, true, false, List, [], ◌∷◌, if◌then◌else◌}
 use Rattle.board_asking.specs.Serial.{is_serial}
-use Rattle.board_cable.specs.declared.happened.What.TheVariants.{Begins as CallBegins, Opens as LineOpens, Answers as ServerAnswers, Closes, HangsUp, Hears as BoardSends, Interrupts, Takes as BoardTaken, Owns as HasNumber, Lends as IsLent, Wakes as TimeCame}
+use Rattle.board_cable.specs.declared.happened.What.TheVariants.{Begins as CallBegins, Opens as LineOpens, Answers as ServerAnswers, Closes, HangsUp, Hears as BoardSends, Takes as BoardTaken, Owns as HasNumber, Lends as IsLent, Wakes as TimeCame}
 use Rattle.board_live.specs.declared.happened.What.{What as ToBoard}
-use Rattle.board_live.specs.declared.happened.What.TheVariants.{Cable, Adds as AddsBytes, Notes}
-use Rattle.board_game.specs.declared.note.Note.TheVariants.{Looked as HasLooked, PutsBack as MustPutBack, Suspects as IsSuspected}
+use Rattle.board_live.specs.declared.happened.What.TheVariants.{Cable, Adds as AddsBytes, Stops as NobodyListened, Notes}
+use Rattle.board_game.specs.declared.note.Note.TheVariants.{Looked as HasLooked, PutsBack as MustPutBack, Reopens as IsReopened, Passes, Suspects as IsSuspected}
 use Rattle.board_live.specs.Moments.{Moment}
 use Rattle.board_times.specs.declared.events.What.{What as Happening}
-use Rattle.board_times.specs.declared.events.What.TheVariants.{Begins, Opens, Answers, Goes, Calls, Hears, Adds, Stops, Takes, Looks, PutsBack, Suspects}
+use Rattle.board_times.specs.declared.events.What.TheVariants.{Begins, Opens, Answers, Goes, Calls, Hears, Adds, Stops, Takes, Ends, Looks, PutsBack, Reopens, Suspects}
 use Rattle.live_lines.specs.declared.entries.What.{What}
 use Rattle.live_lines.specs.declared.entries.What.TheVariants.{Happens, Lends, Owns}
 use Rattle.live_lines.specs.Clock.{clock_after, next_clock}
@@ -15,8 +15,9 @@ use Rattle.live_lines.specs.Entries.{brings_capture}
 use Rattle.live_lines.specs.Heard.{Heard}
 use Rattle.live_lines.specs.History.{history_of}
 
--- If nobody listened for a while, an answer that comes may be old, and frames are read anew. Three lines only name a time: that nobody
--- was there before a call, what was asked, and that the game is over. So does a file of times, which belongs to the next capture.
+-- If nobody listened for a while, an answer that comes may be old, and frames are read anew. Two lines only name a time: that nobody
+-- was there before a call, and what was asked. So does a file of times, which belongs to the next capture. Where it says that the game
+-- is over, and time alone has ended it by then, it stays so.
 abbrev pub happening_of : Happening → ToBoard
 happening_of (Begins n) = Cable CallBegins
 happening_of Opens = Cable LineOpens
@@ -25,10 +26,12 @@ happening_of Goes = Cable Closes
 happening_of Calls = Cable HangsUp
 happening_of (Hears n) = Cable BoardSends
 happening_of (Adds n) = AddsBytes
-happening_of (Stops n) = Cable Interrupts
+happening_of (Stops n) = NobodyListened n
 happening_of Takes = Cable BoardTaken
 happening_of Looks = Notes HasLooked
 happening_of PutsBack = Notes MustPutBack
+happening_of Reopens = Notes IsReopened
+happening_of (Ends n) = Notes Passes
 happening_of (Suspects n) = Notes (IsSuspected n)
 happening_of _ = Cable TimeCame
 

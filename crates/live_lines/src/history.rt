@@ -12,7 +12,7 @@ ghost use Rattle.live_lines.specs.History.{coming, history_of, is_added, news_of
 use crate::clock::Clock;
 use crate::entries::{Entry, What};
 use board_game::Note;
-use board_live::{Happened, Live, What as ToBoard};
+use board_live::{Happened, Live, What as ToBoard, stopped};
 use board_standing::Heard;
 use board_times::{Event, Fit, Found, What as Happening, fit_of};
 use std::alloc::AllocError;
@@ -27,6 +27,9 @@ fn news_of(what: Happening) -> Option<Note>
         Happening::Goes => Some(Note::Line(Heard::Unplugs)),
         Happening::Looks => Some(Note::Looked),
         Happening::PutsBack => Some(Note::PutsBack),
+        Happening::Reopens => Some(Note::Reopens),
+        Happening::Ends(_) => Some(Note::Passes),
+        Happening::Stops(time) => stopped(time),
         Happening::Suspects(n) => Some(Note::Suspects(n)),
         _ => None,
     }
@@ -96,7 +99,7 @@ fn told_as(note: Note) -> ToBoard
 {
     match note {
         Note::Line(heard) => ToBoard::Tells(heard),
-        Note::Looked | Note::PutsBack | Note::Suspects(_) => ToBoard::Notes(note),
+        _ => ToBoard::Notes(note),
     }
 }
 

@@ -20,10 +20,12 @@ fn happening_of(what: Happening) -> ToBoard
         Happening::Calls => ToBoard::Cable(AtCable::HangsUp),
         Happening::Hears(_) => ToBoard::Cable(AtCable::Hears),
         Happening::Adds(_) => ToBoard::Adds,
-        Happening::Stops(_) => ToBoard::Cable(AtCable::Interrupts),
+        Happening::Stops(time) => ToBoard::Stops(time),
         Happening::Takes => ToBoard::Cable(AtCable::Takes),
         Happening::Looks => ToBoard::Notes(Note::Looked),
         Happening::PutsBack => ToBoard::Notes(Note::PutsBack),
+        Happening::Reopens => ToBoard::Notes(Note::Reopens),
+        Happening::Ends(_) => ToBoard::Notes(Note::Passes),
         Happening::Suspects(n) => ToBoard::Notes(Note::Suspects(n)),
         _ => ToBoard::Cable(AtCable::Wakes),
     }

@@ -100,7 +100,7 @@ const MATE: &str = "rnb1kbnr/pppp1ppp/8/4p3/6Pq/5P2/PPPPP2P/RNBQKBNR";
 /// The queen stands one square before that.
 const NO_MATE: &str = "rnb1kbnr/pppp1ppp/8/4p1q1/6P1/5P2/PPPPP2P/RNBQKBNR";
 
-static CASES: [Case<'static>; 23] = [
+static CASES: [Case<'static>; 26] = [
     // Mate has stood for ten seconds. And for less.
     Case {
         steps: &[
@@ -184,6 +184,55 @@ static CASES: [Case<'static>; 23] = [
         ],
         now: 70_000,
         over: Some((Stood, Some(BlackWins), 335, true)),
+        goes_on: None,
+        begins: None,
+    },
+    // That time has passed is told after it has ended the game: then the game stays so.
+    Case {
+        steps: &[
+            (0, Sends(START)),
+            (1_000, Sends(F3)),
+            (2_000, Sends(F3_E5)),
+            (3_000, Sends(G4)),
+            (4_000, Sends(MATE)),
+            (14_000, Notes(News::Passes)),
+            (60_000, Notes(News::Begins)),
+        ],
+        now: 60_000,
+        over: Some((Stood, Some(BlackWins), 335, true)),
+        goes_on: None,
+        begins: None,
+    },
+    // It is told before: the ten seconds begin anew.
+    Case {
+        steps: &[
+            (0, Sends(START)),
+            (1_000, Sends(F3)),
+            (2_000, Sends(F3_E5)),
+            (3_000, Sends(G4)),
+            (4_000, Sends(MATE)),
+            (13_999, Notes(News::Passes)),
+            (60_000, Notes(News::Begins)),
+        ],
+        now: 69_999,
+        over: None,
+        goes_on: None,
+        begins: None,
+    },
+    // It is told, and an arbiter reopens the game.
+    Case {
+        steps: &[
+            (0, Sends(START)),
+            (1_000, Sends(F3)),
+            (2_000, Sends(F3_E5)),
+            (3_000, Sends(G4)),
+            (4_000, Sends(MATE)),
+            (14_000, Notes(News::Passes)),
+            (20_000, Notes(News::Reopens)),
+            (60_000, Notes(News::Begins)),
+        ],
+        now: 90_000,
+        over: None,
         goes_on: None,
         begins: None,
     },

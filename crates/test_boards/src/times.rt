@@ -12,7 +12,7 @@ static DIGESTS: [(&str, u64); 3] = [
 ];
 
 /// A file, and what stands in it: `missing`, `unreadable`, `newer` or `times`; how many events, and how many bytes behind them.
-static FILES: [(&str, &str, usize, usize); 17] = [
+static FILES: [(&str, &str, usize, usize); 19] = [
     ("", "missing", 0, 0),
     ("1", "unreadable", 0, 0),
     ("1 times 0", "unreadable", 0, 0),
@@ -43,6 +43,18 @@ static FILES: [(&str, &str, usize, usize); 17] = [
         "times",
         2,
         10,
+    ),
+    (
+        "1 times 0\n1 digest 12638187200555641996\n0 begin 1\n5 over 1\n6 reopened\n",
+        "times",
+        3,
+        0,
+    ),
+    (
+        "1 times 0\n1 digest 12638187200555641996\n0 begin 1\n5 ok\n6 reopened 1\n",
+        "times",
+        2,
+        13,
     ),
     (
         "1 times 0\n1 digest 12638187200555641996\n0 begin 1\n5 opened\n12 heard 6",

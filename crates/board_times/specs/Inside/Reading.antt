@@ -3,10 +3,10 @@ use Rattle.std.specs.Prelude.{ℕ, ◌==◌, not, Bool, List, Option, Some, None
 use Rattle.std.specs.List.{list_all}
 use Rattle.std.specs.Str.{bytes_eq}
 use Rattle.board_times.specs.declared.words.Word.{Word}
-use Rattle.board_times.specs.declared.words.Word.TheVariants.{Version, Digest, Begin, Away, Opened, Answered, Gone, Called, Heard, Added, Stopped, Asked, Took, Over, Looked, Back, Suspect, Wake, Lent, Number, Kept, Capture, Text}
+use Rattle.board_times.specs.declared.words.Word.TheVariants.{Version, Digest, Begin, Away, Opened, Answered, Gone, Called, Heard, Added, Stopped, Asked, Took, Over, Looked, Back, Reopened, Suspect, Wake, Lent, Number, Kept, Capture, Text}
 use Rattle.board_times.specs.declared.lines.Line.{Line}
 use Rattle.board_times.specs.declared.events.What.{What}
-use Rattle.board_times.specs.declared.events.What.TheVariants.{Begins, IsAway, Opens, Answers, Goes, Calls, Hears, Adds, Stops, Asks, Takes, Ends, Looks, PutsBack, Suspects}
+use Rattle.board_times.specs.declared.events.What.TheVariants.{Begins, IsAway, Opens, Answers, Goes, Calls, Hears, Adds, Stops, Asks, Takes, Ends, Looks, PutsBack, Reopens, Suspects}
 use Rattle.board_times.specs.declared.events.Event.{Event}
 
 -- the text has no byte like this
@@ -32,6 +32,7 @@ word_read text =
     else (if bytes_eq text (codes "over") then Some Over
     else (if bytes_eq text (codes "ok") then Some Looked
     else (if bytes_eq text (codes "back") then Some Back
+    else (if bytes_eq text (codes "reopened") then Some Reopened
     else (if bytes_eq text (codes "suspect") then Some Suspect
     else (if bytes_eq text (codes "wake") then Some Wake
     else (if bytes_eq text (codes "lent") then Some Lent
@@ -39,7 +40,7 @@ word_read text =
     else (if bytes_eq text (codes "kept") then Some Kept
     else (if bytes_eq text (codes "capture") then Some Capture
     else (if bytes_eq text (codes "text") then Some Text
-    else None))))))))))))))))))))))
+    else None)))))))))))))))))))))))
 
 -- what happens with a word and a number, if anything does
 abbrev pub what_of : Word → Option ℕ → Option What
@@ -57,6 +58,7 @@ what_of Took None = Some Takes
 what_of Over (Some n) = Some (Ends n)
 what_of Looked None = Some Looks
 what_of Back None = Some PutsBack
+what_of Reopened None = Some Reopens
 what_of Suspect (Some n) = Some (Suspects n)
 what_of _ _ = None
 

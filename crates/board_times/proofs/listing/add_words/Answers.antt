@@ -42,5 +42,8 @@ returns-in-Looks c = rw c.in-Looks.is c.add_text-in-Looks.ensures
 pub returns-in-PutsBack : goal.returns-in-PutsBack
 returns-in-PutsBack c = rw c.in-PutsBack.is c.add_text-in-PutsBack.ensures
 
+pub returns-in-Reopens : goal.returns-in-Reopens
+returns-in-Reopens c = rw c.in-Reopens.is c.add_text-in-Reopens.ensures
+
 pub returns-in-Suspects : goal.returns-in-Suspects
 returns-in-Suspects c = rw c.in-Suspects.is c.add_with_decimal-in-Suspects.ensures

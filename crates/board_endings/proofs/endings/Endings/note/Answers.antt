@@ -1,17 +1,17 @@
-use Rattle.std.proofs.Common.{◌∷◌, ℕ, refl, subst}
+use Rattle.std.proofs.Common.{ℕ, Option, refl, subst}
 use Rattle.std.proofs.lemmas.Result.{on_ok_weaker}
 use Rattle.game_over.specs.declared.happened.Happening.{Happening}
 use Rattle.board_endings.specs.Keeping.{HasJudged}
-use Rattle.board_endings.specs.Telling.{happening_of, happens}
+use Rattle.board_endings.specs.Telling.{happening_of, with_news}
 use Rattle.board_endings.proofs.endings.Endings.note.Goals as goal
 
 pub returns : goal.returns
 returns c = λ setting items h.
     let at = c.args.at in
-    let J : ℕ → Happening → Type 0 = λ bytes what. HasJudged c.take.new.self (happens at bytes what ∷ h.told) in
-    let W : Happening → Type 0 = λ what. J c.args.self.now.bytes what in
+    let J : ℕ → Option Happening → Type 0 = λ bytes what. HasJudged c.take_news.new.self (with_news at bytes what h.told) in
+    let W : Option Happening → Type 0 = λ what. J c.args.self.now.bytes what in
     let B : ℕ → Type 0 = λ bytes. J bytes (happening_of c.args.news) in
-    on_ok_weaker c.take.result (λ judged. record {
+    on_ok_weaker c.take_news.result (λ judged. record {
       valid = h.valid;
       told = _;
       score = h.score;
@@ -21,4 +21,4 @@ returns c = λ setting items h.
       course = h.course;
       result_is = h.result_is;
       counted = h.counted;
-    }) (c.take.ensures h.told h.judged)
+    }) (c.take_news.ensures h.told h.judged)
