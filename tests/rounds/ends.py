@@ -104,6 +104,7 @@ def seen_by_spectators(folder: pathlib.Path) -> None:
     live.type("2 *")
     until_line(live, "goes on, without the result")
     live.type("2 0-1")
+    until_line(live, "all games are over: type q to end", 2)
     ended_so = ["1. e4 e5 1-0", "1. d4 d5 0-1"]
     until(lambda: [hidden_texts(hall, number)[-1:] for number in (1, 2)] == [[text] for text in ended_so], "both results, hidden", 0.02)
     same((live.says(SEEN), [board["result"] for board in boards_of(port)]), (False, ["*", "*"]))
