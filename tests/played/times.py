@@ -29,7 +29,7 @@ from played.stage import (
 )
 
 NUMBERED = ("begin", "away", "heard", "added", "stopped", "asked", "over")
-ALONE = ("opened", "answered", "gone", "called", "took", "ok", "back")
+ALONE = ("opened", "answered", "gone", "called", "took", "ok", "back", "reopened")
 NOTHING = "Nothing is to be done"
 OTHER = "other.times"
 ONE_BYTE = "1 digest 12638187200555641996"  # of a capture that begins with the letter a

@@ -6,7 +6,7 @@
 export const HEADED = 4096; // bytes of a capture that a new heading has the digest of, at most
 export const [BEGIN, AWAY, OPENED, ANSWERED, GONE, CALLED] = ['begin', 'away', 'opened', 'answered', 'gone', 'called'];
 export const [HEARD, ADDED, STOPPED, ASKED, TOOK, OVER] = ['heard', 'added', 'stopped', 'asked', 'took', 'over'];
-export const [LOOKED, BACK, SUSPECT, REOPENED] = ['ok', 'back', 'suspect', 'reopened'];
+export const [LOOKED, BACK, REOPENED, SUSPECT] = ['ok', 'back', 'reopened', 'suspect'];
 
 const VERSION = 1;
 const COUNTS = [BEGIN, AWAY, HEARD, ADDED, STOPPED, ASKED, OVER, SUSPECT]; // words with a number
