@@ -30,6 +30,7 @@ RECORDED = """
   const { game } = await answer(change.objectStore('boards').get(1));
   const kept = await answer(change.objectStore('games').get(game));
   await answer(change.objectStore('games').put({ ...kept, looks: LOOKS }));
+  await new Promise((done) => (change.oncomplete = done)); // else the next page may come before it
   database.close();
 })()
 """

@@ -23,6 +23,7 @@ ENDED = """
   const { game } = await answer(change.objectStore('boards').get(1));
   const { played, ...kept } = await answer(change.objectStore('games').get(game));
   await answer(change.objectStore('games').put({ ...kept, end: END }));
+  await new Promise((done) => (change.oncomplete = done)); // else the next page may come before it
   database.close();
 })()
 """
@@ -40,6 +41,7 @@ CAME = """
   const chunks = await answer(change.objectStore('chunks').getAll(IDBKeyRange.bound([game, 0], [game, Infinity])));
   const { number, at } = chunks.at(-1);
   await answer(change.objectStore('chunks').put({ game, number: number + 1, at: at + 20, bytes: Uint8Array.from(BYTES) }));
+  await new Promise((done) => (change.oncomplete = done)); // else the next page may come before it
   database.close();
 })()
 """

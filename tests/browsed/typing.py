@@ -45,6 +45,7 @@ FILLED = """
   const last = chunks.at(-1);
   const size = chunks.reduce((sum, { bytes }) => sum + bytes.length, 0);
   await answer(change.objectStore('chunks').put({ game, number: last.number + 1000, at: last.at, bytes: new Uint8Array(TOTAL - size) }));
+  await new Promise((done) => (change.oncomplete = done)); // else the next page may come before it
   database.close();
 })()
 """

@@ -540,7 +540,14 @@ export class Recorder {
 
   // Ending.
 
-  /** What the program says of the game's end. The page has ended a game that is over already; it may have been begun anew. */
+  /** This happens now: the program is told, even while it is told nothing else, and it is kept with the game's times. */
+  tells(what, count = null) {
+    const at = this.guard.counted();
+    this.times.note(what, count, at);
+    this.attending.tellNow(what, count, at);
+  }
+
+  /** What the program says of the game's end. A game that is stored as over stays as it is. */
   ends({ over, played, begins }) {
     this.played = played || this.played;
     if (this.isOver) {
@@ -585,11 +592,7 @@ export class Recorder {
     this.played = 0;
     this.reread();
     this.times.isNotOver();
-    for (const what of [BACK]) {
-      const at = this.guard.counted();
-      this.times.note(what, null, at);
-      this.attending.tellNow(what, null, at);
-    }
+    this.tells(BACK);
     await this.times.write(); // before the game's record: the times would have an end that the game lacks
     await this.keepGame();
   }
@@ -608,7 +611,7 @@ export class Recorder {
   closeGame(end, reason) {
     this.game = { ...this.game, end, looks: this.alarms.looks.open };
     this.keepGame();
-    this.times.note(OVER, end);
+    this.tells(OVER, end);
     this.hears.says(`${this.game.name} is over: ${reason}`);
     this.reread();
   }

@@ -12,28 +12,6 @@ export function troubleOf(error) {
   return error && error.name === 'QuotaExceededError' ? DISK_FULL : NOT_WRITTEN;
 }
 
-/** The second at which each byte came, as far as it is known. Pure. */
-class Times {
-  constructor() {
-    this.marks = []; // [offset, at]: from this byte on
-  }
-
-  add(offset, at) {
-    this.marks.push([offset, at]);
-  }
-
-  of(offset) {
-    let low = 0;
-    let high = this.marks.length;
-    while (low < high) {
-      const middle = Math.floor((low + high) / 2);
-      if (this.marks[middle][0] <= offset) low = middle + 1;
-      else high = middle;
-    }
-    return low > 0 ? this.marks[low - 1][1] : 0;
-  }
-}
-
 /** What a capture has by now. It only grows, so these bytes stay what they are. */
 export class Front {
   constructor(capture) {
@@ -79,10 +57,10 @@ export class Capture {
     this.content = joined(...chunks.map(({ bytes }) => bytes));
     this.size = this.content.length;
     this.number = chunks.length > 0 ? chunks[chunks.length - 1].number + 1 : 0;
-    this.times = new Times();
+    this.marks = []; // [offset, at]: from this byte on all came then
     let offset = 0;
     for (const { at, bytes } of chunks) {
-      this.times.add(offset, at);
+      this.marks.push([offset, at]);
       offset += bytes.length;
     }
   }
@@ -101,7 +79,7 @@ export class Capture {
       this.content = larger;
     }
     this.content.set(bytes, this.size);
-    this.times.add(this.size, at);
+    this.marks.push([this.size, at]);
     this.size = size;
     this.waiting.push({ number: this.number, at, bytes });
     this.number += 1;
@@ -164,7 +142,7 @@ export class Capture {
 
   /** All that came, as the database keeps it. */
   chunks() {
-    const { marks } = this.times;
+    const { marks } = this;
     return marks.map(([offset, at], number) => {
       const end = number + 1 < marks.length ? marks[number + 1][0] : this.size;
       return { number, at, bytes: this.content.slice(offset, end) };
