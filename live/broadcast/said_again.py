@@ -165,7 +165,7 @@ class Told:
     def said(self, now: float) -> List[Said]:
         """What the game was, each time from then on, up to now. Its text is asked for where it has changed, by another child."""
         game, shots, said, changed = Game(new_course(self.options)), Shots(), [], []  # type: Game, Shots, List[Said], List[int]
-        for (size, at), answers in zip(self.places, self._answers([size for size, _ in self.places])):
+        for answers, (size, at) in zip(self._answers([size for size, _ in self.places]), self.places):
             said += _stood(said, at, shots, game)
             if not changed or any(_changes_game(text) for answer in answers for text in answer.report):
                 game.pgn = b"%d" % len(changed)  # in place of the text

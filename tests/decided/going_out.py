@@ -207,12 +207,27 @@ def calls_are_kept() -> None:
         calls, generation = calls_of(content, first)
         same("each call", (sorted(began), generation, len(calls)), ([(0, call.offset) for call in calls], 0, 3))
         same("by this clock", all(before <= one.at <= milliseconds() and one.start == this_start() for one in began.values()), True)
-        same("all has a time", came(calls, 0, 201, began, this_start(), milliseconds())[-1].size, 201)
+        same("all has a time", came(calls, 0, began, this_start(), milliseconds())[-1].size, 201)
     with tempfile.TemporaryDirectory() as folder:
         path = f"{folder}/01.began"
         for begin, one in (((0, 50), Began(5, "a-1")), ((0, 50), Began(7, "a-2")), ((1, 50), Began(9, "b"))):
             keep_began(path, began_line(begin, one))
         same("the last line about a begin counts", read_began(pathlib.Path(path).read_bytes()), {(0, 50): Began(7, "a-2"), (1, 50): Began(9, "b")})
+    dump = bytes([0x86, 0, 67]) + bytes(64)
+    first = times.heading(0, dump) + b"0 begin 0\n1 heard 67\n"
+    for middle, size, stays in ((b"", 67, True), (b"", 100, True), (b"", 50, False), (b"2 over 67\n", 67, False), (b"2 over 67\n", 100, False)):
+        with tempfile.TemporaryDirectory() as folder:
+            paths = Paths(f"{folder}/01")
+            pathlib.Path(paths.capture).write_bytes(3 * dump)
+            pathlib.Path(f"{folder}/01.times").write_bytes(first + middle + b"0 begin 67\n1 heard 67\n1 heard 67\n")
+            keep_began(paths.began, b"0 1 1 a\n")
+            capture = Capture.open(paths.capture)
+            kept = Times(paths, capture)
+            kept.look()
+            kept.cut(size)
+            kept.close()
+            capture.close()
+            same(f"cut to {size}, {middle!r}: calls have their places still", os.path.exists(paths.began), stays)
     for torn in (b"", b"\n", b"0 50 7 a", b"x 50 7 a\n", b"0 50 -7 a\n", b"0 50 7\n", b"\xff\n", b"0 50 7 a b\n"):
         same(f"no line: {torn!r}", read_began(torn), {})
 
