@@ -3,6 +3,7 @@
 import contextlib
 import os
 import pathlib
+import random
 import subprocess
 import sys
 import tempfile
@@ -183,6 +184,45 @@ def ages_of_bytes() -> None:
         ("a newer program's", content.replace(b"1 times", b"2 times"), capture), ("torn", content[:20], capture),
     ):  # fmt: skip
         same(name, calls_of(text, first_bytes), ([], 0))
+
+
+def no_byte_is_older() -> None:
+    """Random calls under several starts of the computer, of which some lines are lost: no byte is taken for older than it is; and if all is
+    known and the computer wasn't started again, each has its own time."""
+    draw = random.Random(5)
+    faults, inexact = 0, 0
+    for _ in range(3000):
+        loses = draw.random() < 0.7
+        now = started = 0  # milliseconds of the world, and when the computer was started last
+        truth: List[int] = []  # when each byte came
+        calls: List[times.Call] = []
+        began: Dict[Begin, Began] = {}
+        starts = 1
+        for number in range(draw.randint(1, 5)):
+            now += draw.randint(0, 2000)
+            if draw.random() < 0.3:
+                starts, started = starts + 1, now
+                now += draw.randint(0, 50)
+            if loses and truth and draw.random() < 0.2:
+                del truth[draw.randint(0, len(truth)) :]  # a power cut takes bytes, but not what speaks of them
+            call, begins = times.Call(100 * number, len(truth), []), now
+            if not (loses and draw.random() < 0.2):
+                began[0, call.offset] = Began(now - started, f"{starts:x}")
+            for _ in range(draw.randint(0, 6)):
+                now += draw.randint(0, 500)
+                size, what = draw.randint(0, 3), draw.choice(["heard", "added", "asked"])
+                call.events.append((now - begins, what, size))
+                truth += [now] * (0 if what == "asked" else size)
+            if loses and draw.random() < 0.4:
+                del call.events[draw.randint(0, len(call.events)) :]
+            calls.append(call)
+        now += draw.randint(0, 2000)
+        until = now - started
+        found = within(came(calls, 0, began, f"{starts:x}", until), len(truth), until)
+        ages = [next(one.at for one in found if one.size > byte) for byte in range(len(truth))]
+        faults += sum(at < was - started for at, was in zip(ages, truth)) + (ages != sorted(ages)) + any(at > until for at in ages)
+        inexact += not loses and starts == 1 and ages != [was - started for was in truth]
+    same("bytes that are taken for older, and games with other times", (faults, inexact), (0, 0))
 
 
 def calls_are_kept() -> None:
@@ -572,5 +612,5 @@ def for_spectators() -> None:
     ))  # fmt: skip
 
 
-TABLES = [shown_when, game_goes_by, restarts, ages_of_bytes, calls_are_kept, what_is_kept, hidden_or_not, kept_delays, clocks_run, runs_of_a_command,
+TABLES = [shown_when, game_goes_by, restarts, ages_of_bytes, no_byte_is_older, calls_are_kept, what_is_kept, hidden_or_not, kept_delays, clocks_run, runs_of_a_command,
           one_run_at_a_time, scripts_of_the_docs, for_spectators]  # fmt: skip
