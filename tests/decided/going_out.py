@@ -161,6 +161,7 @@ def ages_of_bytes() -> None:
         ("it began later than now", [first], 82, {b1: Began(10001, here)}, [(67, 10000), (77, 10000), (82, 10000)]),
         ("it goes on in the next call", [first, second], 90, {b1: Began(6500, here), b2: Began(7000, here)},
          [(67, 6510), (77, 7000), (82, 7000), (90, 7020)]),
+        ("a later one began later than now", [times.Call(300, 120, [])], 120, {b3: Began(10001, here)}, [(120, 10000)]),
         ("of another generation", [first], 82, {(1, 50): Began(2000, here)}, [(67, 10000), (77, 10000), (82, 10000)]),
         ("bytes that came as a call began", [first, times.Call(300, 120, [])], 120, {b1: Began(2000, here), b3: Began(4000, here)},
          [(67, 2010), (77, 3000), (82, 3000), (120, 4000)]),
@@ -171,6 +172,7 @@ def ages_of_bytes() -> None:
     ]  # fmt: skip
     for name, calls, size, began, wanted in cases:
         same(name, within(came(calls, 0, began, here, 10000), size, 10000), [Came(*one) for one in wanted])
+    same("the file is of another generation", came([first], 1, {b1: Began(2000, here)}, here, 10000)[-1], Came(82, 10000))
     same("no byte", within([], 0, 10000), [])
     same("over", [over_at(calls) for calls in ([], [first], [first, times.Call(1, 0, [(1, "over", 70), (2, "heard", 1), (3, "over", 80)]), third])], [None, None, 80])
     capture = b"\x86\x00\x43" + bytes(64) + b"more"
