@@ -2,7 +2,7 @@
 """delayed_starts.py [COUNT [AT_ONCE [SEED]]]: starts and ends a round that goes out some seconds late, so many times, 1,000 without COUNT,
 in AT_ONCE halls of two boards: by Ctrl-C, TERM, a kill of the recorder or of all its processes, at any moment from its start to a few
 seconds later. A further output goes out later than the round, and is left out now and then. Moves are played meanwhile; now and then
-the list of what is hidden is lost, or older, as after a power cut. What goes out is read all the time: the first ply that is too young
+the times of a game, or when its calls began, are lost or older, as after a power cut. What goes out is read all the time: the first ply that is too young
 ends it with status 1.
 
 Last it prints how many starts there were, by what they were ended, how many were not open by then, and how many texts were seen.

@@ -13,9 +13,10 @@ from live.steps import Steps
 
 def forfeit(obeying: Obeying, typed: Forfeit) -> Steps[Answer]:
     """The result ends the game as if it had been typed; if both players are absent, it has none."""
-    paths, has = obeying.games.game.paths, obeying.games.course.result
+    game, has = obeying.games.game, obeying.games.course.result
+    paths = game.paths
     refuse_played(len(obeying.games.course.plies), has, typed)
-    keep_forfeit(paths, typed.kind)
+    keep_forfeit(paths, typed.kind, game.capture.total)
     if typed.result not in (NO_RESULT, has):
         yield from add(obeying, typed.result, sure=True)
     obeying.screen.say(f"added by hand: {typed.words}")

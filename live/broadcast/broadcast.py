@@ -220,13 +220,16 @@ class Broadcast:
         """Looks at all games, or at those that have `changed` and at new ones, and shows what is due."""
         games = {game.number: game for game in self._games()}
         before, self._of = self._of, {number: self._one(game) for number, game in games.items()}
-        if not self.is_told:
-            self._changed = None  # then all are looked at
+        untold = {number for number, one in self._of.items() if not one.is_told}
+        if untold and (not self.boards or any(board.number in untold for board in self.boards)):
+            self._changed = None  # nothing that was seen goes back; then all are looked at
             return
         self._changed = set()
         is_news = False
         for number, game in games.items():
             one = self._of[number]
+            if number in untold:
+                continue
             if changed is None or number in changed or one is not before.get(number):
                 try:
                     one.take(game, self._loop.now)

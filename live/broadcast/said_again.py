@@ -20,7 +20,7 @@ from live.game.attended import CAPTURE, TEXT, Answer, Answers, entry
 from live.game.began import read_began, this_start
 from live.game.course import Course
 from live.game.files import Opened, Paths, existing, open_regular, part_of
-from live.game.forfeiting import forfeit_of
+from live.game.forfeiting import forfeit_of, forfeited_after
 from live.game.game import end_mark, kept_options, result_of
 from live.game.options import Options
 from live.game.program import CHUNK, Program, ending_of
@@ -63,7 +63,7 @@ def said_again(program: Program, games: Sequence[Paths], delay: float, now: Call
                 if not found:
                     continue
                 places = [one for one in found if one.at <= since][-1:] + [one for one in found if one.at > since]
-                told = Told(program, options, paths, kept.source, [(one.size, (one.at + ROUNDED) / 1000 + ahead) for one in places])
+                told = Told(program, options, paths, kept, [(one.size, (one.at + ROUNDED) / 1000 + ahead) for one in places])
                 said[:0] = told.said(until / 1000 + ahead)
                 until = found[0].at
                 if until <= since:
@@ -159,25 +159,34 @@ class Told:
     program: Program
     options: Options
     paths: Paths
-    source: int
+    kept: Kept
     places: List[Tuple[int, float]]
 
     def said(self, now: float) -> List[Said]:
         """What the game was, each time from then on, up to now. Its text is asked for where it has changed, by another child."""
         game, shots, said, changed = Game(new_course(self.options)), Shots(), [], []  # type: Game, Shots, List[Said], List[int]
-        for (size, at), answers in zip(self.places, self._answers([size for size, _ in self.places])):
+        after = forfeited_after(self.paths) if self.kept.is_last else None
+        forfeited_at: Optional[float] = None  # when it was known to be forfeited; earlier captures say nothing of it
+        for answers, (size, at) in zip(self._answers([size for size, _ in self.places]), self.places):
             said += _stood(said, at, shots, game)
             if not changed or any(_changes_game(text) for answer in answers for text in answer.report):
                 game.pgn = b"%d" % len(changed)  # in place of the text
                 changed.append(size)
+            if after is not None and size > after and forfeited_at is None:
+                forfeited_at = at
             for answer in answers:
                 for line in filter(None, map(line_of, wanted(answer.report, game.course.start) if answer.report else ())):
                     game.course.take(line, at)
             said.append((at, shots.take(game, at)))
         said += _stood(said, now, shots, game)
         texts = [answers[-1].game or b"" for answers in self._answers(changed, (entry(0, TEXT),))]
-        forfeits = [forfeit_of(self.paths, text) if result_of(text) != "*" else "" for text in texts]  # its bytes are the result's
-        return [(at, replace(shot, text=texts[int(shot.text)], forfeit=forfeits[int(shot.text)])) for at, shot in said]
+        forfeits = [forfeit_of(self.paths, text) for text in texts]
+
+        def whole(at: float, shot: Shot) -> Shot:
+            number, is_forfeited = int(shot.text), forfeited_at is not None and at >= forfeited_at
+            return replace(shot, text=texts[number], forfeit=forfeits[number] if is_forfeited else "")
+
+        return [(at, whole(at, shot)) for at, shot in said]
 
     def _answers(self, sizes: Sequence[int], asks: Tuple[bytes, ...] = ()) -> Iterator[List[Answer]]:
         """What is answered to the bytes up to each of these sizes, and to what is asked there."""
@@ -186,7 +195,7 @@ class Told:
             for size in sizes:
                 before, ends = at, [*range(at + PIECE, size, PIECE), size]
                 for end in ends:
-                    part = part_of(self.source, before, end)
+                    part = part_of(self.kept.source, before, end)
                     _write(told, entry(0, CAPTURE, len(part), part))
                     before = end
                 for question in asks:

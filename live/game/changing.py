@@ -114,7 +114,7 @@ def forfeit_closed(game: Game, typed: Forfeit) -> str:
     """A game that nobody records now isn't played. Returns the message. Refused if it has moves."""
     course = game_of(game.program, game.options, game.capture.bytes(0, end_mark(game.paths)))
     refuse_played(len(course.plies), course.result, typed)
-    keep_forfeit(game.paths, typed.kind)
+    keep_forfeit(game.paths, typed.kind, game.capture.total)
     if typed.result not in (NO_RESULT, course.result):
         add_and_make(game, typed.result)
     return f"{typed.words}: it isn't played"

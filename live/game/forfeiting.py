@@ -1,8 +1,10 @@
-"""NAME.forfeit: how a game was forfeited. It counts as long as the game has no move and the result that goes with it."""
+"""NAME.forfeit: how a game was forfeited, and how many bytes its capture had then. It counts as long as the game has no move and the
+result that goes with it."""
 
 from __future__ import annotations
 
 import contextlib
+from typing import List, Optional
 
 from live.game.files import Paths, beginning, put_in_place, remove
 from live.game.game import is_unplayed, result_of
@@ -10,12 +12,22 @@ from live.game.game import is_unplayed, result_of
 LONGEST = 16  # bytes of the file, whoever wrote it
 
 
+def _words(paths: Paths) -> List[str]:
+    try:
+        return beginning(paths.forfeit, LONGEST).decode("ascii", "replace").split()
+    except OSError:
+        return []
+
+
 def kept_forfeit(paths: Paths) -> str:
     """What was kept, as far as it can be read."""
-    try:
-        return beginning(paths.forfeit, LONGEST).decode("ascii", "replace").strip()
-    except OSError:
-        return ""
+    return "".join(_words(paths)[:1])
+
+
+def forfeited_after(paths: Paths) -> Optional[int]:
+    """How many bytes the capture had when the game was forfeited; None if that isn't known, as of an earlier version."""
+    sizes = [int(word) for word in _words(paths)[1:2] if word.isdecimal()]
+    return sizes[0] if sizes else None
 
 
 def forfeit_of(paths: Paths, pgn: bytes) -> str:
@@ -28,9 +40,9 @@ def forfeit_of(paths: Paths, pgn: bytes) -> str:
     return kind if fits(kind, result_of(pgn), pgn) else ""
 
 
-def keep_forfeit(paths: Paths, kind: str) -> None:
-    """Keeps it. Raises OSError on failure."""
-    put_in_place(paths.forfeit, f"{kind}\n".encode("ascii"))
+def keep_forfeit(paths: Paths, kind: str, size: int) -> None:
+    """Keeps it, and how many bytes the capture has now. Raises OSError on failure."""
+    put_in_place(paths.forfeit, f"{kind} {size}\n".encode("ascii"))
 
 
 def drop_forfeit(paths: Paths) -> None:

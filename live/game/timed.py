@@ -16,7 +16,7 @@ from typing import Callable, List, Optional, Protocol, Tuple
 
 from live.game import times
 from live.game.began import Began, began_line, keep_began, this_start
-from live.game.files import LARGEST, Capture, Paths, existing, open_regular, part_of, put_in_place, sync_folder, text_of
+from live.game.files import LARGEST, Capture, Paths, existing, open_regular, part_of, put_in_place, remove, sync_folder, text_of
 from live.loop import Away, Callback, Loop
 
 TRIES_AGAIN = 1.0  # seconds after a write has failed
@@ -389,6 +389,8 @@ class Times:
                 after = times.cut(before, found, size, first) if isinstance(found, times.Kept) else before
                 if after != before:
                     self._close()
+                    if times.moves_calls(before, after):
+                        remove(self._paths.began)  # which speaks of their places
                     put_in_place(self._path, after)
                     self._size = len(after)
             except Exception as error:

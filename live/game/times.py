@@ -162,3 +162,12 @@ def cut(content: Content, found: Kept, size: int, first: Content) -> bytes:
             parts.append(bytes(content[start:after]))
         start = after
     return b"".join(parts)
+
+
+def moves_calls(before: bytes, after: bytes) -> bool:
+    """Whether calls of a file have other places in what is left of it."""
+    old, new = (
+        [call.offset for call in calls(content, found)] if isinstance(found, Kept) else []
+        for content, found in ((before, kept(before)), (after, kept(after)))
+    )
+    return new != old[: len(new)]

@@ -3,6 +3,7 @@
 import contextlib
 import os
 import pathlib
+import random
 import subprocess
 import sys
 import tempfile
@@ -160,6 +161,7 @@ def ages_of_bytes() -> None:
         ("it began later than now", [first], 82, {b1: Began(10001, here)}, [(67, 10000), (77, 10000), (82, 10000)]),
         ("it goes on in the next call", [first, second], 90, {b1: Began(6500, here), b2: Began(7000, here)},
          [(67, 6510), (77, 7000), (82, 7000), (90, 7020)]),
+        ("a later one began later than now", [times.Call(300, 120, [])], 120, {b3: Began(10001, here)}, [(120, 10000)]),
         ("of another generation", [first], 82, {(1, 50): Began(2000, here)}, [(67, 10000), (77, 10000), (82, 10000)]),
         ("bytes that came as a call began", [first, times.Call(300, 120, [])], 120, {b1: Began(2000, here), b3: Began(4000, here)},
          [(67, 2010), (77, 3000), (82, 3000), (120, 4000)]),
@@ -170,6 +172,7 @@ def ages_of_bytes() -> None:
     ]  # fmt: skip
     for name, calls, size, began, wanted in cases:
         same(name, within(came(calls, 0, began, here, 10000), size, 10000), [Came(*one) for one in wanted])
+    same("the file is of another generation", came([first], 1, {b1: Began(2000, here)}, here, 10000)[-1], Came(82, 10000))
     same("no byte", within([], 0, 10000), [])
     same("over", [over_at(calls) for calls in ([], [first], [first, times.Call(1, 0, [(1, "over", 70), (2, "heard", 1), (3, "over", 80)]), third])], [None, None, 80])
     capture = b"\x86\x00\x43" + bytes(64) + b"more"
@@ -183,6 +186,45 @@ def ages_of_bytes() -> None:
         ("a newer program's", content.replace(b"1 times", b"2 times"), capture), ("torn", content[:20], capture),
     ):  # fmt: skip
         same(name, calls_of(text, first_bytes), ([], 0))
+
+
+def no_byte_is_older() -> None:
+    """Random calls under several starts of the computer, of which some lines are lost: no byte is taken for older than it is; and if all is
+    known and the computer wasn't started again, each has its own time."""
+    draw = random.Random(5)
+    faults, inexact = 0, 0
+    for _ in range(3000):
+        loses = draw.random() < 0.7
+        now = started = 0  # milliseconds of the world, and when the computer was started last
+        truth: List[int] = []  # when each byte came
+        calls: List[times.Call] = []
+        began: Dict[Begin, Began] = {}
+        starts = 1
+        for number in range(draw.randint(1, 5)):
+            now += draw.randint(0, 2000)
+            if draw.random() < 0.3:
+                starts, started = starts + 1, now
+                now += draw.randint(0, 50)
+            if loses and truth and draw.random() < 0.2:
+                del truth[draw.randint(0, len(truth)) :]  # a power cut takes bytes, but not what speaks of them
+            call, begins = times.Call(100 * number, len(truth), []), now
+            if not (loses and draw.random() < 0.2):
+                began[0, call.offset] = Began(now - started, f"{starts:x}")
+            for _ in range(draw.randint(0, 6)):
+                now += draw.randint(0, 500)
+                size, what = draw.randint(0, 3), draw.choice(["heard", "added", "asked"])
+                call.events.append((now - begins, what, size))
+                truth += [now] * (0 if what == "asked" else size)
+            if loses and draw.random() < 0.4:
+                del call.events[draw.randint(0, len(call.events)) :]
+            calls.append(call)
+        now += draw.randint(0, 2000)
+        until = now - started
+        found = within(came(calls, 0, began, f"{starts:x}", until), len(truth), until)
+        ages = [next(one.at for one in found if one.size > byte) for byte in range(len(truth))]
+        faults += sum(at < was - started for at, was in zip(ages, truth)) + (ages != sorted(ages)) + any(at > until for at in ages)
+        inexact += not loses and starts == 1 and ages != [was - started for was in truth]
+    same("bytes that are taken for older, and games with other times", (faults, inexact), (0, 0))
 
 
 def calls_are_kept() -> None:
@@ -207,12 +249,27 @@ def calls_are_kept() -> None:
         calls, generation = calls_of(content, first)
         same("each call", (sorted(began), generation, len(calls)), ([(0, call.offset) for call in calls], 0, 3))
         same("by this clock", all(before <= one.at <= milliseconds() and one.start == this_start() for one in began.values()), True)
-        same("all has a time", came(calls, 0, 201, began, this_start(), milliseconds())[-1].size, 201)
+        same("all has a time", came(calls, 0, began, this_start(), milliseconds())[-1].size, 201)
     with tempfile.TemporaryDirectory() as folder:
         path = f"{folder}/01.began"
         for begin, one in (((0, 50), Began(5, "a-1")), ((0, 50), Began(7, "a-2")), ((1, 50), Began(9, "b"))):
             keep_began(path, began_line(begin, one))
         same("the last line about a begin counts", read_began(pathlib.Path(path).read_bytes()), {(0, 50): Began(7, "a-2"), (1, 50): Began(9, "b")})
+    dump = bytes([0x86, 0, 67]) + bytes(64)
+    first = times.heading(0, dump) + b"0 begin 0\n1 heard 67\n"
+    for middle, size, stays in ((b"", 67, True), (b"", 100, True), (b"", 50, False), (b"2 over 67\n", 67, False), (b"2 over 67\n", 100, False)):
+        with tempfile.TemporaryDirectory() as folder:
+            paths = Paths(f"{folder}/01")
+            pathlib.Path(paths.capture).write_bytes(3 * dump)
+            pathlib.Path(f"{folder}/01.times").write_bytes(first + middle + b"0 begin 67\n1 heard 67\n1 heard 67\n")
+            keep_began(paths.began, b"0 1 1 a\n")
+            capture = Capture.open(paths.capture)
+            kept = Times(paths, capture)
+            kept.look()
+            kept.cut(size)
+            kept.close()
+            capture.close()
+            same(f"cut to {size}, {middle!r}: calls have their places still", os.path.exists(paths.began), stays)
     for torn in (b"", b"\n", b"0 50 7 a", b"x 50 7 a\n", b"0 50 -7 a\n", b"0 50 7\n", b"\xff\n", b"0 50 7 a b\n"):
         same(f"no line: {torn!r}", read_began(torn), {})
 
@@ -557,5 +614,5 @@ def for_spectators() -> None:
     ))  # fmt: skip
 
 
-TABLES = [shown_when, game_goes_by, restarts, ages_of_bytes, calls_are_kept, what_is_kept, hidden_or_not, kept_delays, clocks_run, runs_of_a_command,
+TABLES = [shown_when, game_goes_by, restarts, ages_of_bytes, no_byte_is_older, calls_are_kept, what_is_kept, hidden_or_not, kept_delays, clocks_run, runs_of_a_command,
           one_run_at_a_time, scripts_of_the_docs, for_spectators]  # fmt: skip

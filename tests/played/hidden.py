@@ -7,7 +7,9 @@ from typing import List
 
 from live.broadcast.running import Clocks
 from live.broadcast.shot import Shot
+from live.game import times
 from live.web.view import Ply
+from played.stage import bytes_of
 
 QUEUED = "queued"  # a folder beside the games
 # Part of a script that starts a recorder: all its clocks are ahead by as many seconds as the file `ahead` says. It notes in files of that
@@ -39,12 +41,26 @@ notes("tell")
 
 
 def hidden_shots(name: object) -> List[Shot]:
-    """Those that are shown or hidden, of the game with this name, or of an output's game. They have no positions."""
+    """Those that are shown or hidden, of the game with this name, or of an output's game; none until a kill loses no time of its bytes.
+    They have no positions."""
     path = pathlib.Path(os.path.abspath(str(name)))
     folder = next((parent for parent in path.parents if (parent / QUEUED).is_dir()), path.parent)
     file = folder / QUEUED / str(path).replace("/", "%")
-    found = json.loads(file.read_text()) if file.exists() else []
+    found = json.loads(file.read_text()) if file.exists() and all(map(is_timed, captures_of(path))) else []
     return [
         Shot(result, tuple(Ply(san, clock) for san, clock in moves), (), text.encode(), Clocks(**clocks), forfeit)
         for result, moves, text, clocks, forfeit in found
     ]
+
+
+def captures_of(path: pathlib.Path) -> List[pathlib.Path]:
+    """The captures of a game, of an output's game, or of the games of a series."""
+    games = path.parent.parent if path.parent.name.startswith("output-") else path.parent
+    return [*games.glob(f"{path.name}.dgt"), *games.glob(f"{path.name}-[0-9].dgt")]
+
+
+def is_timed(capture: pathlib.Path) -> bool:
+    """Whether the file of times accounts for all bytes of a capture, up to its game's end."""
+    end, size = capture.with_name(f"{capture.stem}.end"), capture.stat().st_size
+    found = times.kept(bytes_of(capture.with_name(f"{capture.stem}.times")))
+    return not size or (isinstance(found, times.Kept) and found.covered >= min(size, int(bytes_of(end) or size)))

@@ -73,6 +73,20 @@ def said_at_each_place(folder: pathlib.Path) -> None:
     same(said_again(program_, [paths], 100000.0, time.monotonic), [])
 
 
+def forfeited_since_then(folder: pathlib.Path) -> None:
+    """A board shows the start three times, a second after each other, and after the first or second one somebody types that neither player
+    came: the game is forfeited from the next picture on. If it isn't known how many bytes there were, nothing says since when."""
+    dump = (TOP / "samples" / "short-game.dgt").read_bytes()[:67]
+    paths, heading = Paths(f"{folder}/01"), times.heading(0, dump)
+    pathlib.Path(paths.capture).write_bytes(3 * dump)
+    pathlib.Path(f"{folder}/01.times").write_bytes(heading + b"0 begin 0\n1000 heard 67\n2000 heard 67\n3000 heard 67\n")
+    pathlib.Path(paths.began).write_bytes(began_line((0, len(heading)), Began(timed.milliseconds() - 10000, this_start())))
+    for content, wanted in ((b"-- 67\n", ["", "--", "--"]), (b"-- 134\n", ["", "", "--"]), (b"-- 201\n", [""] * 3), (b"--\n", [""] * 3), (b"+- 67\n", [""] * 3)):
+        pathlib.Path(paths.forfeit).write_bytes(content)
+        said = said_again(Program(program()), [paths], 900.0, time.monotonic)
+        same((content, [shot.forfeit for _, shot in said][:3]), (content, wanted))
+
+
 def back_and_killed(folder: pathlib.Path) -> None:
     """Plies are taken off, so that the game has another capture, and it is killed: spectators see first what they would have seen of
     the old one, and then the new one."""
@@ -176,4 +190,4 @@ def result_put_right(folder: pathlib.Path) -> None:
     same((ended(live), game.shown), (0, [DRAWN] * 2))
 
 
-CASES = [said_at_each_place, back_and_killed, series_killed, clocks_run_again, result_put_right]
+CASES = [said_at_each_place, forfeited_since_then, back_and_killed, series_killed, clocks_run_again, result_put_right]

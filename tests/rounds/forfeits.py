@@ -127,6 +127,10 @@ def late_forfeits(folder: pathlib.Path) -> None:
     until(lambda: shown(port) == {1: WHITE, 2: "0-0 forfeit"}, "the same on the page", 0.05)
     witness.look_at(port)
     same(stop(live), 0)
+    live = round_.record("--page", str(port))
+    until_line(live, "the round is shown at")
+    until(lambda: shown(port) == {1: WHITE, 2: "0-0 forfeit"}, "the same after another start", 0.05)
+    same(stop(live), 0)
     witness.end()
 
 

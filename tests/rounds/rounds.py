@@ -142,7 +142,7 @@ def packed(folder: pathlib.Path) -> None:
     hall.begun(live)
     hall.play(0, 2)
     same(ended(Live("", "", "--pack", hall.name(2))), 0)
-    endings = ("dgt", "times", "pgn", "options", "log")
+    endings = ("dgt", "times", "began", "pgn", "options", "log")
     same(zipfile.ZipFile(f"{hall.name(2)}.zip").namelist(), ["02/README.txt", *(f"02/02.{ending}" for ending in endings)])
     hall.play(2, 4)
     hall.until_round()
