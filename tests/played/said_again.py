@@ -18,7 +18,8 @@ from live.game.times import HEADED
 from play_board import BLACK, KING
 from played import TOP
 from played.back import answered
-from played.late import AGAIN, DRAWN, WAITS, WON, Game
+from played.hidden import QUEUED
+from played.late import AGAIN, DRAWN, WAITS, WON, Game, text_of
 from played.stage import RUY_TEXT, begun, bytes_of, ended, kill, program, rest, run, same, stop, until, until_dumped, until_line
 
 
@@ -160,7 +161,12 @@ def clocks_run_again(folder: pathlib.Path) -> None:
     game.board.play("e7e5")
     game.until_kept("1. e4 e5 *")
     kill(live)
+    for noted in (folder / QUEUED).iterdir():
+        noted.unlink()
+    live = game.record(delay="")
+    until(lambda: "1. e4 e5 *" in [text_of(shot.text) for shot in game.hidden()], "what the next one has", 0.02)
     running = [shot.clocks for shot in game.hidden() if shot.clocks.runs]
+    kill(live)
     same({(clocks.white, clocks.black, clocks.runs) for clocks in running}, {("1:30:00", "1:29:50", "b")})
     same([began + 10 <= clocks.at <= time.monotonic() + 10 for clocks in running], [True] * len(running))
 
