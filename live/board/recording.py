@@ -411,7 +411,7 @@ class Recording(AttendedGame):
         """The program says that the game is over. What it says of an end again, once another child attends the board, is known."""
         if self._is_over or self._begins_anew or self._is_reopened:
             return
-        if is_known and over.size == front_of(self.game.paths, self.game.capture) != 0:  # its times don't tell that an arbiter has reopened it
+        if is_known and over.size <= front_of(self.game.paths, self.game.capture):  # its times don't tell that an arbiter has reopened it
             self._tell(REOPENED)
             return
         is_typed = self._typed == over.result and self._by_hand.start < over.size <= self._by_hand.stop
