@@ -6,7 +6,7 @@ import os
 from dataclasses import dataclass
 from typing import Callable, Optional, Protocol
 
-from live.board.recording import Rules
+from live.board.reasons import Rules
 from live.board.whose import Owner
 from live.game.files import Paths
 from live.game.reply import Answer

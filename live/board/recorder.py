@@ -14,7 +14,8 @@ from live.board.cable import Cable
 from live.board.disk import unwritten_of
 from live.board.on_the_way import LENDS, OnTheWay
 from live.board.plan import HearsRecorder, Plan, numbered
-from live.board.recording import PLAYED_ON, Reason, Recording
+from live.board.reasons import PLAYED_ON, Reason
+from live.board.recording import Recording
 from live.board.standing import Standing
 from live.board.whose import another, back, may_take
 from live.game.alarms import acknowledge, keep_looks, kept_looks

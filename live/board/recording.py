@@ -2,16 +2,15 @@
 
 from __future__ import annotations
 
-import enum
 import itertools
 import operator
 import os
-from dataclasses import dataclass
 from typing import Callable, List, Optional, Protocol, Sequence
 
 from live.beside import Worker
 from live.board.attended_game import PATIENCE, AttendedGame, HearsGame
 from live.board.disk import Disk, unwritten_of
+from live.board.reasons import SAID, Reason, Rules
 from live.board.standing import Standing
 from live.board.state import lasting, mend_of, trouble_of
 from live.game import times
@@ -35,37 +34,6 @@ TICK = 1.0  # seconds between two looks at what waits
 OF_A_BYTE = operator.attrgetter("offset")  # lines of one byte have the same
 LARGE = 48 * 1024 * 1024  # bytes of a capture, at which somebody may still look at its board
 STANDS = 10  # seconds that a result stands before the program says that it ends a game
-
-
-class Reason(enum.Enum):
-    """Why a game is over."""
-
-    RESULT = "it has a result"
-    TYPED = "its result was given"
-    PLAYS_ON = "another move was made after its result"
-    CORRECTED = "its last move was corrected after its result"
-    SET_UP = "the pieces are at the start again"
-    LIMIT = "its capture is full"
-
-
-SAID = {"PLAYS-ON": Reason.PLAYS_ON, "CORRECTED": Reason.CORRECTED, "UNFINISHED": Reason.SET_UP}  # by the program's word
-PLAYED_ON = (Reason.PLAYS_ON, Reason.CORRECTED)  # the board isn't left alone
-
-
-@dataclass(frozen=True)
-class Rules:
-    """Whether another game follows on the same board; and whether the board is listened to once its game is over."""
-
-    series: bool = False
-    listens: bool = False
-
-    def marks(self, reason: Reason) -> bool:
-        """Whether to mark how many bytes are the game's, since others may come after them."""
-        return self.series or reason not in (Reason.RESULT, Reason.LIMIT) or (self.listens and reason is Reason.RESULT)
-
-    def attends(self, reason: Reason) -> bool:
-        """Whether the board is attended after that."""
-        return self.series or reason in PLAYED_ON or (self.listens and reason is not Reason.LIMIT)
 
 
 class HearsRecording(HearsGame, Protocol):
@@ -411,7 +379,7 @@ class Recording(AttendedGame):
         """The program says that the game is over. What it says of an end again, once another child attends the board, is known."""
         if self._is_over or self._begins_anew or self._is_reopened:
             return
-        if is_known and over.size == front_of(self.game.paths, self.game.capture) != 0:  # its times don't tell that an arbiter has reopened it
+        if is_known and over.size <= front_of(self.game.paths, self.game.capture):  # its times don't tell that an arbiter has reopened it
             self._tell(REOPENED)
             return
         is_typed = self._typed == over.result and self._by_hand.start < over.size <= self._by_hand.stop

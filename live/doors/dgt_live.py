@@ -6,7 +6,7 @@ import os
 from typing import TYPE_CHECKING, List, Optional, Sequence
 
 from live.board.plan import Plan, last_number, numbered
-from live.board.recording import Rules
+from live.board.reasons import Rules
 from live.board.single import Choice, Single
 from live.device import serial_line
 from live.doors import calls

@@ -9,7 +9,7 @@ from typing import Callable, List, Optional, Protocol, Tuple
 
 from live.board.board import Board, Wanted
 from live.board.plan import Plan
-from live.board.recording import Rules
+from live.board.reasons import Rules
 from live.board.state import OTHER_BOARD, Kind, State
 from live.broadcast.games import written_name
 from live.broadcast.going_out import GoingOut

@@ -79,7 +79,7 @@ def times_lost(folder: pathlib.Path) -> None:
     same(ended(live), 0)
     same(call("--add", "*", live.name).returncode, 0)
     again = go_on(board, live)
-    until_line(again, words.IN_HAND)
+    until_line(again, words.SETTING_UP)
     for move in RUY:
         board.play(move)
     until(lambda: again.lines().endswith(words.AGREES + "\n"), "that it agrees")

@@ -1,0 +1,37 @@
+"""Why a game is over, and what becomes of its board then."""
+
+from __future__ import annotations
+
+import enum
+from dataclasses import dataclass
+
+
+class Reason(enum.Enum):
+    """Why a game is over."""
+
+    RESULT = "it has a result"
+    TYPED = "its result was given"
+    PLAYS_ON = "another move was made after its result"
+    CORRECTED = "its last move was corrected after its result"
+    SET_UP = "the pieces are at the start again"
+    LIMIT = "its capture is full"
+
+
+SAID = {"PLAYS-ON": Reason.PLAYS_ON, "CORRECTED": Reason.CORRECTED, "UNFINISHED": Reason.SET_UP}  # by the program's word
+PLAYED_ON = (Reason.PLAYS_ON, Reason.CORRECTED)  # the board isn't left alone
+
+
+@dataclass(frozen=True)
+class Rules:
+    """Whether another game follows on the same board; and whether the board is listened to once its game is over."""
+
+    series: bool = False
+    listens: bool = False
+
+    def marks(self, reason: Reason) -> bool:
+        """Whether to mark how many bytes are the game's, since others may come after them."""
+        return self.series or reason not in (Reason.RESULT, Reason.LIMIT) or (self.listens and reason is Reason.RESULT)
+
+    def attends(self, reason: Reason) -> bool:
+        """Whether the board is attended after that."""
+        return self.series or reason in PLAYED_ON or (self.listens and reason is not Reason.LIMIT)
