@@ -68,7 +68,8 @@ def is_over_with(page: Page, look: str, moves: int) -> None:
 @with_chromium
 def plays_on(folder: pathlib.Path) -> None:
     """The kings show a result, and another move is made before it has stood for ten seconds: the game is over with the result. The move
-    after that is something to look at, also when the page is opened again; but not once somebody has looked. `*` goes on with both."""
+    after that is something to look at, also when the page is opened again; but not once somebody has looked. `*` goes on with both, also
+    when the page is opened again, and another result ends the game."""
     with Hall(folder) as stage:
         page, port = begin(stage)
         until_agrees(stage, page)
@@ -92,6 +93,8 @@ def plays_on(folder: pathlib.Path) -> None:
         answered(stage, page, "*", "board 1 goes on, without the result")
         stage.until_moves(page, RUY_SANS[:4])
         until_agrees(stage, page)
+        opened_again(stage, page, port)
+        same((page.text("#state").split(",")[0], page.moves), ("agrees", RUY_SANS[:4]))
         answered(stage, page, "0-1", "added by hand: the result 0-1")
         until_over(stage, page)
         game, capture = stage.saved(page, "#save-game"), stage.saved(page, "#save-capture")

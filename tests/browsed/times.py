@@ -183,6 +183,7 @@ def times_of_the_way_back(folder: pathlib.Path) -> None:
         stage.until_moves(page, ["e4", "c5", "Nf3"])
         found = until_ends(stage, page, [])
         same((found.gone_back, len(found.calls), end_of(page), found.words().count("back")), (1, 1, None, 2))
+        same(found.words().count("reopened"), 1)
         same(said_of_times(page), [])
 
 

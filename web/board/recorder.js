@@ -11,7 +11,7 @@ import { ProgramError } from '../game/program.js';
 import { gameOf, newCourse, publishedOf, textOf } from '../game/reading.js';
 import { codesOf, shortOf, shownOf, wordsOf } from '../game/report.js';
 import { ABSENT, Refused } from '../game/typed.js';
-import { ADDED, ASKED, BACK, HEARD, LOOKED, OVER, SUSPECT, isOf, kept as foundIn } from '../game/times.js';
+import { ADDED, ASKED, BACK, HEARD, LOOKED, OVER, REOPENED, SUSPECT, isOf, kept as foundIn } from '../game/times.js';
 import { isAltered, reached, readBack, wentOn } from '../game/way_back.js';
 import { Capture, LARGEST } from '../kept/capture.js';
 import { spread, withMore } from '../kept/spread.js';
@@ -592,6 +592,7 @@ export class Recorder {
     this.played = 0;
     this.reread();
     this.times.isNotOver();
+    this.tells(REOPENED);
     this.tells(BACK);
     await this.times.write(); // before the game's record: the times would have an end that the game lacks
     await this.keepGame();
@@ -768,7 +769,8 @@ export class Recorder {
     const chunks = spread(content, this.guard.now());
     const { all } = this.times;
     const before = { game: this.game.id, name: this.game.name, at: this.guard.now(), bytes: this.capture.bytes(), times: all };
-    const game = { ...this.game, hasBefore: this.game.hasBefore || keepsBefore, typedTo: 0, overTo: 0, played: 0, ...changes };
+    const hasBefore = this.game.hasBefore || keepsBefore;
+    const game = { ...this.game, hasBefore, typedTo: 0, overTo: 0, played: 0, ...changes };
     const capture = new Capture(this.database, game.id, chunks);
     const times = timesOf(game, capture);
     const isBack = changes.end === null;
