@@ -232,7 +232,7 @@ fn first_other_digest() -> Option<usize> {
 fn files_are_read_and_fit_their_captures(rt: HostRuntime) {
     let holds = [
         first_unlike(rt.alloc()).is_none(),
-        is_written_again(rt.alloc(), FILES[16].0),
+        is_written_again(rt.alloc(), FILES[18].0),
         first_misfit(rt.alloc()).is_none(),
         first_other_digest().is_none(),
     ];
