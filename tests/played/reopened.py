@@ -71,7 +71,7 @@ def set_up_and_back(folder: pathlib.Path) -> None:
     is_whole(live)
 
 
-def times_lost(folder: pathlib.Path) -> None:
+def reopened_without_times(folder: pathlib.Path) -> None:
     """A game whose pieces were set up is reopened, and goes on; then its times are lost. It goes on when it is recorded again."""
     board, live = ruy(folder)
     board.set_up([])
