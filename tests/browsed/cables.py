@@ -35,7 +35,7 @@ def choose(page: Page, port: Port, where: str) -> None:
 
 def away(stage: Hall, page: Page, number: Optional[int] = None) -> Port:
     """A board is recorded, is unplugged after two plies, and the browser has forgotten its device."""
-    page.click("#back") if page.shows("#back") else None
+    stage.show_all(page) if page.shows("#back") else None
     port = stage.board()
     if number:
         numbered(port, number)
@@ -121,7 +121,7 @@ def no_second_card(folder: pathlib.Path) -> None:
         stage.plug(port)  # the number is asked for when the line is opened
         stage.until(lambda: page in port.holders, "the board to be opened again")
         until_agrees(stage, page)
-        page.click("#back")
+        stage.show_all(page)
         choose(page, port, "#add")
         stage.until(lambda: any("recorded already" in line for line in page.messages), "a word on it")
         same((page.value(CARDS), page.text("#title")), (1, "Board 1"))
@@ -131,7 +131,7 @@ def no_second_card(folder: pathlib.Path) -> None:
         same(page.value(CARDS), 1)
         stage.press(page, "It is another board")
         stage.until(lambda: page.value(CARDS) == 2, "a card for the other board")
-        page.click("#back")
+        stage.show_all(page)
         stage.enlarge(page, 2)
         until_agrees(stage, page)
         play(stage, page, twin, QUEENS[:1], QUEENS_SANS[:1])
@@ -161,7 +161,7 @@ def chosen_for_another(folder: pathlib.Path) -> None:
         for number in (10001, 10002):
             away(stage, page, number)
         second = moved(stage, stage.ports[1])
-        page.click("#back")
+        stage.show_all(page)
         stage.enlarge(page, 1)
         choose(page, second, "#choose")
         stage.until_text(page, "#title", "Board 2")
@@ -187,7 +187,7 @@ def cables_exchanged(folder: pathlib.Path) -> None:
         page = stage.tab()
         first, second = numbered(stage.board(), 10001), numbered(stage.board(), 10002)
         for port, moves, sans in ((first, RUY[:2], RUY_SANS[:2]), (second, QUEENS[:2], QUEENS_SANS[:2])):
-            page.click("#back") if page.shows("#back") else None
+            stage.show_all(page) if page.shows("#back") else None
             stage.add(page, port)
             stage.enlarge(page, port.number)
             until_agrees(stage, page)
@@ -196,7 +196,7 @@ def cables_exchanged(folder: pathlib.Path) -> None:
         goes = "what it sends goes to the game of board 1"
         stage.until(lambda: any(goes in line for line in page.messages), "a word on the other board")
         play(stage, page, first, QUEENS[2:4], QUEENS_SANS[2:4])  # the board of the second game, on the first port
-        page.click("#back")
+        stage.show_all(page)
         stage.enlarge(page, 1)
         stage.until_part(page, "#state", "LOOK at the cable")
         play(stage, page, second, RUY[2:4], RUY_SANS[2:4])
@@ -205,7 +205,7 @@ def cables_exchanged(folder: pathlib.Path) -> None:
         play(stage, page, first, RUY[4:6], RUY_SANS[4:6])
         text, capture = stage.saved(page, "#save-game"), stage.saved(page, "#save-capture")
         same(text, of_record(text, capture))
-        page.click("#back")
+        stage.show_all(page)
         stage.enlarge(page, 2)
         play(stage, page, second, QUEENS[4:], QUEENS_SANS[4:])
         same(page.tab.printed(), [])
@@ -217,7 +217,7 @@ def two_alike(stage: Hall, page: Page, numbers: Sequence[int] = ()) -> List[Port
     for port, number in zip(ports, numbers):
         numbered(port, number)
     for port in ports:
-        page.click("#back") if page.shows("#back") else None
+        stage.show_all(page) if page.shows("#back") else None
         stage.add(page, port)
         stage.enlarge(page, port.number)
         until_agrees(stage, page)
@@ -252,7 +252,7 @@ def exchanged_though_alike(folder: pathlib.Path) -> None:
         page = stage.tab()
         first, second = two_alike(stage, page)
         third, fourth = two_alike(stage, page, (10003, 10004))
-        page.click("#back")
+        stage.show_all(page)
         hub_fails(stage, page, [first])
         hub_fails(stage, page, [third, fourth])
         same([state for state in states(page) if "cable" in state], [])
@@ -268,7 +268,7 @@ def exchanged_though_alike(folder: pathlib.Path) -> None:
         stage.rest(2)
         same(["LOOK at the cable" in state for state in states(page)], [True, True, False, False])
         for number in (1, 2):
-            page.click("#back") if page.shows("#back") else None
+            stage.show_all(page) if page.shows("#back") else None
             stage.enlarge(page, number)
             page.click("#ok")
             stage.until(lambda: "LOOK" not in page.text("#state"), "no alarm any more")

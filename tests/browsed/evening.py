@@ -20,7 +20,7 @@ SPANISH_SANS = [*RUY_SANS[:5], "Nf6", "O-O", "Be7"]  # on the second board, with
 
 
 def turn_to(stage: Hall, page: Page, number: int) -> None:
-    page.click("#back")
+    stage.show_all(page)
     stage.enlarge(page, number)
 
 

@@ -138,7 +138,7 @@ def two_boards(folder: pathlib.Path) -> None:
         page, first = begin(stage)
         until_agrees(stage, page)
         second = stage.board(rotated=True)
-        page.click("#back")
+        stage.show_all(page)
         stage.add(page, second)
         stage.enlarge(page, 2)
         stage.until(lambda: "turned round" in page.text("#state"), "the question whether the board is turned round")
@@ -151,12 +151,12 @@ def two_boards(folder: pathlib.Path) -> None:
             sans[0].append(RUY_SANS[ply])
             sans[1].append(QUEENS_SANS[ply])
             stage.until_moves(page, sans[1])
-        page.click("#back")
+        stage.show_all(page)
         stage.until_text(page, "a.tile[href='#1'] .last", "3... a6")
         stage.until_text(page, "a.tile[href='#2'] .last", "3... Nf6")
         both = stage.saved(page, "#save-round")
         for number, (port, options) in enumerate(((first, ()), (second, ("--rotated",))), 1):
-            page.click("#back") if number > 1 else None
+            stage.show_all(page) if number > 1 else None
             stage.enlarge(page, number)
             stage.until_moves(page, sans[number - 1])
             text, capture = stage.saved(page, "#save-game"), stage.saved(page, "#save-capture")

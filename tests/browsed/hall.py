@@ -238,7 +238,13 @@ class Hall:
         self.until(lambda: page.shows(tile) or page.text("#title") == f"Board {number}", f"board {number}")
         if page.text("#title") != f"Board {number}" or not page.shows("#title"):
             page.click(tile)
-        self.until_text(page, "#title", f"Board {number}")
+        self.until(lambda: page.shows("#title") and page.text("#title") == f"Board {number}", f"board {number} to be large")
+
+    def show_all(self, page: Page) -> None:
+        """Goes back from the large board to all boards: a click, after which the page needs a moment. Until then it shows the large
+        board, which a case must not take for one that it has just enlarged."""
+        page.click("#back")
+        self.until(lambda: not page.shows("#title"), "all boards, and none large")
 
     def until_none_is_large(self, page: Page) -> None:
         """The page goes back to all boards by itself, once it has done what was asked."""

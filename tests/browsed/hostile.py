@@ -148,14 +148,14 @@ def odd_texts(folder: pathlib.Path) -> None:
         options = [f"--{tag}=-bye-" for tag in ("event", "site", "round", "white", "black")]
         same(text, of_record(text, capture, *options))
         other = stage.board()
-        page.click("#back")
+        stage.show_all(page)
         stage.add(page, other)
         stage.enlarge(page, 2)
         until_agrees(stage, page)
         play(stage, page, other, RUY[:2], RUY_SANS[:2])
         text, capture = stage.saved(page, "#save-game"), stage.saved(page, "#save-capture")
         same(text, of_record(text, capture, *options[:3]))
-        page.click("#back")
+        stage.show_all(page)
         assert "NOT RECORDED" not in said(page), page.describe()
 
 

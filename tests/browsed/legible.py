@@ -67,7 +67,7 @@ def legible(folder: pathlib.Path) -> None:
         stage.until(lambda: page.shows("#round-ends"), "the window for a new round")
         legible_so(page, "a new round")
         page.click("#round-cancel")
-        page.click("#back")
+        stage.show_all(page)
         for move in QUEENS[:3]:
             second.board.play(move)
         stage.until_text(page, "a.tile[href='#2'] .last", "2. c4")

@@ -190,7 +190,7 @@ def broken_while_full(folder: pathlib.Path) -> None:
             page = opened_again(stage, port, QUEENS_SANS[:4])
             same(page.field("#white"), "Anna")
             play(stage, page, port, QUEENS[4:6], QUEENS_SANS[4:6])
-            page.click("#back")
+            stage.show_all(page)
             texts = stage.saved(page, "#save-round").split(b"[Event ")[1:]
             same([movetext_of(text) for text in texts], ["1. e4 e5 1-0", "1. d4 d5 2. c4 e6 3. Nc3 Nf6 *"])
 
@@ -220,7 +220,7 @@ def database_deleted(folder: pathlib.Path) -> None:
         page = opened_again(stage, port, QUEENS_SANS[:4])
         same(page.field("#white"), "Anna")
         play(stage, page, port, QUEENS[4:6], QUEENS_SANS[4:6])
-        page.click("#back")
+        stage.show_all(page)
         texts = stage.saved(page, "#save-round").split(b"[Event ")[1:]
         same([movetext_of(text) for text in texts], ["1. e4 e5 1-0", "1. d4 d5 2. c4 e6 3. Nc3 Nf6 *"])
 

@@ -18,7 +18,7 @@ BOTH = ["1. e4 e5 2. Nf3 Nc6 0-1", "1. d4 d5 *"]
 
 def turn_to(stage: Hall, page: Page, number: int) -> None:
     if page.shows("#back"):
-        page.click("#back")
+        stage.show_all(page)
     stage.enlarge(page, number)
 
 

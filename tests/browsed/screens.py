@@ -106,7 +106,7 @@ def sizes(folder: pathlib.Path) -> None:
         page.type("Jörg", "#black")
         looked_at(stage, page, "board")
         page.tab.look(1366, 768)
-        page.click("#back")
+        stage.show_all(page)
         stage.add(page, second)
         stage.until_part(page, "a.tile[href='#2']", "agrees")
         for move in QUEENS:

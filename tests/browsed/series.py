@@ -61,7 +61,7 @@ def saved_at_once(folder: pathlib.Path) -> None:
         until_agrees(stage, page)
         play(stage, page, port, RUY[:1], RUY_SANS[:1])
         same(movetext_of(stage.saved(page, "#save-game")), "1. e4 *")
-        page.click("#back")
+        stage.show_all(page)
         port.board.play(RUY[1])
         stage.until_text(page, "a.tile[href='#1'] .last", "1... e5")
         same(movetext_of(stage.saved(page, "#save-round")), "1. e4 e5 *")
@@ -74,7 +74,7 @@ def bad_lines(folder: pathlib.Path) -> None:
         page, port = begin(stage)
         until_agrees(stage, page)
         noisy = stage.board()
-        page.click("#back")
+        stage.show_all(page)
         stage.add(page, noisy)
         stage.enlarge(page, 1)
         port.board.spoiled_share = 0.2

@@ -395,7 +395,7 @@ def forfeited(folder: pathlib.Path) -> None:
         until_text(stage, chosen, "Anna - Ben.pgn", "1-0")
         assert b'[Termination "rules infraction"]' in chosen.files["Anna - Ben.pgn"], chosen.files["Anna - Ben.pgn"]
         stage.until_part(page, "#at", "1\u20130 forfeit")
-        page.click("#back")
+        stage.show_all(page)
         stage.until_part(page, "a.tile[href='#1']", "1\u20130 forfeit")
         stage.open(page)
         stage.until_part(page, "a.tile[href='#1']", "1\u20130 forfeit")

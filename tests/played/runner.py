@@ -1,7 +1,7 @@
 """Plays cases, each in a process of its own, some of them at once, and counts them.
 
-Where all are played, up to three that fail are played once more, each alone: on a busy machine a browser or a line may stand still
-for no fault of ours. Such a case has passed if it passes then, and that is said. If more fail, something is broken.
+Where all are played, up to three that fail are played once more, each alone. Such a case has passed if it passes then, and that is
+said: it is a fault to be found. If more fail, something is broken, and none is played again.
 """
 
 import dataclasses
