@@ -21,7 +21,7 @@ from live.game.began import read_began, this_start
 from live.game.course import Course
 from live.game.files import Opened, Paths, existing, open_regular, part_of
 from live.game.forfeiting import forfeit_of, forfeited_after
-from live.game.game import end_mark, kept_options, result_of
+from live.game.game import end_mark, kept_options
 from live.game.options import Options
 from live.game.program import CHUNK, Program, ending_of
 from live.game.reading import PIECE, new_course, wanted

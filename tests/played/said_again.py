@@ -20,7 +20,7 @@ from played import TOP
 from played.back import answered
 from played.hidden import QUEUED
 from played.late import AGAIN, DRAWN, WAITS, WON, Game, text_of
-from played.stage import RUY_TEXT, begun, bytes_of, ended, kill, program, rest, run, same, stop, until, until_dumped, until_line
+from played.stage import RUY_TEXT, begun, ended, kill, program, rest, run, same, stop, until, until_dumped, until_line
 
 
 def said_at_each_place(folder: pathlib.Path) -> None:

@@ -1,0 +1,184 @@
+"""When the bytes of a capture came, by its file of times and by when its calls began; and how many bytes are a game's."""
+
+import os
+import pathlib
+import random
+import tempfile
+from typing import Dict, List, Optional, Tuple
+
+from live.broadcast.ages import Came, calls_of, came, over_at, within
+from live.broadcast.said_again import Kept, games_before
+from live.game import times
+from live.game.began import Began, Begin, began_line, keep_began, read_began, this_start
+from live.game.files import Capture, Opened, Paths
+from live.game.timed import Times, milliseconds
+
+from decided.table import same
+
+
+def ages_of_bytes() -> None:
+    """Calls of a file of times; when they began, by which start of the computer; the size of the capture at the end, at 10,000: by when its
+    bytes had come."""
+    first = times.Call(50, 0, [(10, "heard", 67), (500, "asked", 3), (1000, "heard", 10), (900, "added", 5)])
+    second = times.Call(200, 82, [(0, "away", 99999), (20, "heard", 8)])
+    third = times.Call(300, 90, [(5, "opened", None)])
+    here, there = "this", "another"
+    b1, b2, b3 = (0, 50), (0, 200), (0, 300)
+    cases: List[Tuple[str, List[times.Call], int, Dict[Begin, Began], List[Tuple[int, int]]]] = [
+        ("nothing is known", [], 90, {}, [(90, 10000)]),
+        ("one call", [first], 82, {b1: Began(2000, here)}, [(67, 2010), (77, 3000), (82, 3000)]),
+        ("bytes without a time", [first], 90, {b1: Began(2000, here)}, [(67, 2010), (77, 3000), (82, 3000), (90, 10000)]),
+        ("it has fewer", [first], 70, {b1: Began(2000, here)}, [(67, 2010), (70, 3000)]),
+        ("two calls, and `away` counts for nothing", [first, second], 90, {b1: Began(2000, here), b2: Began(7000, here)},
+         [(67, 2010), (77, 3000), (82, 3000), (90, 7020)]),
+        ("a call under another start of the computer ended as the next began", [first, second], 90,
+         {b1: Began(5, there), b2: Began(7000, here)}, [(67, 6010), (77, 7000), (82, 7000), (90, 7020)]),
+        ("all under another start: the last event was just now", [first, second], 90, {b1: Began(5, there), b2: Began(9, there)},
+         [(67, 8990), (77, 9980), (82, 9980), (90, 10000)]),
+        ("nobody kept when the first one began", [first, second], 90, {b2: Began(7000, here)}, [(67, 7000), (77, 7000), (82, 7000), (90, 7020)]),
+        ("nor the last one", [first, second], 90, {b1: Began(2000, here)}, [(67, 2010), (77, 3000), (82, 3000), (90, 10000)]),
+        ("it began later than now", [first], 82, {b1: Began(10001, here)}, [(67, 10000), (77, 10000), (82, 10000)]),
+        ("it goes on in the next call", [first, second], 90, {b1: Began(6500, here), b2: Began(7000, here)},
+         [(67, 6510), (77, 7000), (82, 7000), (90, 7020)]),
+        ("a later one began later than now", [times.Call(300, 120, [])], 120, {b3: Began(10001, here)}, [(120, 10000)]),
+        ("of another generation", [first], 82, {(1, 50): Began(2000, here)}, [(67, 10000), (77, 10000), (82, 10000)]),
+        ("bytes that came as a call began", [first, times.Call(300, 120, [])], 120, {b1: Began(2000, here), b3: Began(4000, here)},
+         [(67, 2010), (77, 3000), (82, 3000), (120, 4000)]),
+        ("bytes that a power cut took", [first, times.Call(300, 70, [(5, "heard", 9)])], 79, {b1: Began(2000, here), b3: Began(4000, here)},
+         [(67, 2010), (70, 4000), (79, 4005)]),
+        ("three", [first, second, third], 90, {b1: Began(5, there), b2: Began(6, there), b3: Began(8000, here)},
+         [(67, 6990), (77, 7980), (82, 7980), (90, 8000)]),
+    ]  # fmt: skip
+    for name, calls, size, began, wanted in cases:
+        same(name, within(came(calls, 0, began, here, 10000), size, 10000), [Came(*one) for one in wanted])
+    same("the file is of another generation", came([first], 1, {b1: Began(2000, here)}, here, 10000)[-1], Came(82, 10000))
+    same("no byte", within([], 0, 10000), [])
+    over_twice = times.Call(1, 0, [(1, "over", 70), (2, "heard", 1), (3, "over", 80)])
+    lists: List[List[times.Call]] = [[], [first], [first, over_twice, third]]
+    same("over", [over_at(calls) for calls in lists], [None, None, 80])
+    capture = b"\x86\x00\x43" + bytes(64) + b"more"
+    heading = times.heading(3, capture[:67])
+    content = heading + b"0 begin 67\n0 away 12\n5 heard 4\n7 over 71\n0 begin 71\n9 o"
+    at = len(heading)
+    found = [times.Call(at, 67, [(0, "away", 12), (5, "heard", 4), (7, "over", 71)]), times.Call(content.index(b"0 begin 71"), 71, [])]
+    same("calls of a file", calls_of(content, capture), (found, 3))
+    for name, text, first_bytes in (
+        ("another capture's", content, b"\x86\x00\x43" + bytes(63) + b"x"), ("a longer one's", content, capture[:66]), ("none", b"", capture),
+        ("a newer program's", content.replace(b"1 times", b"2 times"), capture), ("torn", content[:20], capture),
+    ):  # fmt: skip
+        same(name, calls_of(text, first_bytes), ([], 0))
+
+
+def no_byte_is_older() -> None:
+    """Random calls under several starts of the computer, of which some lines are lost: no byte is taken for older than it is; and if all is
+    known and the computer wasn't started again, each has its own time."""
+    draw = random.Random(5)
+    faults, inexact = 0, 0
+    for _ in range(3000):
+        loses = draw.random() < 0.7
+        now = started = 0  # milliseconds of the world, and when the computer was started last
+        truth: List[int] = []  # when each byte came
+        calls: List[times.Call] = []
+        began: Dict[Begin, Began] = {}
+        starts = 1
+        for number in range(draw.randint(1, 5)):
+            now += draw.randint(0, 2000)
+            if draw.random() < 0.3:
+                starts, started = starts + 1, now
+                now += draw.randint(0, 50)
+            if loses and truth and draw.random() < 0.2:
+                del truth[draw.randint(0, len(truth)) :]  # a power cut takes bytes, but not what speaks of them
+            call, begins = times.Call(100 * number, len(truth), []), now
+            if not (loses and draw.random() < 0.2):
+                began[0, call.offset] = Began(now - started, f"{starts:x}")
+            for _ in range(draw.randint(0, 6)):
+                now += draw.randint(0, 500)
+                size, what = draw.randint(0, 3), draw.choice(["heard", "added", "asked"])
+                call.events.append((now - begins, what, size))
+                truth += [now] * (0 if what == "asked" else size)
+            if loses and draw.random() < 0.4:
+                del call.events[draw.randint(0, len(call.events)) :]
+            calls.append(call)
+        now += draw.randint(0, 2000)
+        until = now - started
+        found = within(came(calls, 0, began, f"{starts:x}", until), len(truth), until)
+        ages = [next(one.at for one in found if one.size > byte) for byte in range(len(truth))]
+        faults += sum(at < was - started for at, was in zip(ages, truth)) + (ages != sorted(ages)) + any(at > until for at in ages)
+        inexact += not loses and starts == 1 and ages != [was - started for was in truth]
+    same("bytes that are taken for older, and games with other times", (faults, inexact), (0, 0))
+
+
+def calls_are_kept() -> None:
+    """A game is recorded in three calls, and goes back: for each `begin` in its times there is when it began, and nothing is torn."""
+    with tempfile.TemporaryDirectory() as folder:
+        paths, before = Paths(f"{folder}/01"), milliseconds()
+        for call in range(3):
+            capture = Capture.open(paths.capture)
+            kept = Times(paths, capture)
+            kept.look()
+            kept.begin()
+            capture.append(bytes([0x86, 0, 67]) + bytes(64))
+            kept.note("heard", 67)
+            kept.write()
+            if call == 1:
+                with open(paths.began, "ab") as file:
+                    file.write(b"0 123 4")  # the power failed
+            kept.close()
+            capture.close()
+        content, first = pathlib.Path(f"{paths.name}.times").read_bytes(), pathlib.Path(paths.capture).read_bytes()
+        began = read_began(pathlib.Path(paths.began).read_bytes())
+        calls, generation = calls_of(content, first)
+        same("each call", (sorted(began), generation, len(calls)), ([(0, call.offset) for call in calls], 0, 3))
+        same("by this clock", all(before <= one.at <= milliseconds() and one.start == this_start() for one in began.values()), True)
+        same("all has a time", came(calls, 0, began, this_start(), milliseconds())[-1].size, 201)
+    with tempfile.TemporaryDirectory() as folder:
+        path = f"{folder}/01.began"
+        for begin, one in (((0, 50), Began(5, "a-1")), ((0, 50), Began(7, "a-2")), ((1, 50), Began(9, "b"))):
+            keep_began(path, began_line(begin, one))
+        same("the last line about a begin counts", read_began(pathlib.Path(path).read_bytes()), {(0, 50): Began(7, "a-2"), (1, 50): Began(9, "b")})
+    dump = bytes([0x86, 0, 67]) + bytes(64)
+    first = times.heading(0, dump) + b"0 begin 0\n1 heard 67\n"
+    for middle, size, stays in ((b"", 67, True), (b"", 100, True), (b"", 50, False), (b"2 over 67\n", 67, False), (b"2 over 67\n", 100, False)):
+        with tempfile.TemporaryDirectory() as folder:
+            paths = Paths(f"{folder}/01")
+            pathlib.Path(paths.capture).write_bytes(3 * dump)
+            pathlib.Path(f"{folder}/01.times").write_bytes(first + middle + b"0 begin 67\n1 heard 67\n1 heard 67\n")
+            keep_began(paths.began, b"0 1 1 a\n")
+            capture = Capture.open(paths.capture)
+            kept = Times(paths, capture)
+            kept.look()
+            kept.cut(size)
+            kept.close()
+            capture.close()
+            same(f"cut to {size}, {middle!r}: calls have their places still", os.path.exists(paths.began), stays)
+    for torn in (b"", b"\n", b"0 50 7 a", b"x 50 7 a\n", b"0 50 -7 a\n", b"0 50 7\n", b"\xff\n", b"0 50 7 a b\n"):
+        same(f"no line: {torn!r}", read_began(torn), {})
+
+
+def what_is_kept() -> None:
+    """A capture grows, ends, and another one takes its place: how many of its bytes are the game's."""
+    with tempfile.TemporaryDirectory() as folder:
+        paths = Paths(f"{folder}/01")
+        capture, end = pathlib.Path(paths.capture), pathlib.Path(paths.end)
+
+        def size_of(path: str) -> Optional[int]:
+            with Opened() as opened:
+                kept = Kept.of(paths, path, opened)
+                return kept.size if kept else None
+
+        same("none", size_of(paths.capture), None)
+        for content, mark in ((b"", b""), (b"abc", b""), (b"abcdef", b""), (b"abcdefghi", b"4\n"), (b"abcdefghi", b""), (b"xyz", b""), (b"xyz", b"99\n")):
+            capture.write_bytes(content)
+            end.write_bytes(mark)
+            same(f"{content!r}, ends at {mark!r}", size_of(paths.capture), min(int(mark or 99), len(content)))
+        end.write_bytes(b"1\n")
+        capture.rename(paths.before_back(1))
+        same("an earlier one has no end", size_of(paths.before_back(1)), 3)
+        os.mkfifo(paths.capture)
+        same("a pipe", size_of(paths.capture), None)
+    for name, last, wanted in (("01", "01", ["01"]), ("blitz", "blitz-3", ["blitz-3", "blitz-2", "blitz-1"]), ("blitz", "blitz", ["blitz"]),
+                               ("a", "b-2", ["b-2"]), ("blitz", "blitz-x", ["blitz-x"])):  # fmt: skip
+        same(f"games of {name} up to {last}", games_before(name, last), wanted)
+
+
+TABLES = [ages_of_bytes, no_byte_is_older, calls_are_kept, what_is_kept]
