@@ -181,7 +181,7 @@ def full_file_system(folder: pathlib.Path) -> None:
         refuses(Live(board.device, place / "game", "--white", "Anna", start=start), 3, words.FULL)
         same(board.asked, b"")
         os.unlink(inside / "other")
-        take(24576)
+        take(28672)
         live = Live(board.device, place / "game", "--white", "Anna", start=start)
         fill(board, live, inside / "game.pgn")
         board.play("a7a6")
