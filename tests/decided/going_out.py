@@ -174,7 +174,8 @@ def ages_of_bytes() -> None:
         same(name, within(came(calls, 0, began, here, 10000), size, 10000), [Came(*one) for one in wanted])
     same("the file is of another generation", came([first], 1, {b1: Began(2000, here)}, here, 10000)[-1], Came(82, 10000))
     same("no byte", within([], 0, 10000), [])
-    same("over", [over_at(calls) for calls in ([], [first], [first, times.Call(1, 0, [(1, "over", 70), (2, "heard", 1), (3, "over", 80)]), third])], [None, None, 80])
+    ended = times.Call(1, 0, [(1, "over", 70), (2, "heard", 1), (3, "over", 80)])
+    same("over", [over_at([]), over_at([first]), over_at([first, ended, third])], [None, None, 80])
     capture = b"\x86\x00\x43" + bytes(64) + b"more"
     heading = times.heading(3, capture[:67])
     content = heading + b"0 begin 67\n0 away 12\n5 heard 4\n7 over 71\n0 begin 71\n9 o"
@@ -283,7 +284,7 @@ def what_is_kept() -> None:
         def size_of(path: str) -> Optional[int]:
             with Opened() as opened:
                 kept = Kept.of(paths, path, opened)
-                return kept and kept.size
+                return kept.size if kept else None
 
         same("none", size_of(paths.capture), None)
         for content, mark in ((b"", b""), (b"abc", b""), (b"abcdef", b""), (b"abcdefghi", b"4\n"), (b"abcdefghi", b""), (b"xyz", b""), (b"xyz", b"99\n")):
