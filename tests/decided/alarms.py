@@ -3,7 +3,7 @@
 import math
 from typing import Any, List, Tuple
 
-from live.game.afterwards import FromTheStart, went_on
+from live.game.afterwards import FromTheStart, corrected, went_on
 from live.game.looks import Looks
 from live.game.report import line_of
 
@@ -52,6 +52,8 @@ def afterwards() -> None:
     same("two moves", went_on("38. Kf2", 2, "1-0").text, "LOOK after 38. Kf2: 2 moves were made, and the game is over: 1-0")
     same("more replace it", Looks().with_one_more(went_on("38. Kf2", 2, "1-0")).with_one_more(went_on("38. Kf2", 3, "1-0")).all,
          "LOOK after 38. Kf2: 3 moves were made, and the game is over: 1-0")  # fmt: skip
+    same("a correction", corrected("38. Kf2").text,
+         "LOOK at 38. Kf2: it corrects the last move after its result: compare with the score sheets")  # fmt: skip
 
 
 TABLES = [from_the_start, afterwards, agreements]
