@@ -14,7 +14,6 @@ from live.board.reasons import SAID, Reason, Rules
 from live.board.standing import Standing
 from live.board.state import lasting, mend_of, trouble_of
 from live.game import times
-from live.game.afterwards import corrected
 from live.game.alarms import Alarms, acknowledged
 from live.game.attended import SUSPECT, Doubt, Over
 from live.game.doubted import byte_of, look_of
@@ -398,6 +397,8 @@ class Recording(AttendedGame):
         if reason is Reason.SET_UP:
             self._say_what_is_dropped(self.end)
         if reason is Reason.CORRECTED and self._dropped:
+            from live.game.afterwards import corrected  # few games need it
+
             self.look_at(corrected(self._dropped[0].short))
         elif not over.sure:
             self._screen.say(f"LOOK at the last moves of {self.game.paths.pgn}: where the game ended isn't sure")
