@@ -18,20 +18,20 @@ class Afterwards:
 
     def __init__(self, before: Recording, looks: Callable[[Look], None]) -> None:
         self._attending, self._looks = before.hand_over(self), looks
+        self.undecided = self._attending.undecided()  # what the board has sent, and was neither kept nor known to be another board's
+        self._was_told = self.undecided  # and comes again, before all else
         course = before.course
         self._last, self._result = course.plies[-1].short if course.plies else "the start", course.result
         self._played = before.played
         if self._played:
             looks(went_on(self._last, self._played, self._result))
 
-    @property
-    def undecided(self) -> bytes:
-        """What the board has sent, and was neither kept nor known to be another board's."""
-        return self._attending.undecided()
-
     def came(self, sent: bytes) -> None:
         """The board has sent this."""
-        self._attending.tell(HEARD, sent)
+        known, self._was_told = self._was_told, b""
+        news = sent[len(known) :] if sent.startswith(known) else sent
+        if news:
+            self._attending.tell(HEARD, news)
 
     def answered(self, told: Told, answer: Answer) -> None:
         """The program answers what was told."""

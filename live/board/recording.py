@@ -71,7 +71,7 @@ class Recording(AttendedGame):
         self._is_reopened = False  # by an arbiter, and the program doesn't know it yet
         self._begins_anew = False  # the game begins only now, and what follows belongs to its new capture
         self.played, self.is_set_up = 0, False  # moves that were made since the game was over; and whether the start was shown since
-        self._dropped: List[str] = []  # moves that were reported behind the game's end
+        self._dropped: List[Move] = []  # moves that were reported behind the game's end
         self._is_over = self._has_ended = False  # whether it is recorded no more; and whether that is because the game has ended
         self._marks = False  # and whether NAME.end must say how many bytes are the game's
         self._done: Callable[[str], None] = lambda unwritten: None
@@ -202,7 +202,7 @@ class Recording(AttendedGame):
             return
         is_changed = False
         if self.end is not None and lines[0].offset >= self.end:  # the game is over with this many bytes
-            self._dropped += [line.event.words for line in lines if isinstance(line.event, Move)]
+            self._dropped += [line.event for line in lines if isinstance(line.event, Move)]
             lines = [line for line in lines if line.is_picture]
             self.is_set_up = self.is_set_up or any(self._shows_start(line.event) for line in lines)
         for line in lines:
@@ -385,7 +385,7 @@ class Recording(AttendedGame):
         is_typed = self._typed == over.result and self._by_hand.start < over.size <= self._by_hand.stop
         self.end = self._by_hand.stop if is_typed else over.size  # with the picture that stands behind the sign of a result
         if is_known:
-            self._dropped += [ply.words for ply in self.course.end(self.end, over.result)]
+            self._dropped += self.course.end(self.end, over.result)
 
     def _is_over_by(self, over: Over) -> None:
         if self._is_over or self.end is None:
@@ -396,15 +396,19 @@ class Recording(AttendedGame):
         self.standing.look(self.looks.short)
         if reason is Reason.SET_UP:
             self._say_what_is_dropped(self.end)
-        if not over.sure:
+        if reason is Reason.CORRECTED and self._dropped:
+            from live.game.afterwards import corrected  # few games need it
+
+            self.look_at(corrected(self._dropped[0].short))
+        elif not over.sure:
             self._screen.say(f"LOOK at the last moves of {self.game.paths.pgn}: where the game ended isn't sure")
         self._end(reason)
 
     def _say_what_is_dropped(self, end: int) -> None:
-        known = [ply.words for ply, at in zip(self.course.plies, self.course.ends) if at >= end]
+        known = [ply for ply, at in zip(self.course.plies, self.course.ends) if at >= end]
         dropped = [*known, *self._dropped]
         if dropped:
-            self._screen.say(f"taken for setting up, and not for moves: {'; '.join(dropped)}")
+            self._screen.say(f"taken for setting up, and not for moves: {'; '.join(ply.words for ply in dropped)}")
 
     def _plays_on(self, moves: int, is_known: bool) -> None:
         self.played = moves

@@ -83,7 +83,7 @@ class SettingUp(AttendedGame):
         self._look_from(end)
         self._hears.begun()
         if left:
-            self.came(left)
+            super().came(left)  # who hears of moves after the game was told it when it came
 
     def came(self, sent: bytes) -> None:
         """The board has sent this."""

@@ -135,8 +135,3 @@ def serial_of(frame: bytes) -> str:
 def differing(one: Picture, other: Picture) -> List[str]:
     """The squares on which two pictures differ, in the order a8, b8, .. h1."""
     return list(itertools.compress(SQUARES, map(operator.ne, one, other)))
-
-
-def places_differing(one: Picture, other: Picture) -> List[int]:
-    """The numbers of these squares."""
-    return list(itertools.compress(range(len(SQUARES)), map(operator.ne, one, other)))

@@ -16,6 +16,11 @@ def went_on(after: str, moves: int, result: str) -> Look:
     return Look(f"after {after}", f"{moves} moves were made, and the game is over: {result}", OVER)
 
 
+def corrected(ply: str) -> Look:
+    """This ply corrects the last one of a game after its result, with which the game is over."""
+    return Look(f"at {ply}", "it corrects the last move after its result: compare with the score sheets")
+
+
 @dataclass
 class FromTheStart:
     """Takes the reported events of a board whose game is over without a result, since its pieces were set up, from the start on. Perhaps

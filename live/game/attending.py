@@ -5,7 +5,7 @@ from __future__ import annotations
 import collections
 import math
 import os
-from dataclasses import dataclass, replace
+from dataclasses import dataclass
 from typing import Callable, Deque, List, Optional, Protocol, Tuple, Union
 
 from live.game import times
@@ -160,11 +160,6 @@ class Attending(Child):
 
     def _thens(self) -> List[Callback]:
         return [then for told in self._told for then in told.thens]
-
-    def starts_later(self, by: int) -> None:
-        """So many bytes were added to the capture, before those that are told."""
-        if self._past:
-            self._past = replace(self._past, start=self._past.start + by)
 
     # How it begins.
 

@@ -1,9 +1,11 @@
 """When a board has gone on without its game for too long, and when moves are made from the start after a game without a result."""
 
 import math
+from types import SimpleNamespace
 from typing import Any, List, Tuple
 
-from live.game.afterwards import FromTheStart, went_on
+from live.board.afterwards import Afterwards
+from live.game.afterwards import FromTheStart, corrected, went_on
 from live.game.looks import Looks
 from live.game.report import line_of
 
@@ -52,6 +54,41 @@ def afterwards() -> None:
     same("two moves", went_on("38. Kf2", 2, "1-0").text, "LOOK after 38. Kf2: 2 moves were made, and the game is over: 1-0")
     same("more replace it", Looks().with_one_more(went_on("38. Kf2", 2, "1-0")).with_one_more(went_on("38. Kf2", 3, "1-0")).all,
          "LOOK after 38. Kf2: 3 moves were made, and the game is over: 1-0")  # fmt: skip
+    same("a correction", corrected("38. Kf2").text,
+         "LOOK at 38. Kf2: it corrects the last move after its result: compare with the score sheets")  # fmt: skip
 
 
-TABLES = [from_the_start, afterwards, agreements]
+class Child:
+    """The program that attended a game."""
+
+    def __init__(self, undecided: bytes) -> None:
+        self.told: List[bytes] = []
+        self._undecided = undecided
+
+    def undecided(self) -> bytes:
+        return self._undecided
+
+    def tell(self, what: str, sent: bytes) -> None:
+        self.told.append(sent)
+
+
+def told_once() -> None:
+    """While the pieces are set up, the program that attended the game is told each byte once: what was undecided as the game was over
+    goes to the next one too, and so comes again."""
+    for name, undecided, comes, expected in (
+        ("nothing is undecided", b"", [b"ab", b"c"], [b"ab", b"c"]),
+        ("it comes again", b"ab", [b"ab", b"ab"], [b"ab"]),
+        ("with more", b"ab", [b"abc", b"d"], [b"c", b"d"]),
+        ("other bytes", b"ab", [b"xab"], [b"xab"]),
+    ):
+        child = Child(undecided)
+        course = SimpleNamespace(plies=[], result="1-0")
+        before: Any = SimpleNamespace(hand_over=lambda hears, child=child: child, course=course, played=0)
+        after = Afterwards(before, lambda look: None)
+        same(f"{name}: undecided", after.undecided, undecided)
+        for sent in comes:
+            after.came(sent)
+        same(name, child.told, expected)
+
+
+TABLES = [from_the_start, afterwards, told_once, agreements]

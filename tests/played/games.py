@@ -87,20 +87,20 @@ def mate(folder: pathlib.Path) -> None:
 
 def result_withdrawn(folder: pathlib.Path) -> None:
     """A result that doesn't stand doesn't end it: a mating move is corrected. What comes next is of the game."""
-    for linger in (3, 12, 48):
-        place = folder / str(linger)
+    for number in range(3):  # the correction may come too late on a busy machine
+        place = folder / str(number)
         place.mkdir()
         board = a_board(place)
-        live = Live(board.device, place / "game", "--linger", str(linger))
+        live = Live(board.device, place / "game")
         begun(live)
         for move in ["f2f3", "e7e5", "g2g4", "d8h4", "h4f6"]:
             board.play(move)
         until(lambda: movetext(live.name) == "1. f3 e5 2. g4 Qf6 *" or not live.runs, "the correction")
-        over = time.monotonic() + linger + 1
+        over = time.monotonic() + 11
         until(lambda: time.monotonic() > over or not live.runs, "the end of the wait")
         if live.runs:
             break
-        print(f"   {linger} s were over before the correction was seen", flush=True)
+        print("   ten seconds were over before the correction was seen", flush=True)
     assert live.runs, "it has ended"
     board.play("e2e4")
     until_game(live.name, "1. f3 e5 2. g4 Qf6 3. e4 *")

@@ -162,6 +162,23 @@ def result_by_mistake(folder: pathlib.Path) -> None:
     assert "is over: choose another name" in again.complaint(), again.complaint()
 
 
+def corrected_after_it(folder: pathlib.Path) -> None:
+    """The last move is corrected on the board after its result was typed: the game is over as it was, and somebody must look. Once the
+    result is taken off, the game has the other move."""
+    board, live = begin_game(folder, typed=True)
+    live.type("1-0")
+    until_line(live, "ends in 10 seconds")
+    board.play("e5e6")
+    until_line(live, "LOOK at 1... e6: it corrects the last move after its result: compare with the score sheets. Look at it, and type ok")
+    until_line(live, f"{live.name} is over: its last move was corrected after its result. If it goes on, type *\n")
+    same(movetext(live.name), "1. e4 e5 1-0")
+    answered(live, "ok", "acknowledged: LOOK at 1... e6")
+    answered(live, "*", f"{live.name} goes on, without the result")
+    until_game(live.name, "1. e4 e6 *")
+    same(stop(live), 0)
+    is_whole(live)
+
+
 def unplugged_after_it(folder: pathlib.Path) -> None:
     """With --once the board is unplugged as soon as the result was typed: the call ends well."""
     board, live = begin_game(folder, "--once", typed=True)
@@ -267,6 +284,7 @@ CASES = [
     held_at_last,
     as_the_start_is_shown,
     result_by_mistake,
+    corrected_after_it,
     unplugged_after_it,
     no_text,
     without_moves,
