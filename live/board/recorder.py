@@ -137,6 +137,8 @@ class Recorder:
             how = f". Type its result, as {self._screen.result_of(name, series)}" if self._reason is Reason.SET_UP else ""
             if self._reason in PLAYED_ON:
                 how = f". If it goes on, type {self._screen.reopens()}"
+                if not series and not self._plan.board:
+                    how += "; else q ends the recording"
             self._screen.say(f"{name} is over: {self._reason.value}{how}")
         self._closing = False
         is_last = self._ending or (unwritten and not self._plan.rules.series)
