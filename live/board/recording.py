@@ -111,6 +111,7 @@ class Recording(AttendedGame):
 
     def _has_gone_on(self) -> None:
         self._is_reopened = False
+        self.played, self.is_set_up = 0, False  # what came after the end that it had belongs to the game
 
     def _tell_old(self) -> None:
         """Shows what was played before this call."""

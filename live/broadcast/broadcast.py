@@ -312,12 +312,14 @@ class Broadcast:
 
     @property
     def hidden_for(self) -> Optional[float]:
-        """For how many seconds something of the games is still hidden, as far as is known; None if nothing is."""
+        """For how many seconds something of the games is still hidden; None if nothing is. As long as it isn't known what was said of a
+        game, all of it may be hidden."""
         if not self._out.delay:
             return None
-        times = [one.waiting.ends_at for one in self._of.values() if one.is_told]
+        now = self._loop.now()
+        times = [one.waiting.ends_at if one.is_told else now + self._out.delay for one in self._of.values()]
         last = max((at for at in times if at is not None), default=None)
-        return None if last is None else max(0.0, last - self._loop.now())
+        return None if last is None else max(0.0, last - now)
 
     @property
     def is_out(self) -> bool:

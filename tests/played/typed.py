@@ -162,6 +162,30 @@ def result_by_mistake(folder: pathlib.Path) -> None:
     assert "is over: choose another name" in again.complaint(), again.complaint()
 
 
+def result_given_again(folder: pathlib.Path) -> None:
+    """A game that was played on after its result goes on, and gets another one later: the moves before that are no alarm any more."""
+    board, live = begin_game(folder, typed=True)
+    live.type("1-0")
+    until_game(live.name, "1. e4 e5 1-0")
+    board.play("g1f3")
+    until_line(live, f"{live.name} is over: another move was made after its result")
+    board.play("b8c6")
+    until_line(live, "LOOK after 1... e5: 2 moves were made")
+    answered(live, "*", f"{live.name} goes on, without the result")
+    answered(live, "ok", "acknowledged: LOOK after 1... e5")
+    board.play("f1b5")
+    until_game(live.name, RUY_TEXT)
+    live.type("0-1")
+    until_game(live.name, RUY_TEXT.replace("*", "0-1"))
+    board.play("a7a6")
+    until_line(live, f"{live.name} is over: another move was made after its result", 2)
+    rest(0.5)
+    same(live.says("LOOK after 3. Bb5"), False)
+    board.play("b5a4")
+    until_line(live, "LOOK after 3. Bb5: 2 moves were made")
+    same(movetext(live.name), RUY_TEXT.replace("*", "0-1"))
+
+
 def corrected_after_it(folder: pathlib.Path) -> None:
     """The last move is corrected on the board after its result was typed: the game is over as it was, and somebody must look. Once the
     result is taken off, the game has the other move."""
@@ -170,7 +194,7 @@ def corrected_after_it(folder: pathlib.Path) -> None:
     until_line(live, "ends in 10 seconds")
     board.play("e5e6")
     until_line(live, "LOOK at 1... e6: it corrects the last move after its result: compare with the score sheets. Look at it, and type ok")
-    until_line(live, f"{live.name} is over: its last move was corrected after its result. If it goes on, type *\n")
+    until_line(live, f"{live.name} is over: its last move was corrected after its result. If it goes on, type *; else q ends the recording\n")
     same(movetext(live.name), "1. e4 e5 1-0")
     answered(live, "ok", "acknowledged: LOOK at 1... e6")
     answered(live, "*", f"{live.name} goes on, without the result")
@@ -285,6 +309,7 @@ CASES = [
     as_the_start_is_shown,
     result_by_mistake,
     corrected_after_it,
+    result_given_again,
     unplugged_after_it,
     no_text,
     without_moves,
