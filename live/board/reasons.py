@@ -35,3 +35,12 @@ class Rules:
     def attends(self, reason: Reason) -> bool:
         """Whether the board is attended after that."""
         return self.series or reason in PLAYED_ON or (self.listens and reason is not Reason.LIMIT)
+
+
+def told(reason: Reason, result: str, reopens: str, is_alone: bool) -> str:
+    """Why a game is over, and what to do then. `result` and `reopens` are what to type. Nothing comes after a game that is alone."""
+    if reason is Reason.SET_UP:
+        return f"{reason.value}. Type its result, as {result}"
+    if reason in PLAYED_ON:
+        return f"{reason.value}. If it goes on, type {reopens}{'; else q ends the recording' if is_alone else ''}"
+    return str(reason.value)

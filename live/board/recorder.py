@@ -14,7 +14,7 @@ from live.board.cable import Cable
 from live.board.disk import unwritten_of
 from live.board.on_the_way import LENDS, OnTheWay
 from live.board.plan import HearsRecorder, Plan, numbered
-from live.board.reasons import PLAYED_ON, Reason
+from live.board.reasons import Reason, told
 from live.board.recording import Recording
 from live.board.standing import Standing
 from live.board.whose import another, back, may_take
@@ -133,13 +133,9 @@ class Recorder:
         assert self.now
         before = self.now if isinstance(self.now, Recording) else None
         if self._reason and before:
-            name, series = self.game.paths.name, self._plan.rules.series
-            how = f". Type its result, as {self._screen.result_of(name, series)}" if self._reason is Reason.SET_UP else ""
-            if self._reason in PLAYED_ON:
-                how = f". If it goes on, type {self._screen.reopens()}"
-                if not series and not self._plan.board:
-                    how += "; else q ends the recording"
-            self._screen.say(f"{name} is over: {self._reason.value}{how}")
+            name, series, screen = self.game.paths.name, self._plan.rules.series, self._screen
+            is_alone = not series and not self._plan.board
+            screen.say(f"{name} is over: {told(self._reason, screen.result_of(name, series), screen.reopens(), is_alone)}")
         self._closing = False
         is_last = self._ending or (unwritten and not self._plan.rules.series)
         if is_last or not before:
