@@ -313,11 +313,13 @@ class Broadcast:
     @property
     def hidden_for(self) -> Optional[float]:
         """For how many seconds something of the games is still hidden; None if nothing is. As long as it isn't known what was said of a
-        game, all of it may be hidden."""
+        game, all of its moves may be hidden."""
         if not self._out.delay:
             return None
         now = self._loop.now()
-        times = [one.waiting.ends_at if one.is_told else now + self._out.delay for one in self._of.values()]
+        played = {game.number for game in self._games() if game.board.plies}
+        untold = [now + self._out.delay for number, one in self._of.items() if not one.is_told and number in played]
+        times = [*untold, *(one.waiting.ends_at for one in self._of.values() if one.is_told)]
         last = max((at for at in times if at is not None), default=None)
         return None if last is None else max(0.0, last - now)
 
