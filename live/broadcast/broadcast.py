@@ -316,10 +316,12 @@ class Broadcast:
         game, all of its moves may be hidden."""
         if not self._out.delay:
             return None
-        now = self._loop.now()
+        now, delay = self._loop.now(), self._out.delay
         played = {game.number for game in self._games() if game.board.plies}
-        untold = [now + self._out.delay for number, one in self._of.items() if not one.is_told and number in played]
-        times = [*untold, *(one.waiting.ends_at for one in self._of.values() if one.is_told)]
+        told = [one for one in self._of.values() if one.is_told]
+        untold = [now + delay for number, one in self._of.items() if not one.is_told and number in played]
+        held = [one.steady.due + delay for one in told if one.steady.due is not None]  # a last ply that must stand first
+        times = [*untold, *held, *(one.waiting.ends_at for one in told)]
         last = max((at for at in times if at is not None), default=None)
         return None if last is None else max(0.0, last - now)
 
