@@ -1,5 +1,6 @@
 // Boards behind a navigator.serial of the page itself, for measurements: evaluated before the page's scripts. `boards.add(number)`
 // plugs one in, `boards.play(number, from, to, clock)` moves a piece as a hand does: it is lifted, and put down.
+// `boards.chatter(number, name)` has a square chatter from then on, at the pace of a board's line: 960 bytes a second.
 {
   const START = 'rnbqkbnrpppppppp................................PPPPPPPPRNBQKBNR';
   const LETTERS = '.PRNBKQprnbkq';
@@ -84,6 +85,13 @@
       ports.get(number).codes = [...squares].map((letter) => LETTERS.indexOf(letter));
       if (isGranted) granted.add(number);
       next = number;
+    },
+    chatter(number, name) {
+      const port = ports.get(number);
+      const code = port.codes[square(name)];
+      setInterval(() => {
+        for (let pair = 0; pair < 5; pair += 1) for (const shown of [0, code]) port.put(name, shown);
+      }, 52);
     },
     squares: (number) => ports.get(number).codes.map((code) => LETTERS[code]).join(''),
     lift: (number, name) => ports.get(number).put(name, 0),

@@ -6,25 +6,31 @@ captures have an hour of play: from a move's last byte to its line on the screen
 in the browser's private folder, since nobody is there to choose one; so the page comes from a server of this machine for
 that. A machine on which nothing else runs is needed: elsewhere the times are waits for a processor.
 
+Behind that: the processor time that the page took while it was measured, by the threads of its process, and what its main thread
+did.
+
 Two numbers may be given: how many boards there are, and how often each dump of the hour stands in a capture, one after the other: with
-72 it has 20 MB.
+72 it has 20 MB. With `chatter` behind them there is one more board, of which a square chatters all the time, at the pace of its line.
 """
 
 from __future__ import annotations
 
+import collections
 import http.server
+import os
 import pathlib
 import re
 import statistics
 import sys
 import threading
 import time
-from typing import Dict, List, Sequence, Tuple, cast
+from typing import Counter, Dict, List, Sequence, Tuple, cast
 
 TOP = pathlib.Path(__file__).resolve().parent.parent
 sys.dont_write_bytecode = True
 sys.path[:0] = [str(TOP), str(TOP / "tests")]
 from paged.devtools import Browser, Tab  # noqa: E402
+from played.recorder import processes  # noqa: E402
 
 PAGE = TOP / "bin" / "recorder.html"
 BOARDS = (TOP / "bench" / "recorder_boards.js").read_text()
@@ -32,6 +38,10 @@ SECONDS = 3600  # of play that a capture has
 PLAYED = 60.0  # seconds of a measurement
 MOVES = (("g1", "f3", "Nf3"), ("g8", "f6", "Nf6"), ("f3", "g1", "Ng1"), ("f6", "g8", "Ng8"))
 EACH = 40  # seconds in which a ply is made before the measurement
+CHATTER = "chatter"
+MAIN, WORKER, OTHERS, ELSE = "its main thread", "its workers, in which the programs run", "its other threads", "other processes"
+THREADS = {"chromium": MAIN, "CrRendererMain": MAIN, "DedicatedWorker": WORKER}  # by how their names begin
+DONE = {"ScriptDuration": "scripts", "RecalcStyleDuration": "styles", "LayoutDuration": "layout"}  # by the main thread
 HOUR = """(async (count) => {
   const START = [...'rnbqkbnrpppppppp................................PPPPPPPPRNBQKBNR'];
   const codes = (squares) => squares.map((letter) => '.PRNBKQprnbkq'.indexOf(letter));
@@ -151,25 +161,48 @@ def last_move(pgn: str) -> str:
     return f"{(len(sans) + 1) // 2}.{'' if len(sans) % 2 else '..'} {sans[-1]}" if sans else ""
 
 
-def play(browser: Browser, url: str, count: int, dumps: int) -> None:
+def taken(browser: Browser, tab: Tab) -> Counter[str]:
+    """The seconds of the processor that were taken so far: by the threads of the page's process, by other processes, and by what its
+    main thread has done."""
+    found: Counter[str] = collections.Counter()
+    tick = os.sysconf("SC_CLK_TCK")
+    for process in processes(browser.process.pid):
+        is_page = b"--type=renderer" in pathlib.Path(f"/proc/{process}/cmdline").read_bytes()
+        for thread in pathlib.Path(f"/proc/{process}/task").iterdir():
+            name, _, rest = (thread / "stat").read_text().partition("(")[2].rpartition(")")
+            used = sum(map(int, rest.split()[11:13])) / tick
+            what = next((what for begins, what in THREADS.items() if name.startswith(begins)), OTHERS)
+            found[what if is_page else ELSE] += used
+    for metric in tab.call("Performance.getMetrics")["metrics"]:
+        if metric["name"] in DONE:
+            found[DONE[metric["name"]]] += metric["value"]
+    return found
+
+
+def play(browser: Browser, url: str, count: int, dumps: int, chatters: bool) -> None:
     """So many boards, each with a capture of an hour, in which each dump comes so often."""
     tab = opened(browser, url, "")
     tab.until("document.getElementById('add').disabled", False)
     moves = str([[start, end] for start, end, _ in MOVES])
-    tab.value(HOUR % {"seconds": SECONDS, "moves": moves, "each": EACH, "count": count, "dumps": dumps})
+    there = count + chatters
+    tab.value(HOUR % {"seconds": SECONDS, "moves": moves, "each": EACH, "count": there, "dumps": dumps})
     tab.close()
-    before = "".join(f"boards.add({number}, true, START_SQUARES);" for number in range(1, count + 1))
+    before = "".join(f"boards.add({number}, true, START_SQUARES);" for number in range(1, there + 1))
     plies = SECONDS // EACH
     squares = list("rnbqkbnrpppppppp................................PPPPPPPPRNBQKBNR")
     for ply in range(plies):
         left, reached = (("abcdefgh".index(name[0]) + 8 * (8 - int(name[1]))) for name in MOVES[ply % len(MOVES)][:2])
         squares[reached], squares[left] = squares[left], "."
     tab = opened(browser, url, f"const START_SQUARES = '{''.join(squares)}';" + before + WATCHES)
-    for number in range(1, count + 1):
+    for number in range(1, there + 1):
         tab.until(f"document.querySelectorAll('#boards .state')[{number - 1}]?.textContent.includes('waits')", False)
     press(tab, "folder")
+    if chatters:
+        tab.value(f"boards.chatter({there}, 'a2')")
     time.sleep(3)
     tab.value("watch()")
+    tab.call("Performance.enable")
+    before_it = taken(browser, tab)
     played: List[Tuple[int, float, str]] = []
     began = time.monotonic()
     at: Dict[int, int] = dict.fromkeys(range(1, count + 1), plies)
@@ -181,6 +214,8 @@ def play(browser: Browser, url: str, count: int, dumps: int) -> None:
             played.append((number, cast(float, now), move))
             at[number] += 1
             time.sleep(2.0 / count)
+    lasted = time.monotonic() - began
+    used = {what: 1000 * (seconds - before_it[what]) / lasted for what, seconds in taken(browser, tab).items()}
     time.sleep(3)
     shown = cast(List[List[object]], tab.value("window.shown"))
     written = cast(List[List[object]], tab.value("written"))
@@ -195,9 +230,13 @@ def play(browser: Browser, url: str, count: int, dumps: int) -> None:
         ]
         lines += [(line[0] - then) / 1000] if line else []
         texts += [(text[0] - then) / 1000] if text else []
-    print(f"{count} boards with an hour of play, {dumps} dumps a second, {len(played)} moves in {PLAYED:.0f} s:")
+    beside = ", beside one that chatters" if chatters else ""
+    print(f"{count} boards with an hour of play, {dumps} dumps a second, {len(played)} moves in {PLAYED:.0f} s{beside}:")
     told("to the line on the screen", lines)
     told("to the text on the disk", texts)
+    threads = ", ".join(f"{what} {used.get(what, 0.0):.0f}" for what in (MAIN, WORKER, OTHERS, ELSE))
+    print(f"    processor time, ms a second: {threads}")
+    print(f"    of its main thread: {', '.join(f'{what} {used.get(what, 0.0):.0f}' for what in DONE.values())}")
     tab.close()
 
 
@@ -209,7 +248,7 @@ def main() -> int:
     counts, dumps = ([int(sys.argv[1])], int(sys.argv[2])) if len(sys.argv) > 2 else ([1, 16], 1)
     for count in counts:
         with Browser() as browser:
-            play(browser, f"http://127.0.0.1:{server.server_address[1]}/", count, dumps)
+            play(browser, f"http://127.0.0.1:{server.server_address[1]}/", count, dumps, CHATTER in sys.argv[3:])
     server.shutdown()
     return 0
 
