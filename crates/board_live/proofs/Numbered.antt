@@ -32,12 +32,12 @@ use Rattle.board_live.specs.Ending.{last_at}
 use Rattle.board_live.specs.Laws.{with_number}
 use Rattle.board_live.specs.Live.{unsaid}
 use Rattle.board_live.specs.Moments.{Moment, already, at_cable, begins, cable_moment, cabled, is_added, news_of}
-use Rattle.board_live.specs.Restarts.{AreOffLine, IsAnswered, IsOffLine, NumberMayFollow, as_filed}
+use Rattle.board_live.specs.Restarts.{AreOffLine, IsAnswered, IsOffLine, NumberMayFollow, SayTheSame, WakesAt, as_filed}
 use Rattle.board_live.specs.Saying.{IsSaid, Says, SaysAfter, is_live, last_said, live_by, said_before}
 use Rattle.board_live.proofs.Alike.{Likewise, begun, keeps_begun, step, stream_begun, stream_more}
 use Rattle.board_live.proofs.Ends.{end_step}
 use Rattle.board_live.proofs.Fed.{none_aside, turn_asked, unheard}
-use Rattle.board_live.proofs.Filed.{Since, alarms_since, answers_begun, end_since, fed_filed, filed_alike, filed_answer, looks_same, since_alike, since_came, since_turn, state_since}
+use Rattle.board_live.proofs.Filed.{Since, alarms_since, answers_begun, due_since, end_since, fed_filed, filed_alike, filed_answer, looks_same, since_alike, since_came, since_turn, state_since}
 use Rattle.board_live.proofs.Lines.{Line, line_of, request_on}
 use Rattle.board_live.proofs.Saids.{first_said, live_alike, said_step, state_once}
 use Rattle.board_live.proofs.Sides.{Side, keeps_unseen, nothing, nothing_kept, side_kept, side_of}
@@ -129,6 +129,16 @@ says_on forgotten setting recovers m past other (t ∷ ts) (u ∷ us) a b looks 
     let end : a.end ≡ b.end = end_step setting recovers m past other t u ts us a.end b.end (ap (λ x. live_by m.what x) live) p.0.end q.0.end was ends in
     let answer = filed_answer setting recovers m past other t u ts us a b both.0 (since_alike (came past ts) (came other us) had.since) count state end p.0 q.0 in
     (answer, looks_same forgotten setting recovers (came (m ∷ past) (t ∷ ts)) (came (m ∷ other) (u ∷ us)) a b looks alarms p.1.0 q.1.0 valid both.1.since answer p.1.1 q.1.1 p.1.2 q.1.2)
+
+-- And the same times to wake are named.
+wakes_on : SilenceIsForgotten → (setting : Setting) (recovers : Bool) (m : Moment) (past other : List Moment) (ts us : List Turn) (due time : Option ℕ) → Valid setting.start
+    → AreJoined past other → Told (cabled (m ∷ past)) ts → Told (cabled (m ∷ other)) us → WakesAt setting recovers (m ∷ past) ts due
+    → WakesAt setting recovers (m ∷ other) us time → due ≡ time
+wakes_on forgotten setting recovers m past other [] us due time valid all g h p q = absurd g
+wakes_on forgotten setting recovers m past other (t ∷ ts) [] due time valid all g h p q = absurd h
+wakes_on forgotten setting recovers m past other (t ∷ ts) (u ∷ us) due time valid all g h p q =
+    let both = (joined_more m past other t u ts us (all ts us g.0 h.0) g h).1 in
+    due_since forgotten setting recovers (came (m ∷ past) (t ∷ ts)) (came (m ∷ other) (u ∷ us)) (told (t ∷ ts)) (told (u ∷ us)) m.at due time valid both.since both.lines p q
 
 -- ---- before anything is told of the line
 
@@ -380,21 +390,26 @@ said_number hears setting recovers number x past other valid all before ts (u �
 -- ---- and then
 
 follows : SilenceIsForgotten → HearsOnce → (setting : Setting) (recovers : Bool) (own : Option (List ℕ)) (x last : Moment) (call past other : List Moment) (turns others : List Turn)
-    (answer second : Answer) (looks alarms : List Look) → Valid setting.start → AreReady own past (x ∷ other) → SaidAlike setting recovers past (x ∷ other)
+    → Valid setting.start → AreReady own past (x ∷ other) → SaidAlike setting recovers past (x ∷ other)
     → is_live past ≡ is_live (x ∷ other) → last_at past ≡ x.at → Told (cabled (last ∷ (call ++ past))) turns → Told (cabled (last ∷ (call ++ with_number x.at own (x ∷ other)))) others
-    → IsAnswered setting recovers (last ∷ (call ++ past)) turns answer looks
-    → IsAnswered setting recovers (last ∷ (call ++ with_number x.at own (x ∷ other))) others second alarms → (answer ≡ second) × (looks ≡ alarms)
-follows forgotten hears setting recovers None x last call past other turns others answer second looks alarms valid all said live at g h p q =
-    let joined = no_number past (x ∷ other) all in
-    says_on forgotten setting recovers last (call ++ past) (call ++ x ∷ other) turns others answer second looks alarms valid (joined_call call past (x ∷ other) joined)
-    (said_call forgotten setting recovers call past (x ∷ other) valid joined said live) (live_call call past (x ∷ other) live)
-    (last_call call past (x ∷ other) at) g h p q
-follows forgotten hears setting recovers (Some number) x last call past other turns others answer second looks alarms valid all said live at g h p q =
+    → SayTheSame setting recovers (last ∷ (call ++ past)) turns (last ∷ (call ++ with_number x.at own (x ∷ other))) others
+follows forgotten hears setting recovers None x last call past other turns others valid all said live at g h =
+    let joined = no_number past (x ∷ other) all in (
+      λ answer second looks alarms p q.
+          says_on forgotten setting recovers last (call ++ past) (call ++ x ∷ other) turns others answer second looks alarms valid (joined_call call past (x ∷ other) joined)
+          (said_call forgotten setting recovers call past (x ∷ other) valid joined said live) (live_call call past (x ∷ other) live)
+          (last_call call past (x ∷ other) at) g h p q,
+      λ due time p q. wakes_on forgotten setting recovers last (call ++ past) (call ++ x ∷ other) turns others due time valid (joined_call call past (x ∷ other) joined) g h p q,
+    )
+follows forgotten hears setting recovers (Some number) x last call past other turns others valid all said live at g h =
     let told_number = owning x.at number ∷ x ∷ other in
-    let joined = joined_number number x.at past (x ∷ other) all in
-    says_on forgotten setting recovers last (call ++ past) (call ++ told_number) turns others answer second looks alarms valid (joined_call call past told_number joined)
-    (said_call forgotten setting recovers call past told_number valid joined (said_number hears setting recovers number x past other valid all said) live)
-    (live_call call past told_number live) (last_call call past told_number at) g h p q
+    let joined = joined_number number x.at past (x ∷ other) all in (
+      λ answer second looks alarms p q.
+          says_on forgotten setting recovers last (call ++ past) (call ++ told_number) turns others answer second looks alarms valid (joined_call call past told_number joined)
+          (said_call forgotten setting recovers call past told_number valid joined (said_number hears setting recovers number x past other valid all said) live)
+          (live_call call past told_number live) (last_call call past told_number at) g h p q,
+      λ due time p q. wakes_on forgotten setting recovers last (call ++ past) (call ++ told_number) turns others due time valid (joined_call call past told_number joined) g h p q,
+    )
 
 begin_ready : (past : List Moment) (m : Moment) (before : List Turn) → m.what ≡ Cable Begins → Told (cabled past) before
     → AreReady (own_number (told before)) (m ∷ past) (m ∷ as_filed past before)
@@ -419,18 +434,18 @@ begin_said forgotten setting recovers own m past other valid is all (t ∷ ts) (
     (said_step m.what (is_live (m ∷ past)) (is_live (m ∷ other)) p.0 q.0 p.2 q.2 said answer last final (live_alike [] past other m is) states (first_said m p.2 q.2 is) p.6 q.6 p.7 q.7).1
 
 pub number_may_follow : SilenceIsForgotten → HearsOnce → NumberMayFollow
-number_may_follow forgotten hears setting recovers last call [] past m before turns others answer other looks alarms valid is off first g h p q =
+number_may_follow forgotten hears setting recovers last call [] past m before turns others valid is off first g h =
     let own = own_number (told before) in
     let filed = as_filed past before in
     let ready = begin_ready past m before is first in
-    follows forgotten hears setting recovers own m last call (m ∷ past) filed turns others answer other looks alarms valid ready
-    (begin_said forgotten setting recovers own m past filed valid is ready) (live_alike [] past filed m is) refl g h p q
-number_may_follow forgotten hears setting recovers last call (one ∷ more) past m before turns others answer other looks alarms valid is off first g h p q =
+    follows forgotten hears setting recovers own m last call (m ∷ past) filed turns others valid ready
+    (begin_said forgotten setting recovers own m past filed valid is ready) (live_alike [] past filed m is) refl g h
+number_may_follow forgotten hears setting recovers last call (one ∷ more) past m before turns others valid is off first g h =
     let own = own_number (told before) in
     let filed = as_filed past before in
     let ready = begin_ready past m before is first in
     let live = live_alike [] past filed m is in
-    follows forgotten hears setting recovers own one last call (one ∷ more ++ m ∷ past) (more ++ m ∷ filed) turns others answer other looks alarms valid
+    follows forgotten hears setting recovers own one last call (one ∷ more ++ m ∷ past) (more ++ m ∷ filed) turns others valid
     (ready_call own (one ∷ more) (m ∷ past) (m ∷ filed) off ready)
     (said_ready forgotten setting recovers own (one ∷ more) (m ∷ past) (m ∷ filed) valid off ready (begin_said forgotten setting recovers own m past filed valid is ready) live)
-    (live_call (one ∷ more) (m ∷ past) (m ∷ filed) live) refl g h p q
+    (live_call (one ∷ more) (m ∷ past) (m ∷ filed) live) refl g h
