@@ -1,6 +1,7 @@
 -- What a recorder says that begins again. Lists have the latest first, but the bytes.
-use Rattle.std.specs.Prelude.{◌≡◌, ◌⊎◌, ℕ, Bool, false, List, [], ◌∷◌, ◌++◌, Option, drop, ⊤}
+use Rattle.std.specs.Prelude.{◌≡◌, ◌⊎◌, ◌<◌, ◌≤◌, ◌^◌, ℕ, Bool, false, List, [], ◌∷◌, ◌++◌, Option, drop, ⊤}
 use Rattle.chess_rules.specs.Valid.{Valid}
+use Rattle.board_asking.specs.Lasting.{IsBefore}
 use Rattle.board_asking.specs.Whose.{own_number}
 use Rattle.board_cable.specs.declared.happened.What.TheVariants.{Begins, Interrupts, Wakes}
 use Rattle.board_cable.specs.Keeping.{kept}
@@ -71,13 +72,18 @@ abbrev pub AreOffLine : List Moment → Type 0
 AreOffLine [] = ⊤
 AreOffLine (moment ∷ past) = AreOffLine past × IsOffLine moment
 
--- The number may also be told once the call has begun, before anything is told of the line, and at the time of what happened last: from
--- then on the same is said.
+-- The number may be told at this time: when something happened last, or later, if one that has lived through it all isn't to be woken by
+-- then.
+abbrev pub MayBeTold : Setting → Bool → List Moment → ℕ → Type 0
+MayBeTold setting recovers lived at = (at ≡ last_at lived) ⊎ ((last_at lived ≤ at) × (at < 2 ^ 64) × (turns : List Turn) × (due : Option ℕ)
+    × Told (cabled lived) turns × WakesAt setting recovers lived turns due × IsBefore at due)
+
+-- It may also be told once the call has begun, before anything is told of the line: from then on the same is said.
 abbrev pub NumberMayFollow : Type 0
-NumberMayFollow = (setting : Setting) (recovers : Bool) (last : Moment) (call first past : List Moment) (begins : Moment) (before turns others : List Turn)
+NumberMayFollow = (setting : Setting) (recovers : Bool) (last : Moment) (call first past : List Moment) (begins : Moment) (at : ℕ) (before turns others : List Turn)
     → Valid setting.start → begins.what ≡ Cable Begins → AreOffLine first → Told (cabled past) before
     → let lived : List Moment = first ++ begins ∷ past in
     let begun : List Moment = first ++ begins ∷ as_filed past before in
-    let filed : List Moment = with_number (last_at begun) (own_number (told before)) begun in
-    Told (cabled (last ∷ (call ++ lived))) turns → Told (cabled (last ∷ (call ++ filed))) others
+    let filed : List Moment = with_number at (own_number (told before)) begun in
+    MayBeTold setting recovers lived at → Told (cabled (last ∷ (call ++ lived))) turns → Told (cabled (last ∷ (call ++ filed))) others
     → SayTheSame setting recovers (last ∷ (call ++ lived)) turns (last ∷ (call ++ filed)) others

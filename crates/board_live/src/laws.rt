@@ -2,7 +2,8 @@
 ghost use Rattle.board_live.specs.Laws.{EndsAlike, IsSaidOnce, LaterChangesNothing, RestartsAlike, SaysAlike, WakesOnce};
 ghost use Rattle.board_live.specs.Restarts.{FilesSayTheSame, NumberMayFollow, RestartsSayTheSame, SaysOpenAlarms};
 
-use board_game::laws::{end_due_once, ends_once, hears_once, opens_once, silence_is_forgotten};
+use board_game::laws::{end_due_once, end_stays_until_due, ends_once, hears_once, opens_once, silence_is_forgotten};
+use board_standing::laws::stays_until_due;
 
 /// Whatever happens later, what was answered stays.
 pub fn later_changes_nothing()
@@ -79,7 +80,8 @@ pub fn files_say_the_same()
     silence_is_forgotten();
 }
 
-/// The number of the game's board may also be told once the call has begun, before anything is told of the line.
+/// The number of the game's board may also be told once the call has begun, before anything is told of the line and before the recorder
+/// is to be woken.
 pub fn number_may_follow()
     ensures { NumberMayFollow }
 {
@@ -87,4 +89,8 @@ pub fn number_may_follow()
     silence_is_forgotten();
     // For its clause: what came is heard in one way.
     hears_once();
+    // For its clause: if nothing is heard, the state stays until it is due.
+    stays_until_due();
+    // For its clause: the game stands as it does until time is due to end it.
+    end_stays_until_due();
 }
