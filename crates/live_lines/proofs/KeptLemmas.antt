@@ -69,6 +69,9 @@ fewer n m l e = omega (arith, e)
 fewer_left : (n m l d : ℕ) → n + m ≤ l → d ≡ l - n → m ≤ d
 fewer_left n m l d e f = omega (arith, e, f)
 
+none_taken : (n : ℕ) → n ≡ n - 0
+none_taken n = omega arith
+
 taken_both : (n m l d : ℕ) → d ≡ l - n → d - m ≡ l - (n + m)
 taken_both n m l d f = omega (arith, f)
 
@@ -81,7 +84,7 @@ left_rest size rest more (event ∷ events) low =
     ∙ left_rest (covered_after event.what size) (drop n rest) more events (fewer_left n m (length rest) (length (drop n rest)) low (length-drop n rest))
 
 left_length : (size : ℕ) (rest : List ℕ) (events : List Event) → length (left size rest events) ≡ length rest - coming_in size events
-left_length size rest [] = refl
+left_length size rest [] = none_taken (length rest)
 left_length size rest (event ∷ events) =
     let n = coming event.what size in
     let m = coming_in (covered_after event.what size) events in
