@@ -2,7 +2,9 @@
 ghost use Rattle.board_live.specs.Laws.{EndsAlike, IsSaidOnce, LaterChangesNothing, RestartsAlike, SaysAlike, WakesOnce};
 ghost use Rattle.board_live.specs.Restarts.{FilesSayTheSame, NumberMayFollow, RestartsSayTheSame, SaysOpenAlarms};
 
-use board_game::laws::{end_due_once, end_stays_until_due, ends_once, hears_once, opens_once, silence_is_forgotten};
+use board_game::laws::{
+    end_due_once, end_stays_until_due, ends_once, hears_once, opens_once, silence_is_forgotten,
+};
 use board_standing::laws::stays_until_due;
 
 /// Whatever happens later, what was answered stays.
