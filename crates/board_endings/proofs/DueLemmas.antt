@@ -1,5 +1,6 @@
 -- When time alone ends a game.
-use Rattle.std.proofs.Common.{◌≡◌, ◌≤◌, ◌||◌, ℕ, Bool, true, false, if◌then◌else◌, List, ◌∷◌, Option, Some, None, refl, sym, ap, subst, ◌∙◌, arith}
+use Rattle.std.proofs.Common.{◌≡◌, ◌<◌, ◌≤◌, ◌^◌, ◌||◌, ℕ, nat_le, Bool, true, false, if◌then◌else◌, List, ◌∷◌, IfSome, Option, Some, None, refl, sym, ap, subst, ◌∙◌, arith, le-leb, leb-false, leb-true}
+use Rattle.std.proofs.Math.Nat.{le_antisymm, le_refl}
 use Rattle.std.specs.Prelude.{is_some}
 use Rattle.square_runs.specs.Lasting.{IsBefore}
 use Rattle.game_over.specs.declared.happened.Event.{Event}
@@ -12,8 +13,8 @@ use Rattle.game_over.specs.Result.{has_come, has_stood, last_given}
 use Rattle.game_over.specs.Said.{IsSaidFor, with_result}
 use Rattle.board_endings.specs.declared.news.End.{End}
 use Rattle.board_endings.specs.Items.{bytes_of}
-use Rattle.board_endings.specs.Laws.{SameUntilDue}
-use Rattle.board_endings.specs.Saying.{IsEnd, end_by}
+use Rattle.board_endings.specs.Laws.{DueOnce, SameUntilDue}
+use Rattle.board_endings.specs.Saying.{IsEnd, IsToCome, end_by}
 use Rattle.board_endings.proofs.OnceLemmas.{tells_once}
 
 -- What has come by now has come later.
@@ -35,6 +36,11 @@ pub ends_later : (now time : ℕ) (due : Option ℕ) (one other : Bool) → has_
 ends_later now time due one other h e f =
     let was : one ≡ false = sym e ∙ h in
     sym f ∙ sym (ap (λ (b : Bool). b || has_come time due) was)
+
+-- What hasn't come by now is still to come.
+pub still_to_come : (now : ℕ) (due : Option ℕ) (ended : Bool) → IfSome due (λ d. d < 2 ^ 64) → has_come now due ≡ false → has_come now due ≡ ended → IsToCome ended now due
+still_to_come now None ended fits h e = tt
+still_to_come now (Some d) ended fits h e = (sym e ∙ h, leb-false d now h, fits)
 
 before_due : (time : ℕ) (due : Option ℕ) → IsBefore time due → has_come time due ≡ false
 before_due time None h = refl
@@ -82,3 +88,34 @@ same_until_due setting items now later due end valid le fits before d e =
     let D : List Event → Type 0 = λ t. is_some (ended_by (passes later bytes) t) ≡ (is_some (ended_by (passes now bytes) t) || has_come later due) in
     let same : is ≡ was = subst D told (d.2 later le fits) ∙ ap (λ (b : Bool). was || b) (before_due later due before) ∙ or_none was in
     (e.0, e.1, alike_by was is (passes now bytes) (passes later bytes) e.0 end same (passed now later bytes e.0 end) e.2)
+
+-- ---- one time
+
+-- From now on, it has ended if it has by now, or once this time has come.
+abbrev EndsAt : (ℕ → Bool) → ℕ → Option ℕ → Type 0
+EndsAt ended now due = (time : ℕ) → now ≤ time → time < 2 ^ 64 → ended time ≡ (ended now || has_come time due)
+
+same_or : (ended a b : Bool) → ended ≡ false → (ended || a) ≡ (ended || b) → a ≡ b
+same_or true a b e h = absurd cc
+same_or false a b e h = h
+
+-- At a time that is still to come, the other one has come too.
+come_too : (ended : ℕ → Bool) (now x : ℕ) (other : Option ℕ) → IsToCome (ended now) now (Some x) → EndsAt ended now (Some x) → EndsAt ended now other → has_come x other ≡ true
+come_too ended now x other ahead g h =
+    let le : now ≤ x = omega (arith, ahead.1) in
+    sym (same_or (ended now) (nat_le x x) (has_come x other) ahead.0 (sym (g x le ahead.2) ∙ h x le ahead.2)) ∙ le-leb x x (le_refl x)
+
+one_time : (ended : ℕ → Bool) (now : ℕ) (a b : Option ℕ) → EndsAt ended now a → EndsAt ended now b → IsToCome (ended now) now a → IsToCome (ended now) now b → a ≡ b
+one_time ended now None None g h p q = refl
+one_time ended now None (Some y) g h p q = let never : false ≡ true = come_too ended now y None q h g in absurd cc
+one_time ended now (Some x) None g h p q = let never : false ≡ true = come_too ended now x None p g h in absurd cc
+one_time ended now (Some x) (Some y) g h p q =
+    ap (λ (n : ℕ). Some n) (le_antisymm (leb-true x y (come_too ended now y (Some x) q h g)) (leb-true y x (come_too ended now x (Some y) p g h)))
+
+pub due_once : DueOnce
+due_once setting items now a b valid g h =
+    let bytes = bytes_of items in
+    let told = tells_once setting items g.0 h.0 valid g.1 h.1 in
+    let E : List Event → Type 0 = λ t. EndsAt (λ time. is_some (ended_by (passes time bytes) t)) now a in
+    let A : List Event → Type 0 = λ t. IsToCome (is_some (ended_by (passes now bytes) t)) now a in
+    one_time (λ time. is_some (ended_by (passes time bytes) h.0)) now a b (subst E told g.2) h.2 (subst A told g.3) h.3

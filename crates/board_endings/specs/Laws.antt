@@ -18,6 +18,10 @@ TellsOnce = (setting : Setting) (items : List Item) (a b : List Event) → Valid
 abbrev pub EndsOnce : Type 0
 EndsOnce = (setting : Setting) (items : List Item) (now : ℕ) (a b : End) → Valid setting.start → IsEndAt setting items now a → IsEndAt setting items now b → a ≡ b
 
+-- So does the time at which time alone ends it.
+abbrev pub DueOnce : Type 0
+DueOnce = (setting : Setting) (items : List Item) (now : ℕ) (a b : Option ℕ) → Valid setting.start → IsDueAt setting items now a → IsDueAt setting items now b → a ≡ b
+
 -- Until time is due to end the game, it stands as it does now.
 abbrev pub SameUntilDue : Type 0
 SameUntilDue = (setting : Setting) (items : List Item) (now later : ℕ) (due : Option ℕ) (end : End) → Valid setting.start → now ≤ later → later < 2 ^ 64

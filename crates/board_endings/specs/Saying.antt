@@ -1,5 +1,5 @@
 -- How a game stands with its end. Lists have the latest first.
-use Rattle.std.specs.Prelude.{◌≡◌, ◌<◌, ◌≤◌, ◌^◌, ◌||◌, ℕ, List, [], ◌∷◌, Option, Some, None, is_some}
+use Rattle.std.specs.Prelude.{◌≡◌, ◌<◌, ◌≤◌, ◌^◌, ◌||◌, ℕ, Bool, false, List, [], ◌∷◌, Option, Some, None, is_some, ⊤}
 use Rattle.board_events.specs.Settings.{Setting}
 use Rattle.game_over.specs.declared.happened.Event.{Event}
 use Rattle.game_over.specs.declared.happened.Happening.{Happening}
@@ -38,7 +38,13 @@ IsEnd (event ∷ past) end = (before : End) × (said : Said) × IsEnd past befor
 abbrev pub IsEndAt : Setting → List Item → ℕ → End → Type 0
 IsEndAt setting items now end = (told : List Event) × Tells setting items told × IsEnd (timed now (bytes_of items) told) end
 
--- From now on, time alone has ended the game if it has by now, or once this time has come.
+-- If a time is named, it is still to come, and time hasn't ended the game yet.
+abbrev pub IsToCome : Bool → ℕ → Option ℕ → Type 0
+IsToCome ended now None = ⊤
+IsToCome ended now (Some due) = (ended ≡ false) × (now < due) × (due < 2 ^ 64)
+
+-- From now on, time alone has ended the game if it has by now, or once this time has come; if it has, no time is named.
 abbrev pub IsDueAt : Setting → List Item → ℕ → Option ℕ → Type 0
 IsDueAt setting items now due = (told : List Event) × Tells setting items told × ((time : ℕ) → now ≤ time → time < 2 ^ 64
     → is_some (ended_by (passes time (bytes_of items)) told) ≡ (is_some (ended_by (passes now (bytes_of items)) told) || has_come time due))
+    × IsToCome (is_some (ended_by (passes now (bytes_of items)) told)) now due

@@ -1,5 +1,5 @@
 //! The events of a board, and news of its game, to how the game is over.
-ghost use Rattle.std.specs.Prelude.{◌≡◌, ◌∷◌, ◌<◌, ◌^◌, [], ℕ, List, OnOk, is_some};
+ghost use Rattle.std.specs.Prelude.{◌≡◌, ◌∷◌, ◌<◌, ◌^◌, [], ℕ, List, IfSome, OnOk, is_some};
 ghost use Rattle.dgt_frame.specs.declared.events.Event.{Event as EventOf};
 ghost use Rattle.board_events.specs.Session.{HasTakenEvents};
 ghost use Rattle.board_events.specs.Settings.{Setting};
@@ -34,9 +34,10 @@ fn happening(news: News) -> Option<Happening>
     }
 }
 
-/// Whether a time has come, if there is one.
+/// Whether a time has come, if there is one. A time has 64 bits.
 fn has_come(now: u64, time: Option<u64>) -> bool
-    ensures { result ≡ has_come_of now time }
+    ensures come { result ≡ has_come_of now time }
+    ensures fits { IfSome time (λ t. t < 2 ^ 64) }
 {
     match time {
         None => false,

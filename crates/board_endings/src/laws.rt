@@ -1,5 +1,5 @@
 //! What holds of each history. Each law is the contract of a function, which does nothing.
-ghost use Rattle.board_endings.specs.Laws.{EndsOnce, SameUntilDue, StaysOver, TellsOnce};
+ghost use Rattle.board_endings.specs.Laws.{DueOnce, EndsOnce, SameUntilDue, StaysOver, TellsOnce};
 
 use game_over::laws::said_in_one_way;
 
@@ -15,6 +15,11 @@ pub fn ends_once()
     // For its clause: one thing is said to an event.
     said_in_one_way();
 }
+
+/// And so does the time at which time alone ends it.
+pub fn due_once()
+    ensures { DueOnce }
+{}
 
 /// Until time is due to end the game, it stands as it does now.
 pub fn same_until_due()

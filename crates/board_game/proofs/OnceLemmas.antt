@@ -31,10 +31,10 @@ use Rattle.board_game.specs.History.{Adds, Bytes, Came, Finds, Item, Makes, News
 use Rattle.board_alarms.specs.Hearing.{AreOpen}
 use Rattle.board_alarms.specs.Laws.{OpensOnce as AlarmsOpenOnce}
 use Rattle.board_game.specs.Alarming.{alarm_items}
-use Rattle.board_endings.specs.Laws.{EndsOnce as EndingsAreOne, SameUntilDue}
+use Rattle.board_endings.specs.Laws.{DueOnce, EndsOnce as EndingsAreOne, SameUntilDue}
 use Rattle.board_endings.specs.Saying.{IsDueAt, IsEndAt}
 use Rattle.board_game.specs.Ending.{end_items}
-use Rattle.board_game.specs.Laws.{EndStaysUntilDue, EndsOnce, HearsOnce, OpensOnce}
+use Rattle.board_game.specs.Laws.{EndDueOnce, EndStaysUntilDue, EndsOnce, HearsOnce, OpensOnce}
 use Rattle.board_game.proofs.PlainLemmas.{ShowsOnce, same_shown}
 
 -- ---- masks
@@ -223,6 +223,11 @@ pub ends_once : ShowsOnce → RecoversOnce → EndingsAreOne → EndsOnce
 ends_once shows once ends setting recovers past now a b valid g h =
     let items = makes_once shows once setting recovers past g.0 h.0 valid g.1 h.1 in
     ends setting (end_items h.0) now a b valid (subst (λ (is : List Item). IsEndAt setting (end_items is) now a) items g.2) h.2
+
+pub end_due_once : ShowsOnce → RecoversOnce → DueOnce → EndDueOnce
+end_due_once shows once dues setting recovers past now a b valid g h =
+    let items = makes_once shows once setting recovers past g.0 h.0 valid g.1 h.1 in
+    dues setting (end_items h.0) now a b valid (subst (λ (is : List Item). IsDueAt setting (end_items is) now a) items g.2) h.2
 
 pub end_stays : ShowsOnce → RecoversOnce → SameUntilDue → EndStaysUntilDue
 end_stays shows once same setting recovers past now later due end valid le fits before d e =

@@ -20,8 +20,8 @@ use Rattle.board_alarms.specs.Laws.{OpensOnce as AlarmsOpenOnce}
 use Rattle.board_looks.specs.declared.look.Look.{Look}
 use Rattle.board_endings.specs.declared.news.End.{End}
 use Rattle.board_endings.specs.Items.{Item as EndItem, Sent as Ends_with}
-use Rattle.board_endings.specs.Laws.{EndsOnce as EndingsAreOne}
-use Rattle.board_endings.specs.Saying.{IsEndAt}
+use Rattle.board_endings.specs.Laws.{DueOnce, EndsOnce as EndingsAreOne}
+use Rattle.board_endings.specs.Saying.{IsDueAt, IsEndAt}
 use Rattle.board_standing.specs.declared.heard.Event.{Event as Told}
 use Rattle.board_standing.specs.declared.heard.Heard.{Heard}
 use Rattle.board_standing.specs.declared.heard.Heard.TheVariants.{Shows, Repeats, Moves, Ends, Reopens, Stops, Answers, Unplugs, Plugs, Begins}
@@ -37,7 +37,7 @@ use Rattle.pair_frames.specs.PutIn.{put_in}
 use Rattle.board_game.specs.declared.note.Note.{Note}
 use Rattle.board_game.specs.declared.note.Note.TheVariants.{Line, Looked, PutsBack, Reopens as IsReopened, Passes, Resumes, Suspects}
 use Rattle.board_game.specs.Alarming.{AlarmsAre, alarm_items, news_of, of_line, with_news}
-use Rattle.board_game.specs.Ending.{IsEndOf, end_items, end_news, end_of_line, with_end_news}
+use Rattle.board_game.specs.Ending.{IsEndDueOf, IsEndOf, end_items, end_news, end_of_line, with_end_news}
 use Rattle.board_game.specs.Hearing.{Hears, HearsEvent, HearsPicture, HearsResult, IsHeard, heard_of, with_heard}
 use Rattle.board_game.specs.History.{Adds, AreShown, Bytes, Came, Item, Makes, News, Noted, Pair, Sent, bytes_of, events_of, with_events, with_found}
 use Rattle.board_game.specs.Silences.{ReadAlike, SilenceIsForgotten, but_silence, is_silence, tells_silence}
@@ -469,19 +469,30 @@ quiet_ends (Noted at Passes ∷ items) = ap (λ (is : List EndItem). with_end_ne
 quiet_ends (Noted at Resumes ∷ items) = ap (λ (is : List EndItem). with_end_news at (end_news Resumes) is) (quiet_ends items)
 quiet_ends (Noted at (Suspects n) ∷ items) = ap (λ (is : List EndItem). with_end_news at (end_news (Suspects n)) is) (quiet_ends items)
 
+-- The same items are told of it.
+ends_quiet : ShowsOnce → RecoversOnce → (setting : Setting) (recovers : Bool) (one other : List Came) (a b : List Item) → Valid setting.start
+    → but_silence one ≡ but_silence other → Makes setting recovers one a → Makes setting recovers other b → end_items a ≡ end_items b
+ends_quiet shows once setting recovers one other a b valid same g h =
+    sym (quiet_ends a) ∙ ap (λ (is : List Item). end_items is) (items_quiet shows once setting recovers one other a b valid same g h) ∙ quiet_ends b
+
 ends_alike : ShowsOnce → RecoversOnce → EndingsAreOne → (setting : Setting) (recovers : Bool) (one other : List Came) (now : ℕ) (a b : End) → Valid setting.start
     → but_silence one ≡ but_silence other → IsEndOf setting recovers one now a → IsEndOf setting recovers other now b → a ≡ b
 ends_alike shows once ends setting recovers one other now a b valid same g h =
-    let items : end_items g.0 ≡ end_items h.0 =
-    sym (quiet_ends g.0) ∙ ap (λ (is : List Item). end_items is) (items_quiet shows once setting recovers one other g.0 h.0 valid same g.1 h.1) ∙ quiet_ends h.0 in
     let O : List EndItem → Type 0 = λ is. IsEndAt setting is now a in
-    ends setting (end_items h.0) now a b valid (subst O items g.2) h.2
+    ends setting (end_items h.0) now a b valid (subst O (ends_quiet shows once setting recovers one other g.0 h.0 valid same g.1 h.1) g.2) h.2
 
-pub is_forgotten : ShowsOnce → RecoversOnce → AlarmsOpenOnce → EndingsAreOne → SilenceIsForgotten
-is_forgotten shows once opens ends setting recovers at since first second valid same =
+dues_alike : ShowsOnce → RecoversOnce → DueOnce → (setting : Setting) (recovers : Bool) (one other : List Came) (now : ℕ) (a b : Option ℕ) → Valid setting.start
+    → but_silence one ≡ but_silence other → IsEndDueOf setting recovers one now a → IsEndDueOf setting recovers other now b → a ≡ b
+dues_alike shows once dues setting recovers one other now a b valid same g h =
+    let D : List EndItem → Type 0 = λ is. IsDueAt setting is now a in
+    dues setting (end_items h.0) now a b valid (subst D (ends_quiet shows once setting recovers one other g.0 h.0 valid same g.1 h.1) g.2) h.2
+
+pub is_forgotten : ShowsOnce → RecoversOnce → AlarmsOpenOnce → EndingsAreOne → DueOnce → SilenceIsForgotten
+is_forgotten shows once opens ends dues setting recovers at since first second valid same =
     let all = since_quiet at since first second same in (
       λ now heard told g h. read_alike now heard told (heard_alike shows once setting recovers _ _ heard told valid all g h)
           (silent_alike setting recovers at since first second heard told g h),
       λ looks alarms g h. alarms_alike shows once opens setting recovers _ _ looks alarms valid all g h,
       λ now end ending g h. ends_alike shows once ends setting recovers _ _ now end ending valid all g h,
+      λ now due time g h. dues_alike shows once dues setting recovers _ _ now due time valid all g h,
     )

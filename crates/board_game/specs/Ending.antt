@@ -43,6 +43,6 @@ end_items (Noted at note ∷ items) = with_end_news at (end_news note) (end_item
 abbrev pub IsEndOf : Setting → Bool → List Came → ℕ → End → Type 0
 IsEndOf setting recovers past now end = (items : List Item) × Makes setting recovers past items × IsEndAt setting (end_items items) now end
 
--- From now on, time alone has ended it if it has by now, or once this time has come.
+-- From now on, time alone has ended it if it has by now, or once this time has come; if it has, no time is named.
 abbrev pub IsEndDueOf : Setting → Bool → List Came → ℕ → Option ℕ → Type 0
 IsEndDueOf setting recovers past now due = (items : List Item) × Makes setting recovers past items × IsDueAt setting (end_items items) now due

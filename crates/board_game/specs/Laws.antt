@@ -35,6 +35,11 @@ abbrev pub EndsOnce : Type 0
 EndsOnce = (setting : Setting) (recovers : Bool) (past : List Came) (now : ℕ) (a b : End) → Valid setting.start → IsEndOf setting recovers past now a
     → IsEndOf setting recovers past now b → a ≡ b
 
+-- So does the time at which time alone ends it.
+abbrev pub EndDueOnce : Type 0
+EndDueOnce = (setting : Setting) (recovers : Bool) (past : List Came) (now : ℕ) (a b : Option ℕ) → Valid setting.start → IsEndDueOf setting recovers past now a
+    → IsEndDueOf setting recovers past now b → a ≡ b
+
 -- Until time is due to end the game, it stands as it does now.
 abbrev pub EndStaysUntilDue : Type 0
 EndStaysUntilDue = (setting : Setting) (recovers : Bool) (past : List Came) (now later : ℕ) (due : Option ℕ) (end : End) → Valid setting.start → now ≤ later

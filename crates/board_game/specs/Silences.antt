@@ -1,5 +1,5 @@
 -- What it leaves that a board was silent, once it answers again. Lists have the latest first.
-use Rattle.std.specs.Prelude.{◌≡◌, ℕ, Bool, true, false, if◌then◌else◌, List, [], ◌∷◌, ◌++◌}
+use Rattle.std.specs.Prelude.{◌≡◌, ℕ, Bool, true, false, if◌then◌else◌, List, [], ◌∷◌, ◌++◌, Option}
 use Rattle.chess_rules.specs.Valid.{Valid}
 use Rattle.board_endings.specs.declared.news.End.{End}
 use Rattle.board_events.specs.Settings.{Setting}
@@ -11,7 +11,7 @@ use Rattle.board_standing.specs.States.{due_at, hint_at, kind_at, names_at, sinc
 use Rattle.board_game.specs.declared.note.Note.{Note}
 use Rattle.board_game.specs.declared.note.Note.TheVariants.{Line}
 use Rattle.board_game.specs.Alarming.{AlarmsAre}
-use Rattle.board_game.specs.Ending.{IsEndOf}
+use Rattle.board_game.specs.Ending.{IsEndDueOf, IsEndOf}
 use Rattle.board_game.specs.Hearing.{IsHeard}
 use Rattle.board_game.specs.History.{Bytes, Came, News}
 
@@ -40,7 +40,7 @@ pub record ReadAlike (now : ℕ) (one other : List Told) : Type 0 where
   pub due : due_at now one ≡ due_at now other
 
 -- A board answered at some time, and the same came since. If the same had come before, but for silence, then the same is read of the
--- board, the same alarms are open, and the game stands alike with its end.
+-- board, the same alarms are open, the game stands alike with its end, and time ends it at the same time.
 abbrev pub SilenceIsForgotten : Type 0
 SilenceIsForgotten = (setting : Setting) (recovers : Bool) (at : ℕ) (since first second : List Came) → Valid setting.start → but_silence first ≡ but_silence second
     → let one : List Came = since ++ News at (Line Answers) ∷ first in
@@ -48,3 +48,4 @@ SilenceIsForgotten = (setting : Setting) (recovers : Bool) (at : ℕ) (since fir
     ((now : ℕ) (heard told : List Told) → IsHeard setting recovers one heard → IsHeard setting recovers other told → ReadAlike now heard told)
     × ((looks alarms : List Look) → AlarmsAre setting recovers one looks → AlarmsAre setting recovers other alarms → looks ≡ alarms)
     × ((now : ℕ) (end ending : End) → IsEndOf setting recovers one now end → IsEndOf setting recovers other now ending → end ≡ ending)
+    × ((now : ℕ) (due time : Option ℕ) → IsEndDueOf setting recovers one now due → IsEndDueOf setting recovers other now time → due ≡ time)

@@ -1,9 +1,9 @@
 //! What holds of each history. Each law is the contract of a function, which does nothing.
-ghost use Rattle.board_game.specs.Laws.{EndStaysUntilDue, EndsOnce, HearsOnce, OpensOnce, ReportsAsWatch};
+ghost use Rattle.board_game.specs.Laws.{EndDueOnce, EndStaysUntilDue, EndsOnce, HearsOnce, OpensOnce, ReportsAsWatch};
 ghost use Rattle.board_game.specs.Silences.{SilenceIsForgotten};
 
 use board_alarms::laws::opens_once as alarms_open_once;
-use board_endings::laws::{ends_once as endings_are_one, same_until_due};
+use board_endings::laws::{due_once, ends_once as endings_are_one, same_until_due};
 use dgt_frame::laws::shows_once;
 use unseen_pairs::laws::recovers_once;
 
@@ -49,6 +49,18 @@ pub fn ends_once()
     endings_are_one();
 }
 
+/// And so does the time at which time alone ends it.
+pub fn end_due_once()
+    ensures { EndDueOnce }
+{
+    // For its clause: bytes show one list of events.
+    shows_once();
+    // For its clause: at an event one pair is recovered, or none.
+    recovers_once();
+    // For its clause: when events and news let time end it.
+    due_once();
+}
+
 /// From a valid start, the game stands as it does now until time is due to end it.
 pub fn end_stays_until_due()
     ensures { EndStaysUntilDue }
@@ -62,7 +74,7 @@ pub fn end_stays_until_due()
 }
 
 /// From a valid start, a silence that is over changes neither what is read of the board, nor which alarms are open, nor how the game
-/// stands with its end.
+/// stands with its end, nor when time ends it.
 pub fn silence_is_forgotten()
     ensures { SilenceIsForgotten }
 {
@@ -74,4 +86,6 @@ pub fn silence_is_forgotten()
     alarms_open_once();
     // For its clause: what events and news say of the end.
     endings_are_one();
+    // For its clause: when events and news let time end it.
+    due_once();
 }

@@ -3,6 +3,7 @@ use Rattle.std.proofs.Common.{◌≡◌, ◌||◌, ◌<◌, ◌≤◌, ◌^◌, 
 use Rattle.std.specs.Prelude.{◌↔◌, IsTrue, if◌then◌else◌}
 use Rattle.chess_rules.specs.Valid.{Valid}
 use Rattle.square_runs.specs.Squares.{Marks}
+use Rattle.board_asking.specs.declared.line.Event.{Event}
 use Rattle.board_asking.specs.declared.line.Happening.TheVariants.{Begins as LineBegins}
 use Rattle.board_asking.specs.Silence.{is_silent}
 use Rattle.board_asking.specs.Whose.{own_number}
@@ -32,15 +33,18 @@ use Rattle.board_live.specs.declared.happened.What.{What}
 use Rattle.board_live.specs.declared.happened.What.TheVariants.{Cable}
 use Rattle.board_live.specs.declared.live.Answer.{Answer}
 use Rattle.board_live.specs.Coming.{came, came_with, lined, silence, when, with_bytes, with_news}
+use Rattle.board_live.specs.Due.{IsDue}
 use Rattle.board_live.specs.Ending.{last_at}
 use Rattle.board_live.specs.Laws.{with_kept, with_number, with_told}
 use Rattle.board_live.specs.Live.{Answers, unsaid}
 use Rattle.board_live.specs.Moments.{Moment, already, begins, cabled, is_added, news_of}
-use Rattle.board_live.specs.Restarts.{FilesSayTheSame, as_filed}
+use Rattle.board_live.specs.Restarts.{FilesSayTheSame, IsAnswered, WakesAt, as_filed}
 use Rattle.board_live.specs.Saying.{IsSaid, is_live, said_before}
 use Rattle.board_live.proofs.Alike.{Likewise, begun, earlier, keeps_begun, kept_begun, likewise, none_told, silence_at}
+use Rattle.board_live.proofs.Dues.{due_by}
 use Rattle.board_live.proofs.Ends.{end_begun, end_step, last_same}
 use Rattle.board_live.proofs.Fed.{Fed, fed_kept, fed_none, fed_told, numbered, turn_asked}
+use Rattle.board_live.proofs.Lines.{line_of, same_asks, same_handlings}
 use Rattle.board_live.proofs.Saids.{first_said, live_alike, said_step, squares_once, state_same}
 use Rattle.board_live.proofs.Says.{answer_same, both_or_neither, said_first}
 
@@ -233,6 +237,16 @@ end_since forgotten setting recovers one other now a b valid s g h =
     let B : List Came → Type 0 = λ c. IsEndOf setting recovers c now b in
     (forgotten setting recovers s.at s.since s.first s.second valid s.same).2 now a b (subst A s.one_is g) (subst B s.other_is h)
 
+pub due_since : SilenceIsForgotten → (setting : Setting) (recovers : Bool) (one other : List Came) (x y : List Event) (now : ℕ) (a b : Option ℕ) → Valid setting.start → Since one other
+    → line_of x ≡ line_of y → IsDue setting recovers one x now a → IsDue setting recovers other y now b → a ≡ b
+due_since forgotten setting recovers one other x y now a b valid s lines g h =
+    let A : List Came → Type 0 = λ c. IsDue setting recovers c x now a in
+    let B : List Came → Type 0 = λ c. IsDue setting recovers c y now b in
+    let all = forgotten setting recovers s.at s.since s.first s.second valid s.same in
+    due_by setting recovers (s.since ++ News s.at (LineNews AnswersAgain) ∷ s.first) (s.since ++ News s.at (LineNews AnswersAgain) ∷ s.second) x y now a b
+    (λ at. same_asks at x y lines) (λ at. same_handlings at x y lines) (λ due time p q. p.2 ∙ (all.0 now p.0 q.0 p.1 q.1).due ∙ sym q.2)
+    (λ due time p q. all.3 now due time p q) (subst A s.one_is g) (subst B s.other_is h)
+
 pub filed_said : SilenceIsForgotten → (setting : Setting) (recovers : Bool) (call past : List Moment) (m : Moment) (before turns others : List Turn) (said other last final : Option State)
     → Valid setting.start → m.what ≡ Cable Begins → Told (cabled past) before → Told (cabled (call ++ m ∷ past)) turns
     → Told (cabled (call ++ m ∷ filed_with m past before)) others → IsSaid setting recovers (call ++ m ∷ past) turns said last
@@ -275,10 +289,18 @@ pub looks_same : SilenceIsForgotten → (setting : Setting) (recovers : Bool) (o
 looks_same forgotten setting recovers one other a b looks alarms all others valid s same g h p q =
     p ∙ ap (λ (x : Answer). drop x.unsaid all) same ∙ ap (λ x. drop b.unsaid x) (alarms_since forgotten setting recovers one other all others valid s g h) ∙ sym q
 
-pub files_say_the_same : SilenceIsForgotten → FilesSayTheSame
-files_say_the_same forgotten setting recovers call past m before [] others a b looks alarms valid is first g h p q = absurd (none_told m call past g)
-files_say_the_same forgotten setting recovers call past m before (t ∷ ts) [] a b looks alarms valid is first g h p q = absurd (none_told m call (filed_with m past before) h)
-files_say_the_same forgotten setting recovers [] past m before (t ∷ ts) (u ∷ us) a b looks alarms valid is first g h p q =
+-- The same answers are given, with the same alarms.
+abbrev AnswerAlike : Type 0
+AnswerAlike = (setting : Setting) (recovers : Bool) (call past : List Moment) (begins : Moment) (before turns others : List Turn)
+    (answer other : Answer) (looks alarms : List Look) → Valid setting.start → begins.what ≡ Cable Begins → Told (cabled past) before
+    → Told (cabled (call ++ begins ∷ past)) turns → Told (cabled (call ++ begins ∷ filed_with begins past before)) others
+    → IsAnswered setting recovers (call ++ begins ∷ past) turns answer looks
+    → IsAnswered setting recovers (call ++ begins ∷ filed_with begins past before) others other alarms → (answer ≡ other) × (looks ≡ alarms)
+
+files_answer_alike : SilenceIsForgotten → AnswerAlike
+files_answer_alike forgotten setting recovers call past m before [] others a b looks alarms valid is first g h p q = absurd (none_told m call past g)
+files_answer_alike forgotten setting recovers call past m before (t ∷ ts) [] a b looks alarms valid is first g h p q = absurd (none_told m call (filed_with m past before) h)
+files_answer_alike forgotten setting recovers [] past m before (t ∷ ts) (u ∷ us) a b looks alarms valid is first g h p q =
     let filed = filed_with m past before in
     let both = since_call [] past m before t u ts us is first g h in
     let state = (filed_said forgotten setting recovers [] past m before (t ∷ ts) (u ∷ us) a.state b.state p.0.last q.0.last valid is first g h p.0.said q.0.said).0 in
@@ -290,10 +312,10 @@ files_say_the_same forgotten setting recovers [] past m before (t ∷ ts) (u ∷
     (end_since forgotten setting recovers (came (m ∷ past) (t ∷ ts)) (came (m ∷ filed) (u ∷ us)) m.at p.0.end.now q.0.end.now valid both.1 p.0.end.now_is q.0.end.now_is) in
     let answer = filed_answer setting recovers m past filed t u ts us a b both.0 had unsaid state end p.0 q.0 in
     (answer, looks_same forgotten setting recovers (came (m ∷ past) (t ∷ ts)) (came (m ∷ filed) (u ∷ us)) a b looks alarms p.1.0 q.1.0 valid both.1 answer p.1.1 q.1.1 p.1.2 q.1.2)
-files_say_the_same forgotten setting recovers (one ∷ call) past m before (t ∷ []) (u ∷ us) a b looks alarms valid is first g h p q = absurd (none_told m call past g.0)
-files_say_the_same forgotten setting recovers (one ∷ call) past m before (t ∷ v ∷ ts) (u ∷ []) a b looks alarms valid is first g h p q =
+files_answer_alike forgotten setting recovers (one ∷ call) past m before (t ∷ []) (u ∷ us) a b looks alarms valid is first g h p q = absurd (none_told m call past g.0)
+files_answer_alike forgotten setting recovers (one ∷ call) past m before (t ∷ v ∷ ts) (u ∷ []) a b looks alarms valid is first g h p q =
     absurd (none_told m call (filed_with m past before) h.0)
-files_say_the_same forgotten setting recovers (one ∷ call) past m before (t ∷ v ∷ ts) (u ∷ w ∷ us) a b looks alarms valid is first g h p q =
+files_answer_alike forgotten setting recovers (one ∷ call) past m before (t ∷ v ∷ ts) (u ∷ w ∷ us) a b looks alarms valid is first g h p q =
     let filed = filed_with m past before in
     let had : List Moment = call ++ m ∷ past in
     let other : List Moment = call ++ m ∷ filed in
@@ -313,3 +335,22 @@ files_say_the_same forgotten setting recovers (one ∷ call) past m before (t �
     let end : a.end ≡ b.end = end_step setting recovers one had other t u (v ∷ ts) (w ∷ us) a.end b.end (live_alike (one ∷ call) past filed m is) p.0.end q.0.end was ends in
     let answer = filed_answer setting recovers one had other t u (v ∷ ts) (w ∷ us) a b both.0 (since_alike (came had (v ∷ ts)) (came other (w ∷ us)) sooner) count state end p.0 q.0 in
     (answer, looks_same forgotten setting recovers (came (one ∷ had) (t ∷ v ∷ ts)) (came (one ∷ other) (u ∷ w ∷ us)) a b looks alarms p.1.0 q.1.0 valid both.1 answer p.1.1 q.1.1 p.1.2 q.1.2)
+
+-- The same times to wake are named.
+wakes_alike : SilenceIsForgotten → (setting : Setting) (recovers : Bool) (call past : List Moment) (m : Moment) (before turns others : List Turn) (due time : Option ℕ) → Valid setting.start
+    → m.what ≡ Cable Begins → Told (cabled past) before → Told (cabled (call ++ m ∷ past)) turns → Told (cabled (call ++ m ∷ filed_with m past before)) others
+    → WakesAt setting recovers (call ++ m ∷ past) turns due → WakesAt setting recovers (call ++ m ∷ filed_with m past before) others time → due ≡ time
+wakes_alike forgotten setting recovers call past m before [] others due time valid is first g h p q = absurd (none_told m call past g)
+wakes_alike forgotten setting recovers call past m before (t ∷ ts) [] due time valid is first g h p q = absurd (none_told m call (filed_with m past before) h)
+wakes_alike forgotten setting recovers call past m before (t ∷ ts) (u ∷ us) due time valid is first g h p q =
+    let filed = filed_with m past before in
+    let both = since_call call past m before t u ts us is first g h in
+    let D : ℕ → Type 0 = λ at. IsDue setting recovers (came (call ++ m ∷ past) (t ∷ ts)) (told (t ∷ ts)) at due in
+    due_since forgotten setting recovers (came (call ++ m ∷ past) (t ∷ ts)) (came (call ++ m ∷ filed) (u ∷ us)) (told (t ∷ ts)) (told (u ∷ us)) (last_at (call ++ m ∷ filed)) due time valid
+    both.1 both.0.lines (subst D (last_same call past filed m) p) q
+
+pub files_say_the_same : SilenceIsForgotten → FilesSayTheSame
+files_say_the_same forgotten setting recovers call past m before turns others valid is first g h = (
+  λ answer other looks alarms p q. files_answer_alike forgotten setting recovers call past m before turns others answer other looks alarms valid is first g h p q,
+  λ due time p q. wakes_alike forgotten setting recovers call past m before turns others due time valid is first g h p q,
+)

@@ -1,4 +1,5 @@
 pub mod Alike
+pub mod Dues
 pub mod Ends
 pub mod Fed
 pub mod Filed

@@ -12,6 +12,7 @@ use Rattle.board_asking.specs.declared.line.Request.TheVariants.{Dump, Numbered,
 use Rattle.board_asking.specs.Asking.{request_at, with_request}
 use Rattle.board_asking.specs.Lasting.{has_lasted, is_past}
 use Rattle.board_asking.specs.Line.{asked_at, asked_by, dumped_at, dumped_by, is_open, is_unanswered, is_wanted, open_by, unanswered_by, unfinished_at, unfinished_by, updated_at, updated_by, wanted_by}
+use Rattle.board_asking.specs.Pace.{asks}
 use Rattle.board_asking.specs.Silence.{heard_at, heard_by, is_silent, lost, lost_by, silent_by}
 use Rattle.board_asking.specs.Starting.{has_updated, is_start, last_dump, last_dump_by, start_by, updates_by}
 use Rattle.board_asking.specs.Whose.{awaited_at, awaited_by, dumps_by, dumps_since, handling_at, handling_by, is_awaited, left, left_by, own_by, own_number, shown_by, shown_number}
@@ -86,11 +87,16 @@ next e l = record {
 pub same_more : (e : Event) (a b : List Event) → line_of a ≡ line_of b → line_of (e ∷ a) ≡ line_of (e ∷ b)
 same_more e a b h = ap (λ l. next e l) h
 
-abbrev pub request_on : ℕ → Line → Option Request
-request_on at l =
-    if l.opened && (is_past (if l.unanswered then 1000 else 200) at l.asked && (l.wanted || (has_lasted 200 at l.unfinished
+abbrev pub asks_on : ℕ → Line → Bool
+asks_on at l =
+    l.opened && (is_past (if l.unanswered then 1000 else 200) at l.asked && (l.wanted || (has_lasted 200 at l.unfinished
     || ((has_lasted 1000 at l.dumped && is_past 500 at l.updated) || has_lasted 4000 at l.dumped))))
-    then Some (if l.unanswered || l.starts then Start else (if nat_lt 0 l.remaining then Numbered else Dump)) else None
+
+abbrev pub request_on : ℕ → Line → Option Request
+request_on at l = if asks_on at l then Some (if l.unanswered || l.starts then Start else (if nat_lt 0 l.remaining then Numbered else Dump)) else None
+
+pub same_asks : (at : ℕ) (a b : List Event) → line_of a ≡ line_of b → asks at a ≡ asks at b
+same_asks at a b h = ap (λ l. asks_on at l) h
 
 pub same_requests : (at : ℕ) (a b : List Event) → line_of a ≡ line_of b → request_at at a ≡ request_at at b
 same_requests at a b h = ap (λ l. request_on at l) h

@@ -1,10 +1,11 @@
 -- The number of the game's board, told once a call has begun.
-use Rattle.std.proofs.Common.{◌≡◌, inl, inr, ℕ, Bool, true, false, List, [], ◌∷◌, ◌++◌, length, Option, Some, None, refl, sym, ap, subst, ◌∙◌}
+use Rattle.std.proofs.Common.{◌≡◌, ◌<◌, ◌≤◌, ◌^◌, inl, inr, ℕ, Bool, true, false, List, [], ◌∷◌, ◌++◌, length, Option, Some, None, refl, sym, ap, subst, ◌∙◌}
 use Rattle.chess_rules.specs.Valid.{Valid}
 use Rattle.board_asking.specs.declared.line.Event.{Event}
 use Rattle.board_asking.specs.declared.line.Happening.TheVariants.{Begins as LineBegins, Interrupts as LineInterrupts, Owns as LineOwns}
 use Rattle.board_asking.specs.declared.whose.Handling.TheVariants.{Keep}
 use Rattle.board_asking.specs.Asking.{request_at}
+use Rattle.board_asking.specs.Lasting.{IsBefore}
 use Rattle.board_asking.specs.Line.{is_open}
 use Rattle.board_asking.specs.Silence.{is_silent}
 use Rattle.board_asking.specs.Whose.{awaited_at, dumps_since, handling_by, is_awaited, own_number, shown_number}
@@ -16,15 +17,20 @@ use Rattle.board_cable.specs.Turns.{Tells, Told, Turn, handling_of, told}
 use Rattle.board_cable.proofs.Once.{turns_once}
 use Rattle.board_events.specs.Settings.{Setting}
 use Rattle.board_looks.specs.declared.look.Look.{Look}
-use Rattle.board_game.specs.Ending.{IsEndOf}
-use Rattle.board_game.specs.Games.{IsStateOf}
+use Rattle.board_endings.specs.declared.news.End.{End}
+use Rattle.board_game.specs.Ending.{IsEndDueOf, IsEndOf}
+use Rattle.board_game.specs.Games.{IsDueOf, IsStateOf}
+use Rattle.board_game.specs.Hearing.{IsHeard}
 use Rattle.board_game.specs.declared.note.Note.TheVariants.{Line as LineNews}
 use Rattle.board_game.specs.History.{Came, News}
-use Rattle.board_game.specs.Laws.{HearsOnce}
+use Rattle.board_game.specs.Laws.{EndStaysUntilDue, HearsOnce}
 use Rattle.board_game.specs.Silences.{SilenceIsForgotten, but_silence}
 use Rattle.board_standing.specs.declared.heard.Heard.TheVariants.{Begins as RecorderBegins}
 use Rattle.board_standing.specs.declared.state.State.{State}
-use Rattle.board_standing.specs.States.{IsNews}
+use Rattle.board_standing.specs.Laws.{StaysUntilDue}
+use Rattle.board_standing.specs.States.{IsNews, hint_at, kind_at, names_at, since_at}
+use Rattle.square_runs.specs.Lasting.{IsBefore as IsBeforeState, earlier}
+use Rattle.square_runs.specs.Squares.{Marks}
 use Rattle.board_live.specs.declared.happened.What.TheVariants.{Cable}
 use Rattle.board_live.specs.declared.live.Answer.{Answer}
 use Rattle.board_live.specs.Coming.{came, came_with, silence}
@@ -32,14 +38,15 @@ use Rattle.board_live.specs.Ending.{last_at}
 use Rattle.board_live.specs.Laws.{with_number}
 use Rattle.board_live.specs.Live.{unsaid}
 use Rattle.board_live.specs.Moments.{Moment, already, at_cable, begins, cable_moment, cabled, is_added, news_of}
-use Rattle.board_live.specs.Restarts.{AreOffLine, IsAnswered, IsOffLine, NumberMayFollow, as_filed}
+use Rattle.board_live.specs.Restarts.{AreOffLine, IsAnswered, IsOffLine, MayBeTold, NumberMayFollow, SayTheSame, WakesAt, as_filed}
 use Rattle.board_live.specs.Saying.{IsSaid, Says, SaysAfter, is_live, last_said, live_by, said_before}
 use Rattle.board_live.proofs.Alike.{Likewise, begun, keeps_begun, step, stream_begun, stream_more}
 use Rattle.board_live.proofs.Ends.{end_step}
 use Rattle.board_live.proofs.Fed.{none_aside, turn_asked, unheard}
-use Rattle.board_live.proofs.Filed.{Since, alarms_since, answers_begun, end_since, fed_filed, filed_alike, filed_answer, looks_same, since_alike, since_came, since_turn, state_since}
+use Rattle.board_live.proofs.Filed.{Since, alarms_since, answers_begun, due_since, end_since, fed_filed, filed_alike, filed_answer, looks_same, since_alike, since_came, since_turn, state_since}
 use Rattle.board_live.proofs.Lines.{Line, line_of, request_on}
-use Rattle.board_live.proofs.Saids.{first_said, live_alike, said_step, state_once}
+use Rattle.board_live.proofs.Saids.{first_said, live_alike, said_step, squares_once, state_once, state_same}
+use Rattle.board_live.proofs.TakeLemmas.{sooner_both}
 use Rattle.board_live.proofs.Sides.{Side, keeps_unseen, nothing, nothing_kept, side_kept, side_of}
 
 -- ---- after the same
@@ -103,17 +110,23 @@ said_call forgotten setting recovers (m ∷ call) past other valid all before li
     (said_more forgotten setting recovers m (call ++ past) (call ++ other) t u ts us said answer last final valid (joined_call call past other all)
     (said_call forgotten setting recovers call past other valid all before live) (live_call call past other live) g h p q).1
 
-last_call : (call past other : List Moment) → last_at past ≡ last_at other → last_at (call ++ past) ≡ last_at (call ++ other)
-last_call [] past other same = same
-last_call (m ∷ call) past other same = refl
+-- The game stands with its end at this time as when something happened last.
+abbrev EndsOn : Setting → Bool → List Moment → ℕ → Type 0
+EndsOn setting recovers past later = (ts : List Turn) (end : End) → Told (cabled past) ts → IsEndOf setting recovers (came past ts) (last_at past) end
+    → IsEndOf setting recovers (came past ts) later end
+
+ends_call : (setting : Setting) (recovers : Bool) (call past other : List Moment) → EndsOn setting recovers past (last_at other)
+    → EndsOn setting recovers (call ++ past) (last_at (call ++ other))
+ends_call setting recovers [] past other on = on
+ends_call setting recovers (m ∷ call) past other on = λ ts end g is. is
 
 -- So the same is said at each moment that follows.
 says_on : SilenceIsForgotten → (setting : Setting) (recovers : Bool) (m : Moment) (past other : List Moment) (ts us : List Turn) (a b : Answer) (looks alarms : List Look)
-    → Valid setting.start → AreJoined past other → SaidAlike setting recovers past other → is_live past ≡ is_live other → last_at past ≡ last_at other → Told (cabled (m ∷ past)) ts
+    → Valid setting.start → AreJoined past other → SaidAlike setting recovers past other → is_live past ≡ is_live other → EndsOn setting recovers past (last_at other) → Told (cabled (m ∷ past)) ts
     → Told (cabled (m ∷ other)) us → IsAnswered setting recovers (m ∷ past) ts a looks → IsAnswered setting recovers (m ∷ other) us b alarms → (a ≡ b) × (looks ≡ alarms)
-says_on forgotten setting recovers m past other [] us a b looks alarms valid all before live at g h p q = absurd g
-says_on forgotten setting recovers m past other (t ∷ ts) [] a b looks alarms valid all before live at g h p q = absurd h
-says_on forgotten setting recovers m past other (t ∷ ts) (u ∷ us) a b looks alarms valid all before live at g h p q =
+says_on forgotten setting recovers m past other [] us a b looks alarms valid all before live on g h p q = absurd g
+says_on forgotten setting recovers m past other (t ∷ ts) [] a b looks alarms valid all before live on g h p q = absurd h
+says_on forgotten setting recovers m past other (t ∷ ts) (u ∷ us) a b looks alarms valid all before live on g h p q =
     let had = all ts us g.0 h.0 in
     let both = joined_more m past other t u ts us had g h in
     let state = (said_more forgotten setting recovers m past other t u ts us a.state b.state p.0.last q.0.last valid all before live g h p.0.said q.0.said).0 in
@@ -123,12 +136,22 @@ says_on forgotten setting recovers m past other (t ∷ ts) (u ∷ us) a b looks 
     ∙ ap (λ x. unsaid x (begins m.what) (length p.0.alarms.before) (length p.0.alarms.now)) (ap (λ x. live_by m.what x) live)
     ∙ ap (λ (x : List Look). unsaid (is_live (m ∷ other)) (begins m.what) (length x) (length p.0.alarms.now)) sooner
     ∙ ap (λ (x : List Look). unsaid (is_live (m ∷ other)) (begins m.what) (length q.0.alarms.before) (length x)) now ∙ sym q.0.alarms.count_is in
-    let E : ℕ → Type 0 = λ x. IsEndOf setting recovers (came past ts) x p.0.end.before in
-    let was = end_since forgotten setting recovers (came past ts) (came other us) (last_at other) p.0.end.before q.0.end.before valid had.since (subst E at p.0.end.before_is) q.0.end.before_is in
+    let was = end_since forgotten setting recovers (came past ts) (came other us) (last_at other) p.0.end.before q.0.end.before valid had.since
+    (on ts p.0.end.before g.0 p.0.end.before_is) q.0.end.before_is in
     let ends = end_since forgotten setting recovers (came (m ∷ past) (t ∷ ts)) (came (m ∷ other) (u ∷ us)) m.at p.0.end.now q.0.end.now valid both.1.since p.0.end.now_is q.0.end.now_is in
     let end : a.end ≡ b.end = end_step setting recovers m past other t u ts us a.end b.end (ap (λ x. live_by m.what x) live) p.0.end q.0.end was ends in
     let answer = filed_answer setting recovers m past other t u ts us a b both.0 (since_alike (came past ts) (came other us) had.since) count state end p.0 q.0 in
     (answer, looks_same forgotten setting recovers (came (m ∷ past) (t ∷ ts)) (came (m ∷ other) (u ∷ us)) a b looks alarms p.1.0 q.1.0 valid both.1.since answer p.1.1 q.1.1 p.1.2 q.1.2)
+
+-- And the same times to wake are named.
+wakes_on : SilenceIsForgotten → (setting : Setting) (recovers : Bool) (m : Moment) (past other : List Moment) (ts us : List Turn) (due time : Option ℕ) → Valid setting.start
+    → AreJoined past other → Told (cabled (m ∷ past)) ts → Told (cabled (m ∷ other)) us → WakesAt setting recovers (m ∷ past) ts due
+    → WakesAt setting recovers (m ∷ other) us time → due ≡ time
+wakes_on forgotten setting recovers m past other [] us due time valid all g h p q = absurd g
+wakes_on forgotten setting recovers m past other (t ∷ ts) [] due time valid all g h p q = absurd h
+wakes_on forgotten setting recovers m past other (t ∷ ts) (u ∷ us) due time valid all g h p q =
+    let both = (joined_more m past other t u ts us (all ts us g.0 h.0) g h).1 in
+    due_since forgotten setting recovers (came (m ∷ past) (t ∷ ts)) (came (m ∷ other) (u ∷ us)) (told (t ∷ ts)) (told (u ∷ us)) m.at due time valid both.since both.lines p q
 
 -- ---- before anything is told of the line
 
@@ -363,38 +386,91 @@ none_said : (live : Bool) (before last : Option State) (s : State) (said again :
 none_said true before last s said again g is h = silent_after before last s said again g is h
 none_said false before last s said again g is h = h
 
--- When the number is told at the time of the last moment, no state is said.
-said_number : HearsOnce → (setting : Setting) (recovers : Bool) (number : List ℕ) (x : Moment) (past other : List Moment) → Valid setting.start → AreReady (Some number) past (x ∷ other)
-    → SaidAlike setting recovers past (x ∷ other) → SaidAlike setting recovers past (owning x.at number ∷ x ∷ other)
-said_number hears setting recovers number x past other valid all before ts [] said answer last final g h p q = absurd h
-said_number hears setting recovers number x past other valid all before ts (u ∷ []) said answer last final g h p q = absurd h.0
-said_number hears setting recovers number x past other valid all before ts (u ∷ v ∷ us) said answer last final g h p q =
-    let a = at_number number x.at past (x ∷ other) ts u (v ∷ us) (all ts (v ∷ us) g h.0) h in
+-- The same is read of the board at both times.
+abbrev Reads : Setting → Bool → List Moment → ℕ → ℕ → Type 0
+Reads setting recovers past now later = (ts : List Turn) (a b : State) → Told (cabled past) ts → a.squares < 2 ^ 64 → b.squares < 2 ^ 64
+    → IsStateOf setting recovers (came past ts) now a → IsStateOf setting recovers (came past ts) later b → b ≡ a
+
+reads_now : HearsOnce → (setting : Setting) (recovers : Bool) (past : List Moment) (now : ℕ) → Valid setting.start → Reads setting recovers past now now
+reads_now hears setting recovers past now valid ts a b told fits within g h = state_once hears setting recovers (came past ts) now b a valid within fits h g
+
+reads_later : SilenceIsForgotten → HearsOnce → StaysUntilDue → (setting : Setting) (recovers : Bool) (own : Option (List ℕ)) (past other : List Moment) (turns : List Turn)
+    (due : Option ℕ) (now later : ℕ) → Valid setting.start → AreReady own past other → Told (cabled past) turns → IsDueOf setting recovers (came past turns) now due
+    → now ≤ later → later < 2 ^ 64 → IsBeforeState later due → Reads setting recovers other now later
+reads_later forgotten hears stays setting recovers own past other turns due now later valid all first d from low early ts a b told fits within g h =
+    let s = (all turns ts first told).since in
+    let H : List Came → Type 0 = λ c. IsHeard setting recovers c d.0 in
+    let K : List Came → Type 0 = λ c. IsHeard setting recovers c g.heard in
+    let r = (forgotten setting recovers s.at s.since s.first s.second valid s.same).0 now d.0 g.heard (subst H s.one_is d.1) (subst K s.other_is g.is_heard) in
+    let E : Option ℕ → Type 0 = λ x. IsBeforeState later x in
+    let alike = stays now later g.heard from low (subst E (d.2 ∙ r.due) early) in
+    let same : h.heard ≡ g.heard = hears setting recovers (came other ts) h.heard g.heard valid h.is_heard g.is_heard in
+    let marks : Marks b.squares (names_at now g.heard) = λ n few. h.squares n few ∙ ap (λ x. names_at later x n) same ∙ alike.squares n few in
+    state_same b a (h.kind ∙ ap (λ x. kind_at later x) same ∙ alike.kind ∙ sym g.kind) (h.since ∙ ap (λ x. since_at later x) same ∙ alike.since ∙ sym g.since)
+    (squares_once b.squares a.squares (names_at now g.heard) within fits marks g.squares) (h.hint ∙ ap (λ x. hint_at later x) same ∙ alike.hint ∙ sym g.hint)
+
+-- When the number may be told, the same is read of the board as at the last moment.
+may_read : SilenceIsForgotten → HearsOnce → StaysUntilDue → (setting : Setting) (recovers : Bool) (own : Option (List ℕ)) (past other : List Moment) (now at : ℕ) → Valid setting.start
+    → AreReady own past other → last_at past ≡ now → MayBeTold setting recovers past at → Reads setting recovers other now at
+may_read forgotten hears stays setting recovers own past other now at valid all last (inl same) =
+    subst (λ x. Reads setting recovers other now x) (sym (same ∙ last)) (reads_now hears setting recovers other now valid)
+may_read forgotten hears stays setting recovers own past other now at valid all last (inr m) =
+    let B : Option ℕ → Type 0 = λ d. IsBefore at d in
+    let known = (sooner_both at (earlier m.5.cable m.5.state) m.5.end (subst B m.5.due_is m.6)).0 in
+    let R : ℕ → Type 0 = λ x. Reads setting recovers other x at in
+    subst R last (reads_later forgotten hears stays setting recovers own past other m.2 m.5.state (last_at past) at valid all m.4 m.5.state_is m.0 m.1
+    (sooner_both at m.5.cable m.5.state known).1)
+
+-- And the game stands with its end as it did then.
+may_end : EndStaysUntilDue → (setting : Setting) (recovers : Bool) (past : List Moment) (at : ℕ) → Valid setting.start → MayBeTold setting recovers past at → EndsOn setting recovers past at
+may_end stays setting recovers past at valid (inl same) ts end told is =
+    let E : ℕ → Type 0 = λ x. IsEndOf setting recovers (came past ts) x end in
+    subst E (sym same) is
+may_end stays setting recovers past at valid (inr m) ts end told is =
+    let B : Option ℕ → Type 0 = λ d. IsBefore at d in
+    let D : List Turn → Type 0 = λ x. IsEndDueOf setting recovers (came past x) (last_at past) m.5.end in
+    stays setting recovers (came past ts) (last_at past) at m.5.end end valid m.0 m.1 (sooner_both at (earlier m.5.cable m.5.state) m.5.end (subst B m.5.due_is m.6)).1
+    (subst D (turns_once (cabled past) m.2 ts m.4 told) m.5.end_is) is
+
+-- So no state is said when the number is told.
+said_number : (setting : Setting) (recovers : Bool) (number : List ℕ) (at : ℕ) (x : Moment) (past other : List Moment) → AreReady (Some number) past (x ∷ other)
+    → Reads setting recovers (x ∷ other) x.at at → SaidAlike setting recovers past (x ∷ other) → SaidAlike setting recovers past (owning at number ∷ x ∷ other)
+said_number setting recovers number at x past other all reads before ts [] said answer last final g h p q = absurd h
+said_number setting recovers number at x past other all reads before ts (u ∷ []) said answer last final g h p q = absurd h.0
+said_number setting recovers number at x past other all reads before ts (u ∷ v ∷ us) said answer last final g h p q =
+    let a = at_number number at past (x ∷ other) ts u (v ∷ us) (all ts (v ∷ us) g h.0) h in
     let r = q.3 in
-    let state : q.0 ≡ r.0 = state_once hears setting recovers (came (x ∷ other) (v ∷ us)) x.at q.0 r.0 valid q.5 r.5
-    (subst (λ c. IsStateOf setting recovers c x.at q.0) a.same q.4) r.4 in
+    let state : q.0 ≡ r.0 = reads (v ∷ us) r.0 q.0 h.0 r.5 q.5 r.4 (subst (λ c. IsStateOf setting recovers c at q.0) a.same q.4) in
     let S : State → Type 0 = λ s. Says (is_live (x ∷ other)) q.2 s answer in
     let none : answer ≡ None = none_said (is_live (x ∷ other)) (said_before x.what r.2) q.2 r.0 q.1 answer r.6 r.7 (subst S state q.6) in
     before ts (v ∷ us) said q.1 last q.2 g h.0 p q.3 ∙ sym (q.7 ∙ ap (λ a. last_said a q.2) none)
 
 -- ---- and then
 
-follows : SilenceIsForgotten → HearsOnce → (setting : Setting) (recovers : Bool) (own : Option (List ℕ)) (x last : Moment) (call past other : List Moment) (turns others : List Turn)
-    (answer second : Answer) (looks alarms : List Look) → Valid setting.start → AreReady own past (x ∷ other) → SaidAlike setting recovers past (x ∷ other)
-    → is_live past ≡ is_live (x ∷ other) → last_at past ≡ x.at → Told (cabled (last ∷ (call ++ past))) turns → Told (cabled (last ∷ (call ++ with_number x.at own (x ∷ other)))) others
-    → IsAnswered setting recovers (last ∷ (call ++ past)) turns answer looks
-    → IsAnswered setting recovers (last ∷ (call ++ with_number x.at own (x ∷ other))) others second alarms → (answer ≡ second) × (looks ≡ alarms)
-follows forgotten hears setting recovers None x last call past other turns others answer second looks alarms valid all said live at g h p q =
+follows : SilenceIsForgotten → (setting : Setting) (recovers : Bool) (own : Option (List ℕ)) (at : ℕ) (x last : Moment) (call past other : List Moment) (turns others : List Turn)
+    → Valid setting.start → AreReady own past (x ∷ other) → SaidAlike setting recovers past (x ∷ other) → is_live past ≡ is_live (x ∷ other) → last_at past ≡ x.at
+    → Reads setting recovers (x ∷ other) x.at at → EndsOn setting recovers past at
+    → Told (cabled (last ∷ (call ++ past))) turns → Told (cabled (last ∷ (call ++ with_number at own (x ∷ other)))) others
+    → SayTheSame setting recovers (last ∷ (call ++ past)) turns (last ∷ (call ++ with_number at own (x ∷ other))) others
+follows forgotten setting recovers None at x last call past other turns others valid all said live same reads on g h =
     let joined = no_number past (x ∷ other) all in
-    says_on forgotten setting recovers last (call ++ past) (call ++ x ∷ other) turns others answer second looks alarms valid (joined_call call past (x ∷ other) joined)
-    (said_call forgotten setting recovers call past (x ∷ other) valid joined said live) (live_call call past (x ∷ other) live)
-    (last_call call past (x ∷ other) at) g h p q
-follows forgotten hears setting recovers (Some number) x last call past other turns others answer second looks alarms valid all said live at g h p q =
-    let told_number = owning x.at number ∷ x ∷ other in
-    let joined = joined_number number x.at past (x ∷ other) all in
-    says_on forgotten setting recovers last (call ++ past) (call ++ told_number) turns others answer second looks alarms valid (joined_call call past told_number joined)
-    (said_call forgotten setting recovers call past told_number valid joined (said_number hears setting recovers number x past other valid all said) live)
-    (live_call call past told_number live) (last_call call past told_number at) g h p q
+    let E : ℕ → Type 0 = λ t. EndsOn setting recovers past t in
+    let here : E x.at = subst E same (λ ts end told is. is) in (
+      λ answer second looks alarms p q.
+          says_on forgotten setting recovers last (call ++ past) (call ++ x ∷ other) turns others answer second looks alarms valid (joined_call call past (x ∷ other) joined)
+          (said_call forgotten setting recovers call past (x ∷ other) valid joined said live) (live_call call past (x ∷ other) live)
+          (ends_call setting recovers call past (x ∷ other) here) g h p q,
+      λ due time p q. wakes_on forgotten setting recovers last (call ++ past) (call ++ x ∷ other) turns others due time valid (joined_call call past (x ∷ other) joined) g h p q,
+    )
+follows forgotten setting recovers (Some number) at x last call past other turns others valid all said live same reads on g h =
+    let told_number = owning at number ∷ x ∷ other in
+    let joined = joined_number number at past (x ∷ other) all in (
+      λ answer second looks alarms p q.
+          says_on forgotten setting recovers last (call ++ past) (call ++ told_number) turns others answer second looks alarms valid (joined_call call past told_number joined)
+          (said_call forgotten setting recovers call past told_number valid joined (said_number setting recovers number at x past other all reads said) live)
+          (live_call call past told_number live) (ends_call setting recovers call past told_number on) g h p q,
+      λ due time p q. wakes_on forgotten setting recovers last (call ++ past) (call ++ told_number) turns others due time valid (joined_call call past told_number joined) g h p q,
+    )
 
 begin_ready : (past : List Moment) (m : Moment) (before : List Turn) → m.what ≡ Cable Begins → Told (cabled past) before
     → AreReady (own_number (told before)) (m ∷ past) (m ∷ as_filed past before)
@@ -418,19 +494,23 @@ begin_said forgotten setting recovers own m past other valid is all (t ∷ ts) (
     (all (t ∷ ts) (u ∷ us) g h).since p.4 q.4 in
     (said_step m.what (is_live (m ∷ past)) (is_live (m ∷ other)) p.0 q.0 p.2 q.2 said answer last final (live_alike [] past other m is) states (first_said m p.2 q.2 is) p.6 q.6 p.7 q.7).1
 
-pub number_may_follow : SilenceIsForgotten → HearsOnce → NumberMayFollow
-number_may_follow forgotten hears setting recovers last call [] past m before turns others answer other looks alarms valid is off first g h p q =
+pub number_may_follow : SilenceIsForgotten → HearsOnce → StaysUntilDue → EndStaysUntilDue → NumberMayFollow
+number_may_follow forgotten hears reads stays setting recovers last call [] past m at before turns others valid is off first may g h =
     let own = own_number (told before) in
     let filed = as_filed past before in
     let ready = begin_ready past m before is first in
-    follows forgotten hears setting recovers own m last call (m ∷ past) filed turns others answer other looks alarms valid ready
-    (begin_said forgotten setting recovers own m past filed valid is ready) (live_alike [] past filed m is) refl g h p q
-number_may_follow forgotten hears setting recovers last call (one ∷ more) past m before turns others answer other looks alarms valid is off first g h p q =
+    follows forgotten setting recovers own at m last call (m ∷ past) filed turns others valid ready
+    (begin_said forgotten setting recovers own m past filed valid is ready) (live_alike [] past filed m is) refl
+    (may_read forgotten hears reads setting recovers own (m ∷ past) (m ∷ filed) m.at at valid ready refl may) (may_end stays setting recovers (m ∷ past) at valid may) g h
+number_may_follow forgotten hears reads stays setting recovers last call (one ∷ more) past m at before turns others valid is off first may g h =
     let own = own_number (told before) in
     let filed = as_filed past before in
     let ready = begin_ready past m before is first in
     let live = live_alike [] past filed m is in
-    follows forgotten hears setting recovers own one last call (one ∷ more ++ m ∷ past) (more ++ m ∷ filed) turns others answer other looks alarms valid
-    (ready_call own (one ∷ more) (m ∷ past) (m ∷ filed) off ready)
+    let lived : List Moment = one ∷ more ++ m ∷ past in
+    let begun : List Moment = one ∷ more ++ m ∷ filed in
+    let all = ready_call own (one ∷ more) (m ∷ past) (m ∷ filed) off ready in
+    follows forgotten setting recovers own at one last call lived (more ++ m ∷ filed) turns others valid all
     (said_ready forgotten setting recovers own (one ∷ more) (m ∷ past) (m ∷ filed) valid off ready (begin_said forgotten setting recovers own m past filed valid is ready) live)
-    (live_call (one ∷ more) (m ∷ past) (m ∷ filed) live) refl g h p q
+    (live_call (one ∷ more) (m ∷ past) (m ∷ filed) live) refl
+    (may_read forgotten hears reads setting recovers own lived begun one.at at valid all refl may) (may_end stays setting recovers lived at valid may) g h

@@ -19,7 +19,7 @@ use Rattle.board_alarms.specs.Hearing.{AreOpen}
 use Rattle.board_game.specs.declared.note.Note.TheVariants.{Line as LineNews}
 use Rattle.board_game.specs.Alarming.{AlarmsAre, alarm_items, of_line, with_news as with_alarm_news}
 use Rattle.board_game.specs.History.{Came, Item, News}
-use Rattle.board_game.specs.Laws.{EndsOnce, HearsOnce, OpensOnce}
+use Rattle.board_game.specs.Laws.{EndDueOnce, EndsOnce, HearsOnce, OpensOnce}
 use Rattle.board_standing.specs.declared.heard.Heard.{Heard}
 use Rattle.board_standing.specs.declared.heard.Heard.TheVariants.{Answers as AnswersAgain, Begins as RecorderBegins, Stops}
 use Rattle.board_standing.specs.declared.state.State.{State}
@@ -27,13 +27,16 @@ use Rattle.board_live.specs.declared.happened.What.{What}
 use Rattle.board_live.specs.declared.happened.What.TheVariants.{Cable}
 use Rattle.board_live.specs.declared.live.Answer.{Answer}
 use Rattle.board_live.specs.Coming.{HasRoom, came, came_with, lined, silence, with_news}
+use Rattle.board_live.specs.Due.{IsDue}
+use Rattle.board_live.specs.Ending.{last_at}
 use Rattle.board_live.specs.Laws.{AnsweredAlike, as_kept, with_number}
 use Rattle.board_live.specs.Live.{Answers, unsaid}
 use Rattle.board_live.specs.Moments.{Moment, already, begins, cabled, is_added, news_of}
-use Rattle.board_live.specs.Restarts.{IsAnswered, RestartsSayTheSame, SaysOpenAlarms}
+use Rattle.board_live.specs.Restarts.{IsAnswered, RestartsSayTheSame, SaysOpenAlarms, WakesAt}
 use Rattle.board_live.specs.Saying.{is_live, live_by}
 use Rattle.board_live.proofs.Alike.{begun, keeps_begun, kept_begun, none_told, restarts}
-use Rattle.board_live.proofs.Ends.{ends_alike}
+use Rattle.board_live.proofs.Dues.{due_same}
+use Rattle.board_live.proofs.Ends.{ends_alike, last_same}
 use Rattle.board_live.proofs.Fed.{is_kept}
 use Rattle.board_live.proofs.Saids.{live_alike, says_alike}
 
@@ -101,26 +104,57 @@ came_before : (past : List Moment) (m : Moment) (before ts us : List Turn) → T
 came_before past m before ts us first g h =
     ap (λ x. came past x) (turns_once (cabled past) ts before g first) ∙ sym (is_kept m.at past before us first h).1
 
-pub says_the_same : HearsOnce → OpensOnce → EndsOnce → RestartsSayTheSame
-says_the_same hears opens ends setting recovers call past m before [] others a b looks alarms valid is first g h p q = absurd (none_told m call past g)
-says_the_same hears opens ends setting recovers call past m before (t ∷ ts) [] a b looks alarms valid is first g h p q =
+-- The same answers are given, with the same alarms.
+abbrev AnswerAlike : Type 0
+AnswerAlike = (setting : Setting) (recovers : Bool) (call past : List Moment) (begins : Moment) (before turns others : List Turn)
+    (answer other : Answer) (looks alarms : List Look) → Valid setting.start → begins.what ≡ Cable Begins → Told (cabled past) before
+    → let kept : List Moment = with_number begins.at (own_number (told before)) (as_kept past before) in
+    Told (cabled (call ++ begins ∷ past)) turns → Told (cabled (call ++ begins ∷ kept)) others
+    → IsAnswered setting recovers (call ++ begins ∷ past) turns answer looks → IsAnswered setting recovers (call ++ begins ∷ kept) others other alarms
+    → (answer ≡ other) × (looks ≡ alarms)
+
+answers_the_same : HearsOnce → OpensOnce → EndsOnce → AnswerAlike
+answers_the_same hears opens ends setting recovers call past m before [] others a b looks alarms valid is first g h p q = absurd (none_told m call past g)
+answers_the_same hears opens ends setting recovers call past m before (t ∷ ts) [] a b looks alarms valid is first g h p q =
     absurd (none_told m call (with_number m.at (own_number (told before)) (as_kept past before)) h)
-says_the_same hears opens ends setting recovers [] past m before (t ∷ ts) (u ∷ us) a b looks alarms valid is first g h p q =
+answers_the_same hears opens ends setting recovers [] past m before (t ∷ ts) (u ∷ us) a b looks alarms valid is first g h p q =
     let kept = with_number m.at (own_number (told before)) (as_kept past before) in
     let state = says_alike hears setting recovers [] past m before (t ∷ ts) (u ∷ us) a.state b.state p.0.last q.0.last valid is first g h p.0.said q.0.said in
     same_said opens setting recovers m past kept t u ts us a b looks alarms valid (restarts [] past m before t u ts us is first g h)
     (came_before past m before ts us first g.0 h.0) (live_alike [] past kept m is) state
     (ends_alike ends setting recovers [] past m before (t ∷ ts) (u ∷ us) a.end b.end valid is first g h p.0.end q.0.end) p q
-says_the_same hears opens ends setting recovers (one ∷ call) past m before (t ∷ []) (u ∷ us) a b looks alarms valid is first g h p q = absurd (none_told m call past g.0)
-says_the_same hears opens ends setting recovers (one ∷ call) past m before (t ∷ v ∷ ts) (u ∷ []) a b looks alarms valid is first g h p q =
+answers_the_same hears opens ends setting recovers (one ∷ call) past m before (t ∷ []) (u ∷ us) a b looks alarms valid is first g h p q = absurd (none_told m call past g.0)
+answers_the_same hears opens ends setting recovers (one ∷ call) past m before (t ∷ v ∷ ts) (u ∷ []) a b looks alarms valid is first g h p q =
     absurd (none_told m call (with_number m.at (own_number (told before)) (as_kept past before)) h.0)
-says_the_same hears opens ends setting recovers (one ∷ call) past m before (t ∷ v ∷ ts) (u ∷ w ∷ us) a b looks alarms valid is first g h p q =
+answers_the_same hears opens ends setting recovers (one ∷ call) past m before (t ∷ v ∷ ts) (u ∷ w ∷ us) a b looks alarms valid is first g h p q =
     let kept = with_number m.at (own_number (told before)) (as_kept past before) in
     let state = says_alike hears setting recovers (one ∷ call) past m before (t ∷ v ∷ ts) (u ∷ w ∷ us) a.state b.state p.0.last q.0.last valid is first g h p.0.said q.0.said in
     same_said opens setting recovers one (call ++ m ∷ past) (call ++ m ∷ kept) t u (v ∷ ts) (w ∷ us) a b looks alarms valid
     (restarts (one ∷ call) past m before t u (v ∷ ts) (w ∷ us) is first g h) (restarts call past m before v w ts us is first g.0 h.0).came
     (live_alike (one ∷ call) past kept m is) state
     (ends_alike ends setting recovers (one ∷ call) past m before (t ∷ v ∷ ts) (u ∷ w ∷ us) a.end b.end valid is first g h p.0.end q.0.end) p q
+
+-- The same times to wake are named.
+wakes_alike : HearsOnce → EndDueOnce → (setting : Setting) (recovers : Bool) (call past : List Moment) (m : Moment) (before turns others : List Turn) (due time : Option ℕ)
+    → Valid setting.start → m.what ≡ Cable Begins → Told (cabled past) before → Told (cabled (call ++ m ∷ past)) turns
+    → Told (cabled (call ++ m ∷ with_number m.at (own_number (told before)) (as_kept past before))) others
+    → WakesAt setting recovers (call ++ m ∷ past) turns due
+    → WakesAt setting recovers (call ++ m ∷ with_number m.at (own_number (told before)) (as_kept past before)) others time → due ≡ time
+wakes_alike hears ends setting recovers call past m before [] others due time valid is first g h p q = absurd (none_told m call past g)
+wakes_alike hears ends setting recovers call past m before (t ∷ ts) [] due time valid is first g h p q =
+    absurd (none_told m call (with_number m.at (own_number (told before)) (as_kept past before)) h)
+wakes_alike hears ends setting recovers call past m before (t ∷ ts) (u ∷ us) due time valid is first g h p q =
+    let kept = with_number m.at (own_number (told before)) (as_kept past before) in
+    let alike = restarts call past m before t u ts us is first g h in
+    let D : ℕ → Type 0 = λ at. IsDue setting recovers (came (call ++ m ∷ past) (t ∷ ts)) (told (t ∷ ts)) at due in
+    due_same hears ends setting recovers (came (call ++ m ∷ past) (t ∷ ts)) (came (call ++ m ∷ kept) (u ∷ us)) (told (t ∷ ts)) (told (u ∷ us)) (last_at (call ++ m ∷ kept)) due time valid
+    alike.came alike.asked alike.handled (subst D (last_same call past kept m) p) q
+
+pub says_the_same : HearsOnce → OpensOnce → EndsOnce → EndDueOnce → RestartsSayTheSame
+says_the_same hears opens ends dues setting recovers call past m before turns others valid is first g h = (
+  λ answer other looks alarms p q. answers_the_same hears opens ends setting recovers call past m before turns others answer other looks alarms valid is first g h p q,
+  λ due time p q. wakes_alike hears dues setting recovers call past m before turns others due time valid is first g h p q,
+)
 
 -- ---- the first answer
 

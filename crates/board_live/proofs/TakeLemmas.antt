@@ -133,6 +133,10 @@ sooner_changes setting recovers past told now a b e h k l =
     sooner_some P (earlier a b) e (sooner_some P a b (asks_some setting recovers past told now a h) (due_some setting recovers past told now b k))
     (end_some setting recovers past told now e l)
 
+pub lies_ahead : (now : ℕ) (due : Option ℕ) → IfSome due (λ d. now < d) → IfSome due (λ d. d < 2 ^ 64) → IfSome due (λ d. (now < d) × (d < 2 ^ 64))
+lies_ahead now None later fits = tt
+lies_ahead now (Some d) later fits = (later, fits)
+
 pub none_kept : (turns : List Turn) → Told [] turns → kept turns ≡ []
 none_kept [] h = refl
 none_kept (turn ∷ turns) h = absurd h

@@ -2,7 +2,8 @@
 use Rattle.std.specs.Prelude.{◌≡◌, ℕ, Bool, true, false, List, [], ◌∷◌, ◌++◌, Option, Some, None}
 use Rattle.chess_rules.specs.Valid.{Valid}
 use Rattle.board_asking.specs.Silence.{is_silent}
-use Rattle.board_asking.specs.Whose.{own_number}
+use Rattle.board_asking.specs.Pace.{asks}
+use Rattle.board_asking.specs.Whose.{handling_at, own_number}
 use Rattle.board_cable.specs.declared.happened.What.TheVariants.{Begins, Owns}
 use Rattle.board_cable.specs.Keeping.{kept}
 use Rattle.board_cable.specs.Turns.{Told, Turn, handling_of, request_of, told}
@@ -14,6 +15,7 @@ use Rattle.board_live.specs.declared.happened.What.{What}
 use Rattle.board_live.specs.declared.happened.What.TheVariants.{Cable, Keeps, KeepsAdded, Tells, Notes}
 use Rattle.board_endings.specs.declared.news.End.{End}
 use Rattle.board_live.specs.Coming.{came, lined, silence}
+use Rattle.board_live.specs.Due.{IsDue}
 use Rattle.board_live.specs.Ending.{IsEndSaid}
 use Rattle.board_live.specs.Moments.{Moment, already, cabled, is_added, news_of}
 use Rattle.board_live.specs.Numbers.{number_news}
@@ -28,6 +30,11 @@ LaterChangesNothing = (later past : List Moment) (turns others : List Turn) → 
 abbrev pub IsSaidOnce : Type 0
 IsSaidOnce = (setting : Setting) (recovers : Bool) (past : List Moment) (turns : List Turn) (said other last final : Option State) → Valid setting.start
     → IsSaid setting recovers past turns said last → IsSaid setting recovers past turns other final → (said ≡ other) × (last ≡ final)
+
+-- And it names one time at which the recorder is woken.
+abbrev pub WakesOnce : Type 0
+WakesOnce = (setting : Setting) (recovers : Bool) (past : List Moment) (turns : List Turn) (now : ℕ) (due other : Option ℕ) → Valid setting.start
+    → IsDue setting recovers (came past turns) (told turns) now due → IsDue setting recovers (came past turns) (told turns) now other → due ≡ other
 
 -- What is kept of a call: bytes as the capture got them, if there are any, and whether they were added by hand; and what isn't in
 -- the bytes.
@@ -65,7 +72,8 @@ abbrev pub with_number : ℕ → Option (List ℕ) → List Moment → List Mome
 with_number at None before = before
 with_number at (Some number) before = record { at = at; what = Cable (Owns number); bytes = [] } ∷ before
 
--- The same is answered at the last moment, and the same has come to the game.
+-- The same is answered at the last moment, and the same has come to the game; while nothing more happens, the board is asked at the same
+-- times, and the same is done with what it sends.
 pub record AnsweredAlike (past : List Moment) (turn : Turn) (turns : List Turn) (other : List Moment) (second : Turn) (others : List Turn) : Type 0 where
   pub request : request_of turn ≡ request_of second
   pub handling : handling_of turn ≡ handling_of second
@@ -74,6 +82,8 @@ pub record AnsweredAlike (past : List Moment) (turn : Turn) (turns : List Turn) 
   pub kept : kept (turn ∷ turns) ≡ kept (second ∷ others)
   pub silent : is_silent (told (turn ∷ turns)) ≡ is_silent (told (second ∷ others))
   pub came : came past (turn ∷ turns) ≡ came other (second ∷ others)
+  pub asked : (later : ℕ) → asks later (told (turn ∷ turns)) ≡ asks later (told (second ∷ others))
+  pub handled : (later : ℕ) → handling_at later (told (turn ∷ turns)) ≡ handling_at later (told (second ∷ others))
 
 -- A call that begins after what was lived through, and one that begins after what was kept of it, answer alike from then on.
 abbrev pub RestartsAlike : Type 0

@@ -1,6 +1,7 @@
 -- What a recorder says that begins again. Lists have the latest first, but the bytes.
-use Rattle.std.specs.Prelude.{◌≡◌, ◌⊎◌, ℕ, Bool, false, List, [], ◌∷◌, ◌++◌, drop, ⊤}
+use Rattle.std.specs.Prelude.{◌≡◌, ◌⊎◌, ◌<◌, ◌≤◌, ◌^◌, ℕ, Bool, false, List, [], ◌∷◌, ◌++◌, Option, drop, ⊤}
 use Rattle.chess_rules.specs.Valid.{Valid}
+use Rattle.board_asking.specs.Lasting.{IsBefore}
 use Rattle.board_asking.specs.Whose.{own_number}
 use Rattle.board_cable.specs.declared.happened.What.TheVariants.{Begins, Interrupts, Wakes}
 use Rattle.board_cable.specs.Keeping.{kept}
@@ -11,6 +12,7 @@ use Rattle.board_looks.specs.declared.look.Look.{Look}
 use Rattle.board_live.specs.declared.happened.What.TheVariants.{Cable}
 use Rattle.board_live.specs.declared.live.Answer.{Answer}
 use Rattle.board_live.specs.Coming.{came}
+use Rattle.board_live.specs.Due.{IsDue}
 use Rattle.board_live.specs.Ending.{last_at}
 use Rattle.board_live.specs.Laws.{as_kept, with_kept, with_number, with_told}
 use Rattle.board_live.specs.Live.{Answers}
@@ -22,15 +24,24 @@ IsAnswered setting recovers (moment ∷ past) (turn ∷ turns) answer looks = An
     × ((all : List Look) × AlarmsAre setting recovers (came (moment ∷ past) (turn ∷ turns)) all × (looks ≡ drop answer.unsaid all))
 IsAnswered setting recovers moments turns answer looks = ⊥
 
--- From when it begins, a recorder that was told what was kept says what one says that has lived through it: the same answers, with the
--- same alarms.
+-- This time is named at the last of these moments: then the recorder is to be woken, if nothing happens before.
+abbrev pub WakesAt : Setting → Bool → List Moment → List Turn → Option ℕ → Type 0
+WakesAt setting recovers past turns due = IsDue setting recovers (came past turns) (told turns) (last_at past) due
+
+-- The same is said at the last moment of both: the same answer, with the same alarms, and the same time is named.
+abbrev pub SayTheSame : Setting → Bool → List Moment → List Turn → List Moment → List Turn → Type 0
+SayTheSame setting recovers past turns second others =
+    ((answer other : Answer) (looks alarms : List Look) → IsAnswered setting recovers past turns answer looks → IsAnswered setting recovers second others other alarms
+    → (answer ≡ other) × (looks ≡ alarms))
+    × ((due time : Option ℕ) → WakesAt setting recovers past turns due → WakesAt setting recovers second others time → due ≡ time)
+
+-- From when it begins, a recorder that was told what was kept says what one says that has lived through it.
 abbrev pub RestartsSayTheSame : Type 0
 RestartsSayTheSame = (setting : Setting) (recovers : Bool) (call past : List Moment) (begins : Moment) (before turns others : List Turn)
-    (answer other : Answer) (looks alarms : List Look) → Valid setting.start → begins.what ≡ Cable Begins → Told (cabled past) before
+    → Valid setting.start → begins.what ≡ Cable Begins → Told (cabled past) before
     → let kept : List Moment = with_number begins.at (own_number (told before)) (as_kept past before) in
     Told (cabled (call ++ begins ∷ past)) turns → Told (cabled (call ++ begins ∷ kept)) others
-    → IsAnswered setting recovers (call ++ begins ∷ past) turns answer looks → IsAnswered setting recovers (call ++ begins ∷ kept) others other alarms
-    → (answer ≡ other) × (looks ≡ alarms)
+    → SayTheSame setting recovers (call ++ begins ∷ past) turns (call ++ begins ∷ kept) others
 
 -- When it begins, it says all alarms that were open before: those that were raised, and that nobody has answered.
 abbrev pub SaysOpenAlarms : Type 0
@@ -48,11 +59,10 @@ as_filed (moment ∷ past) (turn ∷ turns) = with_kept moment.at false (kept (t
 -- A recorder that is told what the files have, and the number, says the same too.
 abbrev pub FilesSayTheSame : Type 0
 FilesSayTheSame = (setting : Setting) (recovers : Bool) (call past : List Moment) (begins : Moment) (before turns others : List Turn)
-    (answer other : Answer) (looks alarms : List Look) → Valid setting.start → begins.what ≡ Cable Begins → Told (cabled past) before
+    → Valid setting.start → begins.what ≡ Cable Begins → Told (cabled past) before
     → let filed : List Moment = with_number begins.at (own_number (told before)) (as_filed past before) in
     Told (cabled (call ++ begins ∷ past)) turns → Told (cabled (call ++ begins ∷ filed)) others
-    → IsAnswered setting recovers (call ++ begins ∷ past) turns answer looks → IsAnswered setting recovers (call ++ begins ∷ filed) others other alarms
-    → (answer ≡ other) × (looks ≡ alarms)
+    → SayTheSame setting recovers (call ++ begins ∷ past) turns (call ++ begins ∷ filed) others
 
 -- Nothing is told of the line; at most, bytes were added by hand, which may have cut a frame.
 abbrev pub IsOffLine : Moment → Type 0
@@ -62,14 +72,18 @@ abbrev pub AreOffLine : List Moment → Type 0
 AreOffLine [] = ⊤
 AreOffLine (moment ∷ past) = AreOffLine past × IsOffLine moment
 
--- The number may also be told once the call has begun, before anything is told of the line, and at the time of what happened last: from
--- then on the same is said.
+-- The number may be told at this time: when something happened last, or later, if one that has lived through it all isn't to be woken by
+-- then.
+abbrev pub MayBeTold : Setting → Bool → List Moment → ℕ → Type 0
+MayBeTold setting recovers lived at = (at ≡ last_at lived) ⊎ ((last_at lived ≤ at) × (at < 2 ^ 64) × (turns : List Turn) × (due : Option ℕ)
+    × Told (cabled lived) turns × WakesAt setting recovers lived turns due × IsBefore at due)
+
+-- It may also be told once the call has begun, before anything is told of the line: from then on the same is said.
 abbrev pub NumberMayFollow : Type 0
-NumberMayFollow = (setting : Setting) (recovers : Bool) (last : Moment) (call first past : List Moment) (begins : Moment) (before turns others : List Turn)
-    (answer other : Answer) (looks alarms : List Look) → Valid setting.start → begins.what ≡ Cable Begins → AreOffLine first → Told (cabled past) before
+NumberMayFollow = (setting : Setting) (recovers : Bool) (last : Moment) (call first past : List Moment) (begins : Moment) (at : ℕ) (before turns others : List Turn)
+    → Valid setting.start → begins.what ≡ Cable Begins → AreOffLine first → Told (cabled past) before
     → let lived : List Moment = first ++ begins ∷ past in
     let begun : List Moment = first ++ begins ∷ as_filed past before in
-    let filed : List Moment = with_number (last_at begun) (own_number (told before)) begun in
-    Told (cabled (last ∷ (call ++ lived))) turns → Told (cabled (last ∷ (call ++ filed))) others
-    → IsAnswered setting recovers (last ∷ (call ++ lived)) turns answer looks → IsAnswered setting recovers (last ∷ (call ++ filed)) others other alarms
-    → (answer ≡ other) × (looks ≡ alarms)
+    let filed : List Moment = with_number at (own_number (told before)) begun in
+    MayBeTold setting recovers lived at → Told (cabled (last ∷ (call ++ lived))) turns → Told (cabled (last ∷ (call ++ filed))) others
+    → SayTheSame setting recovers (last ∷ (call ++ lived)) turns (last ∷ (call ++ filed)) others

@@ -1,8 +1,11 @@
 //! What holds of each history. Each law is the contract of a function, which does nothing.
-ghost use Rattle.board_live.specs.Laws.{EndsAlike, IsSaidOnce, LaterChangesNothing, RestartsAlike, SaysAlike};
+ghost use Rattle.board_live.specs.Laws.{EndsAlike, IsSaidOnce, LaterChangesNothing, RestartsAlike, SaysAlike, WakesOnce};
 ghost use Rattle.board_live.specs.Restarts.{FilesSayTheSame, NumberMayFollow, RestartsSayTheSame, SaysOpenAlarms};
 
-use board_game::laws::{ends_once, hears_once, opens_once, silence_is_forgotten};
+use board_game::laws::{
+    end_due_once, end_stays_until_due, ends_once, hears_once, opens_once, silence_is_forgotten,
+};
+use board_standing::laws::stays_until_due;
 
 /// Whatever happens later, what was answered stays.
 pub fn later_changes_nothing()
@@ -15,6 +18,16 @@ pub fn is_said_once()
 {
     // For its clause: what came is heard in one way.
     hears_once();
+}
+
+/// And it names one time at which the recorder is woken.
+pub fn wakes_once()
+    ensures { WakesOnce }
+{
+    // For its clause: what came is heard in one way.
+    hears_once();
+    // For its clause: what came says when time ends the game.
+    end_due_once();
 }
 
 /// A call that begins after what was kept of the calls before answers as one that begins after the calls themselves.
@@ -39,7 +52,7 @@ pub fn ends_alike()
 }
 
 /// From when it begins, a recorder that was told what was kept says what one says that has lived through it: the same answers, with
-/// the same alarms.
+/// the same alarms, and the same time to wake.
 pub fn restarts_say_the_same()
     ensures { RestartsSayTheSame }
 {
@@ -49,6 +62,8 @@ pub fn restarts_say_the_same()
     opens_once();
     // For its clause: what came says how the game ends.
     ends_once();
+    // For its clause: and when time ends it.
+    end_due_once();
 }
 
 /// When it begins, it says all alarms that were open before.
@@ -67,7 +82,8 @@ pub fn files_say_the_same()
     silence_is_forgotten();
 }
 
-/// The number of the game's board may also be told once the call has begun, before anything is told of the line.
+/// The number of the game's board may also be told once the call has begun, before anything is told of the line and before the recorder
+/// is to be woken.
 pub fn number_may_follow()
     ensures { NumberMayFollow }
 {
@@ -75,4 +91,8 @@ pub fn number_may_follow()
     silence_is_forgotten();
     // For its clause: what came is heard in one way.
     hears_once();
+    // For its clause: if nothing is heard, the state stays until it is due.
+    stays_until_due();
+    // For its clause: the game stands as it does until time is due to end it.
+    end_stays_until_due();
 }

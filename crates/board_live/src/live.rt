@@ -12,7 +12,7 @@ ghost use Rattle.board_game.specs.Games.{IsStateOf, StandsFor as GameStands};
 ghost use Rattle.board_game.specs.Report.{IsReport, first_line};
 ghost use Rattle.board_live.specs.Coming.{came};
 ghost use Rattle.square_runs.specs.Lasting.{earlier};
-ghost use Rattle.board_live.specs.Due.{MayChange, StaysAlike};
+ghost use Rattle.board_live.specs.Due.{IsDue, MayChange, StaysAlike};
 ghost use Rattle.board_live.specs.Ending.{EndStays};
 ghost use Rattle.board_game.specs.Alarming.{AlarmsAre};
 ghost use Rattle.board_live.specs.Live.{Answers, HasBegun, StandsFor, unsaid as unsaid_of};
@@ -87,6 +87,11 @@ fn unsaid(is_live: bool, begins: bool, before: usize, now: usize) -> usize
 /// For its clause: a mask has 64 bits.
 fn count_bits(squares: u64)
     ensures { squares < 2 ^ 64 }
+{}
+
+/// For its clause: so has a time.
+fn count_time(time: Option<u64>)
+    ensures { IfSome time (λ t. t < 2 ^ 64) }
 {}
 
 impl Live {
@@ -191,7 +196,8 @@ impl Live {
         self.game.state(now)
     }
 
-    /// When to wake, if nothing happens: none of what is said here changes before, and then some of it may. None: never.
+    /// When to wake, if nothing happens: none of what is said here changes before, and then some of it may. None: never. From a valid
+    /// start it follows from what has happened (`wakes_once`).
     pub fn due(&self, now: u64) -> Option<u64>
         ensures asks { (setting : Setting) (recovers : Bool) (past : List Moment) (text : List ℕ) (turns : List Turn)
             → StandsFor self.now setting recovers past text → Told (cabled past) turns → AsksAlike now (told turns) result }
@@ -204,12 +210,16 @@ impl Live {
         ensures changes { (setting : Setting) (recovers : Bool) (past : List Moment) (text : List ℕ) (turns : List Turn)
             → StandsFor self.now setting recovers past text → Told (cabled past) turns
             → IfSome result (λ due. MayChange setting recovers (came past turns) (told turns) now due) }
+        ensures wakes { (setting : Setting) (recovers : Bool) (past : List Moment) (text : List ℕ) (turns : List Turn)
+            → StandsFor self.now setting recovers past text → Told (cabled past) turns → IsDue setting recovers (came past turns) (told turns) now result }
     {
         // For its clause: if nothing is heard, the state stays until it is due.
         stays_until_due();
         // For its clause: the game stands as it does until time is due to end it.
         end_stays_until_due();
         let cable = self.attending.cable.due(now);
+        // For its clause: a time has 64 bits.
+        count_time(cable);
         let game = self.game.due(now);
         let end = self.game.ends_at(now);
         let known = sooner(cable, game);

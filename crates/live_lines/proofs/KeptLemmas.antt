@@ -1,6 +1,6 @@
 -- What a host keeps of a call is its history.
-use Rattle.std.proofs.Common.{◌≡◌, ◌≤◌, ◌+◌, ◌-◌, max, ℕ, Bool, true, false, List, [], ◌∷◌, ◌++◌, length, drop, take, None, refl, sym, ap, subst, arith, ◌∙◌, append-nil}
-use Rattle.std.specs.Prelude.{if◌then◌else◌}
+use Rattle.std.proofs.Common.{◌≡◌, inl, inr, ◌≤◌, ◌+◌, ◌-◌, ◌^◌, max, min, ℕ, Bool, true, false, List, [], ◌∷◌, ◌++◌, length, drop, take, None, refl, sym, ap, subst, arith, ◌∙◌, append-nil}
+use Rattle.std.specs.Prelude.{◌⊎◌, if◌then◌else◌}
 use Rattle.std.proofs.lemmas.List.{drop-append-le, length-drop, nil_from_length, take-append-le}
 use Rattle.std.proofs.Math.Seq.{take-append_seam, drop-append_seam}
 use Rattle.board_cable.specs.Keeping.{kept}
@@ -25,7 +25,7 @@ use Rattle.live_lines.specs.Clock.{began_by, capped, clock_after, clock_at, cloc
 use Rattle.live_lines.specs.Entries.{IsWhole, brings_capture, brings_times}
 use Rattle.live_lines.specs.Heard.{Heard}
 use Rattle.live_lines.specs.History.{coming, history_of, is_added as adds, merged, news_of}
-use Rattle.live_lines.specs.Kept.{FilesAreAsFiled, IsBeginning, IsCall, TellsFiles, bytes_after, coming_in, events_after, heard_line, line_by, line_of}
+use Rattle.live_lines.specs.Kept.{FilesAreAsFiled, IsBeginning, IsCall, IsTimed, TellsFiles, bytes_after, coming_in, events_after, heard_line, line_by, line_of}
 use Rattle.live_lines.specs.Meaning.{happening_of, meaning_of, moments, moments_by, time_of}
 use Rattle.live_lines.proofs.HistoryLemmas.{three}
 
@@ -61,38 +61,48 @@ clock_both : (clock : Clock) (a b : List Event) → clock_over clock (a ++ b) �
 clock_both clock [] b = refl
 clock_both clock (event ∷ a) b = clock_both (clock_at event clock) a b
 
--- ---- events that bring all bytes of a capture
+-- ---- events that bring the first bytes of a capture
 
-fewer : (n m l : ℕ) → n + m ≡ l → n ≤ l
+fewer : (n m l : ℕ) → n + m ≤ l → n ≤ l
 fewer n m l e = omega (arith, e)
 
-fewer_left : (n m l : ℕ) → n + m ≡ l → m ≡ l - n
-fewer_left n m l e = omega (arith, e)
+fewer_left : (n m l d : ℕ) → n + m ≤ l → d ≡ l - n → m ≤ d
+fewer_left n m l d e f = omega (arith, e, f)
 
-left_more : (size : ℕ) (rest more : List ℕ) (events : List Event) → coming_in size events ≡ length rest → left size (rest ++ more) events ≡ more
-left_more size rest more [] all = ap (λ (bs : List ℕ). bs ++ more) (nil_from_length rest (sym all))
-left_more size rest more (event ∷ events) all =
+none_taken : (n : ℕ) → n ≡ n - 0
+none_taken n = omega arith
+
+taken_both : (n m l d : ℕ) → d ≡ l - n → d - m ≡ l - (n + m)
+taken_both n m l d f = omega (arith, f)
+
+left_rest : (size : ℕ) (rest more : List ℕ) (events : List Event) → coming_in size events ≤ length rest → left size (rest ++ more) events ≡ left size rest events ++ more
+left_rest size rest more [] low = refl
+left_rest size rest more (event ∷ events) low =
     let n = coming event.what size in
     let m = coming_in (covered_after event.what size) events in
-    ap (λ bs. left (covered_after event.what size) bs events) (drop-append-le n rest more (fewer n m (length rest) all))
-    ∙ left_more (covered_after event.what size) (drop n rest) more events (fewer_left n m (length rest) all ∙ sym (length-drop n rest))
+    ap (λ bs. left (covered_after event.what size) bs events) (drop-append-le n rest more (fewer n m (length rest) low))
+    ∙ left_rest (covered_after event.what size) (drop n rest) more events (fewer_left n m (length rest) (length (drop n rest)) low (length-drop n rest))
 
-walk_more : (clock : Clock) (size : ℕ) (rest more : List ℕ) (events : List Event) (past : List Moment) → coming_in size events ≡ length rest
+left_length : (size : ℕ) (rest : List ℕ) (events : List Event) → length (left size rest events) ≡ length rest - coming_in size events
+left_length size rest [] = none_taken (length rest)
+left_length size rest (event ∷ events) =
+    let n = coming event.what size in
+    let m = coming_in (covered_after event.what size) events in
+    left_length (covered_after event.what size) (drop n rest) events ∙ taken_both n m (length rest) (length (drop n rest)) (length-drop n rest)
+
+walk_rest : (clock : Clock) (size : ℕ) (rest more : List ℕ) (events : List Event) (past : List Moment) → coming_in size events ≤ length rest
     → walk clock size (rest ++ more) events past ≡ walk clock size rest events past
-walk_more clock size rest more [] past all = refl
-walk_more clock size rest more (event ∷ events) past all =
+walk_rest clock size rest more [] past low = refl
+walk_rest clock size rest more (event ∷ events) past low =
     let n = coming event.what size in
     let m = coming_in (covered_after event.what size) events in
-    let low : n ≤ length rest = fewer n m (length rest) all in
+    let few : n ≤ length rest = fewer n m (length rest) low in
     let now = clock_at event clock in
     let then_covered = covered_after event.what size in
     let W : List ℕ → List ℕ → List Moment = λ later first. walk now then_covered later events (with_told now.last (news_of event.what) (with_kept now.last (adds event.what) first past)) in
-    ap (λ later. W later (take n (rest ++ more))) (drop-append-le n rest more low) ∙ ap (λ first. W (drop n rest ++ more) first) (take-append-le n rest more low)
-    ∙ walk_more now then_covered (drop n rest) more events (with_told now.last (news_of event.what) (with_kept now.last (adds event.what) (take n rest) past))
-    (fewer_left n m (length rest) all ∙ sym (length-drop n rest))
-
-left_none : (size : ℕ) (rest : List ℕ) (events : List Event) → coming_in size events ≡ length rest → left size rest events ≡ []
-left_none size rest events all = ap (λ bs. left size bs events) (sym (append-nil rest)) ∙ left_more size rest [] events all
+    ap (λ later. W later (take n (rest ++ more))) (drop-append-le n rest more few) ∙ ap (λ first. W (drop n rest ++ more) first) (take-append-le n rest more few)
+    ∙ walk_rest now then_covered (drop n rest) more events (with_told now.last (news_of event.what) (with_kept now.last (adds event.what) (take n rest) past))
+    (fewer_left n m (length rest) (length (drop n rest)) low (length-drop n rest))
 
 -- ---- a history is filed as it is
 
@@ -120,11 +130,12 @@ record Goes (entry : Entry) (file : Clock) (lived : Clock) : Type 0 where
   last : file.last ≤ lived.last
   order : lived.last ≤ capped (began_by entry.what lived.last lived.began + entry.at)
 
--- Its lines tell it.
-record Lines (entry : Entry) (bytes : List ℕ) (what : ToBoard) (file lived : Clock) (size : ℕ) (more : List ℕ) (past : List Moment) : Type 0 where
-  left_is : left size (already what bytes ++ more) (line_of entry.at entry.what) ≡ more
-  walk_is : walk file size (already what bytes ++ more) (line_of entry.at entry.what) past
-      ≡ with_kept (next_clock entry lived).last (is_added what) (already what bytes) (with_told (next_clock entry lived).last (news_at what) past)
+-- Its lines tell it, behind bytes before it that lack their times.
+record Lines (entry : Entry) (bytes : List ℕ) (what : ToBoard) (file lived : Clock) (size : ℕ) (lacking more : List ℕ) (past : List Moment) : Type 0 where
+  left_is : left size (lacking ++ (already what bytes ++ more)) (line_of entry.at entry.what) ≡ more
+  walk_is : walk file size (lacking ++ (already what bytes ++ more)) (line_of entry.at entry.what) past
+      ≡ with_kept (next_clock entry lived).last (is_added what) (already what bytes)
+      (with_told (next_clock entry lived).last (news_at what) (with_kept file.last false lacking past))
   began_is : (clock_over file (line_of entry.at entry.what)).began ≡ (next_clock entry lived).began
   last_is : (clock_over file (line_of entry.at entry.what)).last ≤ (next_clock entry lived).last
 
@@ -146,7 +157,7 @@ same_time entry file lived g =
 one_line : (at : ℕ) (event : Happening) (bytes : List ℕ) (file lived : Clock) (size : ℕ) (more : List ℕ) (past : List Moment)
     → Goes (record { at = at; what = Happens event }) file lived → line_by at event ≡ record { at = at; what = event } ∷ [] → coming event size ≡ 0
     → already (happening_of event) bytes ≡ [] → news_of event ≡ news_at (happening_of event)
-    → Lines (record { at = at; what = Happens event }) bytes (happening_of event) file lived size more past
+    → Lines (record { at = at; what = Happens event }) bytes (happening_of event) file lived size [] more past
 one_line at event bytes file lived size more past g is none empty news =
     let entry : Entry = record { at = at; what = Happens event } in
     let e : Event = record { at = at; what = event } in
@@ -168,7 +179,7 @@ one_line at event bytes file lived size more past g is none empty news =
 -- An entry without a line.
 no_line : (entry : Entry) (bytes : List ℕ) (what : ToBoard) (file lived : Clock) (size : ℕ) (more : List ℕ) (past : List Moment) → Goes entry file lived
     → line_of entry.at entry.what ≡ [] → began_by entry.what file.last file.began ≡ file.began → already what bytes ≡ [] → news_at what ≡ None
-    → Lines entry bytes what file lived size more past
+    → Lines entry bytes what file lived size [] more past
 no_line entry bytes what file lived size more past g is stays empty news =
     let until : ℕ = (next_clock entry lived).last in
     record {
@@ -182,7 +193,7 @@ no_line entry bytes what file lived size more past g is stays empty news =
 -- Bytes that were added by hand.
 added_line : (at n : ℕ) (bytes : List ℕ) (file lived : Clock) (size : ℕ) (more : List ℕ) (past : List Moment)
     → Goes (record { at = at; what = Happens (Adds n) }) file lived → length bytes ≡ n
-    → Lines (record { at = at; what = Happens (Adds n) }) bytes (happening_of (Adds n)) file lived size more past
+    → Lines (record { at = at; what = Happens (Adds n) }) bytes (happening_of (Adds n)) file lived size [] more past
 added_line at n bytes file lived size more past g long =
     let entry : Entry = record { at = at; what = Happens (Adds n) } in
     let time = same_time entry file lived g in
@@ -204,10 +215,8 @@ owned_silent false bytes = refl
 
 lines : (at : ℕ) (what : What) (bytes : List ℕ) (file lived : Clock) (size : ℕ) (more : List ℕ) (past : List Moment)
     → Goes (record { at = at; what = what }) file lived → IsWhole (record { at = at; what = what }) bytes → brings_capture what ≡ false
-    → ((n : ℕ) → what ≡ Happens (Begins n) → coming (Begins n) size ≡ 0)
-    → Lines (record { at = at; what = what }) bytes (meaning_of what bytes) file lived size more past
-lines at (Happens (Begins n)) bytes file lived size more past g whole none begins =
-    one_line at (Begins n) bytes file lived size more past g refl (begins n refl) refl refl
+    → (IsBeginning what → ⊥) → Lines (record { at = at; what = what }) bytes (meaning_of what bytes) file lived size [] more past
+lines at (Happens (Begins n)) bytes file lived size more past g whole none begins = absurd (begins (n, refl))
 lines at (Happens (IsAway n)) bytes file lived size more past g whole none begins = one_line at (IsAway n) bytes file lived size more past g refl refl refl refl
 lines at (Happens Opens) bytes file lived size more past g whole none begins = one_line at Opens bytes file lived size more past g refl refl refl refl
 lines at (Happens Answers) bytes file lived size more past g whole none begins = one_line at Answers bytes file lived size more past g refl refl refl refl
@@ -234,6 +243,36 @@ lines at (KeepsTimes n) bytes file lived size more past g whole none begins =
     no_line (record { at = at; what = KeepsTimes n }) bytes (meaning_of (KeepsTimes n) bytes) file lived size more past g refl refl refl refl
 lines at (KeepsBytes n) bytes file lived size more past g whole none begins = absurd (clash true refl none)
 
+-- ---- the line with which a call begins
+
+same_last : (a x c : ℕ) → x ≡ 0 → max a (min (a + x) c) ≡ a
+same_last a x c e = omega (arith, e)
+
+-- Bytes without a time came when it begins: at the last time of the calls before, if its clock starts then.
+came_last : (at : ℕ) (file : Clock) (lacking : List ℕ) (past : List Moment) → (lacking ≡ []) ⊎ (at ≡ 0)
+    → with_kept (clock_by file.last at file.last).last false lacking past ≡ with_kept file.last false lacking past
+came_last at file lacking past (inl none) =
+    ap (λ bs. with_kept (clock_by file.last at file.last).last false bs past) none ∙ sym (ap (λ bs. with_kept file.last false bs past) none)
+came_last at file lacking past (inr start) = ap (λ t. with_kept t false lacking past) (same_last file.last at (2 ^ 64 - 1) start)
+
+begin_line : (at n : ℕ) (bytes : List ℕ) (file lived : Clock) (size : ℕ) (lacking more : List ℕ) (past : List Moment)
+    → Goes (record { at = at; what = Happens (Begins n) }) file lived → length lacking ≡ n - size → (lacking ≡ []) ⊎ (at ≡ 0)
+    → Lines (record { at = at; what = Happens (Begins n) }) bytes (happening_of (Begins n)) file lived size lacking more past
+begin_line at n bytes file lived size lacking more past g long timed =
+    let entry : Entry = record { at = at; what = Happens (Begins n) } in
+    let now : ℕ = (next_clock entry file).last in
+    let until : ℕ = (next_clock entry lived).last in
+    let time : now ≡ until = same_time entry file lived g in
+    let news = news_of (Begins n) in
+    record {
+      left_is = ap (λ k. drop k (lacking ++ more)) (sym long) ∙ drop-append_seam lacking more;
+      walk_is = ap (λ k. with_told now news (with_kept now false (take k (lacking ++ more)) past)) (sym long)
+          ∙ ap (λ bs. with_told now news (with_kept now false bs past)) (take-append_seam lacking more)
+          ∙ ap (λ ms. with_told now news ms) (came_last at file lacking past timed) ∙ ap (λ t. with_told t news (with_kept file.last false lacking past)) time;
+      began_is = g.began;
+      last_is = same_le now until time;
+    }
+
 -- and then the line of the bytes that the capture gets
 record Kept (at : ℕ) (bytes : List ℕ) (file : Clock) (time began : ℕ) (size : ℕ) (more : List ℕ) (past : List Moment) : Type 0 where
   left_is : left size (bytes ++ more) (heard_line at bytes) ≡ more
@@ -259,10 +298,10 @@ kept_line at (byte ∷ bytes) file time began size more past e low is =
 
 -- ---- entry by entry
 
--- The files tell what was told.
-record Tells (past : List Heard) (turns : List Turn) (events : List Event) (capture : List ℕ) : Type 0 where
-  left_is : (more : List ℕ) → left 0 (capture ++ more) events ≡ more
-  walk_is : (more : List ℕ) → walk first_clock 0 (capture ++ more) events [] ≡ as_filed (moments past) turns
+-- The files tell what was told; these bytes lack their times.
+record Tells (lacking : List ℕ) (past : List Heard) (turns : List Turn) (events : List Event) (capture : List ℕ) : Type 0 where
+  left_is : (more : List ℕ) → left 0 (capture ++ more) events ≡ lacking ++ more
+  walk_is : (more : List ℕ) → with_kept (clock_over first_clock events).last false lacking (walk first_clock 0 (capture ++ more) events []) ≡ as_filed (moments past) turns
   began_is : (clock_over first_clock events).began ≡ (clock_after past).began
   last_is : (clock_over first_clock events).last ≤ (clock_after past).last
 
@@ -270,28 +309,28 @@ covered_both : (size : ℕ) (a b : List Event) → covered size (a ++ b) ≡ cov
 covered_both size [] b = refl
 covered_both size (event ∷ a) b = covered_both (covered_after event.what size) a b
 
-left_line : {past : List Heard} {turns : List Turn} (capture has more : List ℕ) (events line : List Event) → Tells past turns events capture
-    → left (covered 0 events) (has ++ more) line ≡ more → left 0 (capture ++ (has ++ more)) (events ++ line) ≡ more
-left_line capture has more events line s is =
+left_line : {past : List Heard} {turns : List Turn} (lacking capture has more : List ℕ) (events line : List Event) → Tells lacking past turns events capture
+    → left (covered 0 events) (lacking ++ (has ++ more)) line ≡ more → left 0 (capture ++ (has ++ more)) (events ++ line) ≡ more
+left_line lacking capture has more events line s is =
     left_both 0 (capture ++ (has ++ more)) events line ∙ ap (λ bs. left (covered 0 events) bs line) (s.left_is (has ++ more)) ∙ is
 
-walk_line : {past : List Heard} {turns : List Turn} (capture has more : List ℕ) (events line : List Event) (filed : List Moment) → Tells past turns events capture
-    → walk (clock_over first_clock events) (covered 0 events) (has ++ more) line (as_filed (moments past) turns) ≡ filed
+walk_line : {past : List Heard} {turns : List Turn} (lacking capture has more : List ℕ) (events line : List Event) (filed : List Moment) → Tells lacking past turns events capture
+    → walk (clock_over first_clock events) (covered 0 events) (lacking ++ (has ++ more)) line (walk first_clock 0 (capture ++ (has ++ more)) events []) ≡ filed
     → walk first_clock 0 (capture ++ (has ++ more)) (events ++ line) [] ≡ filed
-walk_line capture has more events line filed s is =
+walk_line lacking capture has more events line filed s is =
     walk_both first_clock 0 (capture ++ (has ++ more)) events line []
-    ∙ ap (λ bs. walk (clock_over first_clock events) (covered 0 events) bs line (walk first_clock 0 (capture ++ (has ++ more)) events [])) (s.left_is (has ++ more))
-    ∙ ap (λ ms. walk (clock_over first_clock events) (covered 0 events) (has ++ more) line ms) (s.walk_is (has ++ more)) ∙ is
+    ∙ ap (λ bs. walk (clock_over first_clock events) (covered 0 events) bs line (walk first_clock 0 (capture ++ (has ++ more)) events [])) (s.left_is (has ++ more)) ∙ is
 
 max_is : (a x : ℕ) → a ≤ x → max a x ≡ x
 max_is a x low = omega (arith, low)
 
-tells_more : (heard : Heard) (past : List Heard) (t : Turn) (ts : List Turn) (events : List Event) (capture : List ℕ) → Tells past ts events capture
-    → Goes heard.entry (clock_over first_clock events) (clock_after past) → IsWhole heard.entry heard.bytes → brings_capture heard.entry.what ≡ false
-    → ((n : ℕ) → heard.entry.what ≡ Happens (Begins n) → coming (Begins n) (covered 0 events) ≡ 0)
-    → Tells (heard ∷ past) (t ∷ ts) ((events ++ line_of heard.entry.at heard.entry.what) ++ heard_line heard.entry.at (kept (t ∷ ts)))
+tells_more : (lacking : List ℕ) (heard : Heard) (past : List Heard) (t : Turn) (ts : List Turn) (events : List Event) (capture : List ℕ) → Tells lacking past ts events capture
+    → Goes heard.entry (clock_over first_clock events) (clock_after past) → brings_capture heard.entry.what ≡ false
+    → ((more : List ℕ) (before : List Moment) → Lines heard.entry heard.bytes (meaning_of heard.entry.what heard.bytes) (clock_over first_clock events) (clock_after past)
+    (covered 0 events) lacking more before)
+    → Tells [] (heard ∷ past) (t ∷ ts) ((events ++ line_of heard.entry.at heard.entry.what) ++ heard_line heard.entry.at (kept (t ∷ ts)))
     ((capture ++ already (meaning_of heard.entry.what heard.bytes) heard.bytes) ++ kept (t ∷ ts))
-tells_more heard past t ts events capture s g whole none begins =
+tells_more lacking heard past t ts events capture s g none ls =
     let lived : Clock = clock_after past in
     let file : Clock = clock_over first_clock events in
     let size : ℕ = covered 0 events in
@@ -304,11 +343,11 @@ tells_more heard past t ts events capture s g whole none begins =
     let time : ℕ = (next_clock heard.entry lived).last in
     let began : ℕ = (next_clock heard.entry lived).began in
     let with_line : List Moment = with_kept time (is_added what) has (with_told time (news_at what) filed) in
-    let l : (more : List ℕ) → Lines heard.entry heard.bytes what file lived size (k ++ more) filed =
-    λ more. lines heard.entry.at heard.entry.what heard.bytes file lived size (k ++ more) filed g whole none begins in
+    let first : List ℕ → List Moment = λ more. walk first_clock 0 (capture ++ (has ++ (k ++ more))) events [] in
+    let l : (more : List ℕ) → Lines heard.entry heard.bytes what file lived size lacking (k ++ more) (first more) = λ more. ls (k ++ more) (first more) in
     let second : Clock = clock_over file line in
     let two : ℕ = covered size line in
-    let one : Lines heard.entry heard.bytes what file lived size (k ++ []) filed = l [] in
+    let one : Lines heard.entry heard.bytes what file lived size lacking (k ++ []) (first []) = l [] in
     let in_time : time ≡ capped (began + heard.entry.at) = max_is lived.last (capped (began + heard.entry.at)) g.order in
     let b : (more : List ℕ) → Kept heard.entry.at k second time began two more with_line =
     λ more. kept_line heard.entry.at k second time began two more with_line one.began_is one.last_is in_time in
@@ -323,16 +362,17 @@ tells_more heard past t ts events capture s g whole none begins =
       left_is = λ more.
           ap (λ bs. left 0 bs ((events ++ line) ++ last)) (three capture has k more)
           ∙ left_both 0 (capture ++ (has ++ (k ++ more))) (events ++ line) last
-          ∙ ap (λ bs. left (covered 0 (events ++ line)) bs last) (left_line capture has (k ++ more) events line s (l more).left_is)
+          ∙ ap (λ bs. left (covered 0 (events ++ line)) bs last) (left_line lacking capture has (k ++ more) events line s (l more).left_is)
           ∙ ap (λ n. left n (k ++ more) last) (covered_both 0 events line) ∙ (b more).left_is;
       walk_is = λ more.
           ap (λ bs. walk first_clock 0 bs ((events ++ line) ++ last) []) (three capture has k more)
           ∙ walk_both first_clock 0 (capture ++ (has ++ (k ++ more))) (events ++ line) last []
           ∙ ap (λ bs. walk (clock_over first_clock (events ++ line)) (covered 0 (events ++ line)) bs last (walk first_clock 0 (capture ++ (has ++ (k ++ more))) (events ++ line) []))
-          (left_line capture has (k ++ more) events line s (l more).left_is)
+          (left_line lacking capture has (k ++ more) events line s (l more).left_is)
           ∙ ap (λ n. walk (clock_over first_clock (events ++ line)) n (k ++ more) last (walk first_clock 0 (capture ++ (has ++ (k ++ more))) (events ++ line) [])) (covered_both 0 events line)
           ∙ ap (λ (c : Clock). walk c two (k ++ more) last (walk first_clock 0 (capture ++ (has ++ (k ++ more))) (events ++ line) [])) clock_is
-          ∙ ap (λ ms. walk second two (k ++ more) last ms) (walk_line capture has (k ++ more) events line with_line s (l more).walk_is)
+          ∙ ap (λ ms. walk second two (k ++ more) last ms) (walk_line lacking capture has (k ++ more) events line with_line s
+          ((l more).walk_is ∙ ap (λ ms. with_kept time (is_added what) has (with_told time (news_at what) ms)) (s.walk_is (has ++ (k ++ more)))))
           ∙ (b more).walk_is ∙ sym (ap (λ x. as_filed (moments_by x heard past (moments past)) (t ∷ ts)) none);
       began_is = ap (λ (c : Clock). c.began) all_clock ∙ (b []).began_is ∙ sym (ap (λ (c : Clock). c.began) after);
       last_is = subst L (sym after) (subst M (sym all_clock) final);
@@ -368,9 +408,10 @@ times_begun (Owns n) e = refl
 times_begun (KeepsBytes n) e = refl
 
 record Base (base : List Heard) (turns : List Turn) (events : List Event) (capture : List ℕ) : Type 0 where
-  tells : Tells base turns events capture
+  lacking : List ℕ
+  tells : Tells lacking base turns events capture
   clock_is : clock_over first_clock events ≡ clock_after base
-  covers : covered 0 events ≡ length capture
+  lacks : length lacking ≡ length capture - covered 0 events
 
 times_told : (one : Heard) → brings_times one.entry.what ≡ true → one.entry.at ≡ 0 → (clock_after (one ∷ []) ≡ first_clock) × Files (moments (one ∷ [])) []
 times_told one times at =
@@ -387,31 +428,37 @@ files_told_first : (two one : Heard) (turns : List Turn) (events : List Event) (
 files_told_first two one turns events capture h told =
     let first = times_told one h.0 h.1 in
     let M : List Moment = walk first_clock 0 capture events (moments (one ∷ [])) in
-    let none : left 0 capture events ≡ [] = left_none 0 capture events h.5 in
-    let moments_are : moments (two ∷ one ∷ []) ≡ M =
+    let W : List Moment = walk first_clock 0 capture events [] in
+    let lacking : List ℕ = left 0 capture events in
+    let last : ℕ = (clock_over first_clock events).last in
+    let low : coming_in 0 events ≤ length capture = subst (λ n. n ≤ length capture) (sym h.5) h.6 in
+    let moments_are : moments (two ∷ one ∷ []) ≡ with_kept last false lacking M =
     ap (λ x. moments_by x two (one ∷ []) (moments (one ∷ []))) h.2 ∙ ap (λ (c : Clock). history_of c two.events two.bytes (moments (one ∷ []))) first.0
     ∙ ap (λ (es : List Event). history_of first_clock es two.bytes (moments (one ∷ []))) h.3 ∙ ap (λ (bs : List ℕ). history_of first_clock events bs (moments (one ∷ []))) h.4
-    ∙ merged_is first_clock 0 capture events (moments (one ∷ [])) ∙ ap (λ bs. with_kept (clock_over first_clock events).last false bs M) none in
+    ∙ merged_is first_clock 0 capture events (moments (one ∷ [])) in
     let T : List Moment → Type 0 = λ ms. Told (cabled ms) turns in
-    let filed : as_filed (moments (two ∷ one ∷ [])) turns ≡ walk first_clock 0 capture events [] =
-    ap (λ ms. as_filed ms turns) moments_are ∙ (walk_filed first_clock 0 capture events (moments (one ∷ [])) [] first.1).is turns (subst T moments_are told) in
+    let all : Files (with_kept last false lacking M) (with_kept last false lacking W) =
+    files_kept last false lacking M W (walk_filed first_clock 0 capture events (moments (one ∷ [])) [] first.1) in
+    let filed : as_filed (moments (two ∷ one ∷ [])) turns ≡ with_kept last false lacking W =
+    ap (λ ms. as_filed ms turns) moments_are ∙ all.is turns (subst T moments_are told) in
     let clocks : clock_over first_clock events ≡ clock_after (two ∷ one ∷ []) =
     sym (ap (λ x. clock_of x two (clock_after (one ∷ []))) h.2 ∙ ap (λ (c : Clock). clock_over c two.events) first.0 ∙ ap (λ (es : List Event). clock_over first_clock es) h.3) in
     record {
+      lacking = lacking;
       tells = record {
-        left_is = λ more. left_more 0 capture more events h.5;
-        walk_is = λ more. walk_more first_clock 0 capture more events [] h.5 ∙ sym filed;
+        left_is = λ more. left_rest 0 capture more events low;
+        walk_is = λ more. ap (λ ms. with_kept last false lacking ms) (walk_rest first_clock 0 capture more events [] low) ∙ sym filed;
         began_is = ap (λ (c : Clock). c.began) clocks;
         last_is = same_le (clock_over first_clock events).last (clock_after (two ∷ one ∷ [])).last (ap (λ (c : Clock). c.last) clocks);
       };
       clock_is = clocks;
-      covers = h.6;
+      lacks = left_length 0 capture events ∙ ap (λ n. length capture - n) h.5;
     }
 
 nothing_told : (turns : List Turn) (events : List Event) (capture : List ℕ) → events ≡ [] → capture ≡ [] → Base [] turns events capture
 nothing_told turns events capture e f =
-    let none : Tells [] turns [] [] = record { left_is = λ more. refl; walk_is = λ more. refl; began_is = refl; last_is = same_le 0 0 refl } in
-    let here : Base [] turns [] [] = record { tells = none; clock_is = refl; covers = refl } in
+    let none : Tells [] [] turns [] [] = record { left_is = λ more. refl; walk_is = λ more. refl; began_is = refl; last_is = same_le 0 0 refl } in
+    let here : Base [] turns [] [] = record { lacking = []; tells = none; clock_is = refl; lacks = refl } in
     subst (λ (es : List Event). Base [] turns es capture) (sym e) (subst (λ (bs : List ℕ). Base [] turns [] bs) (sym f) here)
 
 told_before : (base : List Heard) (turns : List Turn) (events : List Event) (capture : List ℕ) → TellsFiles base events capture → Told (cabled (moments base)) turns
@@ -457,42 +504,54 @@ began_alike (Owns n) a c b stays = refl
 began_alike (KeepsTimes n) a c b stays = refl
 began_alike (KeepsBytes n) a c b stays = refl
 
-none_left : (n : ℕ) → n - n ≡ 0
-none_left n = omega arith
+none_lacks : (lacking : List ℕ) (n m : ℕ) → length lacking ≡ n - m → m ≡ n → lacking ≡ []
+none_lacks lacking n m e same = nil_from_length lacking (omega (arith, e, same))
 
-same_size : (n m : ℕ) → Happens (Begins n) ≡ Happens (Begins m) → n ≡ m
-same_size n m e = cc
+timed_first : (lacking : List ℕ) (n m at : ℕ) → length lacking ≡ n - m → (m ≡ n) ⊎ (at ≡ 0) → (lacking ≡ []) ⊎ (at ≡ 0)
+timed_first lacking n m at e (inl same) = inl (none_lacks lacking n m e same)
+timed_first lacking n m at e (inr start) = inr start
 
 tells : (call base : List Heard) (events : List Event) (capture : List ℕ) (turns : List Turn) → Told (cabled (moments (call ++ base))) turns
-    → TellsFiles base events capture → IsCall (length capture) call base → Tells (call ++ base) turns (events_after events call turns) (bytes_after capture call turns)
-tells [] base events capture turns h files call = absurd call
-tells (heard ∷ []) base events capture [] h files call =
+    → TellsFiles base events capture → IsCall (length capture) call base → IsTimed events capture call
+    → Tells [] (call ++ base) turns (events_after events call turns) (bytes_after capture call turns)
+tells [] base events capture turns h files call timed = absurd call
+tells (heard ∷ []) base events capture [] h files call timed =
     absurd (no_turns heard base (ap (λ w. brings_capture w) call.0) h)
-tells (heard ∷ []) base events capture (t ∷ ts) h files call =
+tells (heard ∷ []) base events capture (t ∷ ts) h files call timed =
     let none : brings_capture heard.entry.what ≡ false = ap (λ w. brings_capture w) call.0 in
     let b = told_before base ts events capture files (turns_of heard base t ts none h) in
-    let goes : Goes heard.entry (clock_over first_clock events) (clock_after base) = record {
+    let file : Clock = clock_over first_clock events in
+    let lived : Clock = clock_after base in
+    let size : ℕ = covered 0 events in
+    let goes : Goes heard.entry file lived = record {
       began = ap (λ (c : Clock). began_by heard.entry.what c.last c.began) b.clock_is;
-      last = same_le (clock_over first_clock events).last (clock_after base).last (ap (λ (c : Clock). c.last) b.clock_is);
+      last = same_le file.last lived.last (ap (λ (c : Clock). c.last) b.clock_is);
       order = call.2;
     } in
-    tells_more heard base t ts events capture b.tells goes call.1 none
-    (λ n is. ap (λ m. m - covered 0 events) (same_size n (length capture) (sym is ∙ call.0) ∙ sym b.covers) ∙ none_left (covered 0 events))
-tells (heard ∷ one ∷ call) base events capture [] h files is = absurd (no_turns heard (one ∷ call ++ base) is.2 h)
-tells (heard ∷ one ∷ call) base events capture (t ∷ ts) h files is =
+    let G : What → Type 0 = λ w. Goes (record { at = heard.entry.at; what = w }) file lived in
+    let L : What → Type 0 = λ w. (more : List ℕ) (before : List Moment)
+    → Lines (record { at = heard.entry.at; what = w }) heard.bytes (meaning_of w heard.bytes) file lived size b.lacking more before in
+    let begins : L (Happens (Begins (length capture))) = λ more before.
+    begin_line heard.entry.at (length capture) heard.bytes file lived size b.lacking more before (subst G call.0 goes) b.lacks
+    (timed_first b.lacking (length capture) size heard.entry.at b.lacks timed) in
+    tells_more b.lacking heard base t ts events capture b.tells goes none (subst L (sym call.0) begins)
+tells (heard ∷ one ∷ call) base events capture [] h files is timed = absurd (no_turns heard (one ∷ call ++ base) is.2 h)
+tells (heard ∷ one ∷ call) base events capture (t ∷ ts) h files is timed =
     let past : List Heard = one ∷ call ++ base in
-    let s = tells (one ∷ call) base events capture ts (turns_of heard past t ts is.2 h) files is.0 in
-    let file = clock_over first_clock (events_after events (one ∷ call) ts) in
+    let s = tells (one ∷ call) base events capture ts (turns_of heard past t ts is.2 h) files is.0 timed in
+    let before : List Event = events_after events (one ∷ call) ts in
+    let file : Clock = clock_over first_clock before in
     let goes : Goes heard.entry file (clock_after past) = record {
       began = began_alike heard.entry.what file.last (clock_after past).last file.began is.1 ∙ ap (λ b. began_by heard.entry.what (clock_after past).last b) s.began_is;
       last = s.last_is;
       order = is.4;
     } in
-    tells_more heard past t ts (events_after events (one ∷ call) ts) (bytes_after capture (one ∷ call) ts) s goes is.3 is.2 (λ n e. absurd (is.1 (n, e)))
+    tells_more [] heard past t ts before (bytes_after capture (one ∷ call) ts) s goes is.2
+    (λ more ms. lines heard.entry.at heard.entry.what heard.bytes file (clock_after past) (covered 0 before) more ms goes is.3 is.2 is.1)
 
 pub files_are_as_filed : FilesAreAsFiled
-files_are_as_filed call base events capture turns h files is =
-    let s = tells call base events capture turns h files is in
+files_are_as_filed call base events capture turns h files is timed =
+    let s = tells call base events capture turns h files is timed in
     let es = events_after events call turns in
     let bs = bytes_after capture call turns in
     let none : left 0 bs es ≡ [] = ap (λ x. left 0 x es) (sym (append-nil bs)) ∙ s.left_is [] in

@@ -7,7 +7,8 @@ use Rattle.board_cable.specs.Turns.{Told, Turn, told}
 use Rattle.board_events.specs.declared.setup.Setup.{Setup}
 use Rattle.board_events.specs.Settings.{setting_of}
 use Rattle.board_live.specs.Coming.{came}
-use Rattle.board_live.specs.Due.{MayChange, StaysAlike}
+use Rattle.board_live.specs.Due.{IsDue, MayChange, StaysAlike}
+use Rattle.board_live.specs.Ending.{EndStays}
 use Rattle.board_live.specs.Live.{Answers}
 use Rattle.board_live.specs.Moments.{Moment, cabled}
 use Rattle.live_lines.specs.declared.clock.Clock.{Clock}
@@ -100,6 +101,8 @@ said_like setup recovers heard past other turn turns more said e f s =
     let H : ℕ → Type 0 = λ n. HandledAlike n (told (turn ∷ turns)) s.due in
     let S : ℕ → List Moment → Type 0 = λ n ms. StaysAlike (setting_of setup) recovers (came (moment_by n heard ∷ ms) (turn ∷ turns)) n s.due in
     let C : ℕ → List Moment → Type 0 = λ n ms. IfSome s.due (λ d. MayChange (setting_of setup) recovers (came (moment_by n heard ∷ ms) (turn ∷ turns)) (told (turn ∷ turns)) n d) in
+    let E : ℕ → List Moment → Type 0 = λ n ms. EndStays (setting_of setup) recovers (came (moment_by n heard ∷ ms) (turn ∷ turns)) n s.due in
+    let W : ℕ → List Moment → Type 0 = λ n ms. IsDue (setting_of setup) recovers (came (moment_by n heard ∷ ms) (turn ∷ turns)) (told (turn ∷ turns)) n s.due in
     record {
       answer = s.answer;
       game = s.game;
@@ -113,6 +116,8 @@ said_like setup recovers heard past other turn turns more said e f s =
       handling = subst H e s.handling;
       state = both S t u (moments past) (moments other) e f s.state;
       changes = both C t u (moments past) (moments other) e f s.changes;
+      end = both E t u (moments past) (moments other) e f s.end;
+      wakes = both W t u (moments past) (moments other) e f s.wakes;
     }
 
 answered_by : (brings : Bool) (setup : Setup) (recovers : Bool) (heard : Heard) (past other : List Heard) (more said : List ℕ)

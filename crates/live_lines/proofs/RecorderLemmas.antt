@@ -11,7 +11,8 @@ use Rattle.chess_game.specs.Values.{TagValues}
 use Rattle.board_live.specs.declared.happened.What.{What as ToBoard}
 use Rattle.board_live.specs.declared.live.Answer.{Answer}
 use Rattle.board_live.specs.Coming.{came}
-use Rattle.board_live.specs.Due.{MayChange, StaysAlike}
+use Rattle.board_live.specs.Due.{IsDue, MayChange, StaysAlike}
+use Rattle.board_live.specs.Ending.{EndStays}
 use Rattle.board_live.specs.Live.{Answers}
 use Rattle.board_live.specs.Moments.{Moment, cabled}
 use Rattle.board_looks.specs.declared.look.Look.{Look}
@@ -58,8 +59,10 @@ pub answered : (setup : Setup) (recovers : Bool) (heard : Heard) (past : List He
     → ((turns : List Turn) → Told (cabled (m ∷ moments past)) turns → HandledAlike at (told turns) due)
     → ((turns : List Turn) → Told (cabled (m ∷ moments past)) turns → StaysAlike (setting_of setup) recovers (came (m ∷ moments past) turns) at due)
     → ((turns : List Turn) → Told (cabled (m ∷ moments past)) turns → IfSome due (λ d. MayChange (setting_of setup) recovers (came (m ∷ moments past) turns) (told turns) at d))
+    → ((turns : List Turn) → Told (cabled (m ∷ moments past)) turns → EndStays (setting_of setup) recovers (came (m ∷ moments past) turns) at due)
+    → ((turns : List Turn) → Told (cabled (m ∷ moments past)) turns → IsDue (setting_of setup) recovers (came (m ∷ moments past) turns) (told turns) at due)
     → IsAnsweredBy false setup recovers heard past more (answer_text at answer k ls g looks due)
-answered setup recovers heard past m at answer due k ls more g looks em ea el says keeps answers gives asks handles stays changes turn turns h =
+answered setup recovers heard past m at answer due k ls more g looks em ea el says keeps answers gives asks handles stays changes ends wakes turn turns h =
     let now : ℕ = time_of heard past in
     let ps : List Moment = moments past in
     let K : Moment → Type 0 = λ x. Told (cabled (x ∷ ps)) (turn ∷ turns) → k ≡ kept (turn ∷ turns) in
@@ -73,10 +76,14 @@ answered setup recovers heard past m at answer due k ls more g looks em ea el sa
     let S : Moment → Type 0 = λ x. Told (cabled (x ∷ ps)) (turn ∷ turns) → StaysAlike (setting_of setup) recovers (came (x ∷ ps) (turn ∷ turns)) at due in
     let C : Moment → Type 0 = λ x. Told (cabled (x ∷ ps)) (turn ∷ turns)
     → IfSome due (λ d. MayChange (setting_of setup) recovers (came (x ∷ ps) (turn ∷ turns)) (told (turn ∷ turns)) at d) in
+    let E : Moment → Type 0 = λ x. Told (cabled (x ∷ ps)) (turn ∷ turns) → EndStays (setting_of setup) recovers (came (x ∷ ps) (turn ∷ turns)) at due in
+    let W : Moment → Type 0 = λ x. Told (cabled (x ∷ ps)) (turn ∷ turns) → IsDue (setting_of setup) recovers (came (x ∷ ps) (turn ∷ turns)) (told (turn ∷ turns)) at due in
     let Qn : ℕ → Type 0 = λ n. AsksAlike n (told (turn ∷ turns)) due in
     let Hn : ℕ → Type 0 = λ n. HandledAlike n (told (turn ∷ turns)) due in
     let Sn : ℕ → Type 0 = λ n. StaysAlike (setting_of setup) recovers (came (moment_of heard past ∷ moments past) (turn ∷ turns)) n due in
     let Cn : ℕ → Type 0 = λ n. IfSome due (λ d. MayChange (setting_of setup) recovers (came (moment_of heard past ∷ moments past) (turn ∷ turns)) (told (turn ∷ turns)) n d) in
+    let En : ℕ → Type 0 = λ n. EndStays (setting_of setup) recovers (came (moment_of heard past ∷ moments past) (turn ∷ turns)) n due in
+    let Wn : ℕ → Type 0 = λ n. IsDue (setting_of setup) recovers (came (moment_of heard past ∷ moments past) (turn ∷ turns)) (told (turn ∷ turns)) n due in
     record {
       answer = answer;
       game = g;
@@ -91,6 +98,8 @@ answered setup recovers heard past m at answer due k ls more g looks em ea el sa
       handling = subst Hn ea (subst H em (handles (turn ∷ turns)) h);
       state = subst Sn ea (subst S em (stays (turn ∷ turns)) h);
       changes = subst Cn ea (subst C em (changes (turn ∷ turns)) h);
+      end = subst En ea (subst E em (ends (turn ∷ turns)) h);
+      wakes = subst Wn ea (subst W em (wakes (turn ∷ turns)) h);
     }
 
 -- ---- an entry that is no capture

@@ -1,6 +1,6 @@
 -- What a host keeps of a call in its two files, and what a recorder makes of them that begins again. Entries and turns are listed with
 -- the latest first, events and bytes stand in their order.
-use Rattle.std.specs.Prelude.{◌≡◌, ◌+◌, ◌≤◌, ℕ, true, false, List, [], ◌∷◌, ◌++◌, length}
+use Rattle.std.specs.Prelude.{◌≡◌, ◌⊎◌, ◌+◌, ◌≤◌, ℕ, true, false, List, [], ◌∷◌, ◌++◌, length}
 use Rattle.board_cable.specs.Keeping.{kept}
 use Rattle.board_cable.specs.Turns.{Told, Turn}
 use Rattle.board_live.specs.Moments.{already, cabled}
@@ -50,12 +50,13 @@ abbrev pub coming_in : ℕ → List Event → ℕ
 coming_in size [] = 0
 coming_in size (event ∷ events) = coming event.what size + coming_in (covered_after event.what size) events
 
--- What is told before a call: nothing; or the two files of the calls before, of which the file of times accounts for each byte.
+-- What is told before a call: nothing; or the two files of the calls before. With the events of the file of times come as many bytes
+-- as it accounts for, and the capture has these.
 abbrev pub TellsFiles : List Heard → List Event → List ℕ → Type 0
 TellsFiles [] events capture = (events ≡ []) × (capture ≡ [])
 TellsFiles (file ∷ []) events capture = ⊥
 TellsFiles (file ∷ times ∷ []) events capture = (brings_times times.entry.what ≡ true) × (times.entry.at ≡ 0) × (brings_capture file.entry.what ≡ true)
-    × (file.events ≡ events) × (file.bytes ≡ capture) × (coming_in 0 events ≡ length capture) × (covered 0 events ≡ length capture)
+    × (file.events ≡ events) × (file.bytes ≡ capture) × (coming_in 0 events ≡ covered 0 events) × (covered 0 events ≤ length capture)
 TellsFiles (file ∷ times ∷ other ∷ more) events capture = ⊥
 
 -- Its time isn't before that of an entry that was told earlier.
@@ -73,8 +74,19 @@ IsCall size (heard ∷ []) base = (heard.entry.what ≡ Happens (Begins size)) �
 IsCall size (heard ∷ one ∷ call) base = IsCall size (one ∷ call) base × (IsBeginning heard.entry.what → ⊥) × (brings_capture heard.entry.what ≡ false)
     × IsWhole heard.entry heard.bytes × IsInOrder heard (one ∷ call ++ base)
 
+-- when the call begins, on its own clock
+abbrev pub begins_at : List Heard → ℕ
+begins_at [] = 0
+begins_at (heard ∷ []) = heard.entry.at
+begins_at (heard ∷ one ∷ call) = begins_at (one ∷ call)
+
+-- Each byte of the capture has its time. Or the last bytes have none, as after a kill, and the clock of the call starts when it begins:
+-- then they came at the last time of the calls before.
+abbrev pub IsTimed : List Event → List ℕ → List Heard → Type 0
+IsTimed events capture call = (covered 0 events ≡ length capture) ⊎ (begins_at call ≡ 0)
+
 -- The history that a recorder makes of the two files as they are after a call is what the law on restarts speaks of.
 abbrev pub FilesAreAsFiled : Type 0
 FilesAreAsFiled = (call base : List Heard) (events : List Event) (capture : List ℕ) (turns : List Turn) → Told (cabled (moments (call ++ base))) turns
-    → TellsFiles base events capture → IsCall (length capture) call base
+    → TellsFiles base events capture → IsCall (length capture) call base → IsTimed events capture call
     → history_of first_clock (events_after events call turns) (bytes_after capture call turns) [] ≡ as_filed (moments (call ++ base)) turns

@@ -11,7 +11,8 @@ use Rattle.board_game.specs.History.{Came}
 use Rattle.board_game.specs.Report.{IsReport}
 use Rattle.board_live.specs.declared.live.Answer.{Answer}
 use Rattle.board_live.specs.Coming.{came}
-use Rattle.board_live.specs.Due.{MayChange, StaysAlike}
+use Rattle.board_live.specs.Due.{IsDue, MayChange, StaysAlike}
+use Rattle.board_live.specs.Ending.{EndStays}
 use Rattle.board_live.specs.Live.{Answers, HasBegun as LiveHasBegun, StandsFor as LiveStands}
 use Rattle.board_live.specs.Moments.{cabled}
 use Rattle.board_looks.specs.declared.look.Look.{Look}
@@ -52,6 +53,8 @@ pub record IsSaidOf (setup : Setup) (recovers : Bool) (heard : Heard) (past : Li
   pub handling : HandledAlike (time_of heard past) (told (turn ∷ turns)) due
   pub state : StaysAlike (setting_of setup) recovers (came (moment_of heard past ∷ moments past) (turn ∷ turns)) (time_of heard past) due
   pub changes : IfSome due (λ d. MayChange (setting_of setup) recovers (came (moment_of heard past ∷ moments past) (turn ∷ turns)) (told (turn ∷ turns)) (time_of heard past) d)
+  pub end : EndStays (setting_of setup) recovers (came (moment_of heard past ∷ moments past) (turn ∷ turns)) (time_of heard past) due
+  pub wakes : IsDue (setting_of setup) recovers (came (moment_of heard past ∷ moments past) (turn ∷ turns)) (told (turn ∷ turns)) (time_of heard past) due
 
 -- A capture is answered by its report alone.
 abbrev pub IsAnsweredBy : Bool → Setup → Bool → Heard → List Heard → List ℕ → List ℕ → Type 0

@@ -1,11 +1,11 @@
-use Rattle.std.proofs.Common.{ℕ, Option, IfSome, sym, subst}
+use Rattle.std.proofs.Common.{ℕ, Option, IfSome, ap, sym, subst, ◌∙◌}
 use Rattle.board_asking.specs.Lasting.{IsBefore}
 use Rattle.board_live.specs.Coming.{came}
 use Rattle.square_runs.specs.Lasting.{IsBefore as IsBeforeState, earlier}
 use Rattle.board_live.specs.Moments.{cabled}
 use Rattle.board_cable.specs.Turns.{told}
 use Rattle.board_live.specs.Due.{MayChange}
-use Rattle.board_live.proofs.TakeLemmas.{game_at, sooner_both, sooner_changes}
+use Rattle.board_live.proofs.TakeLemmas.{game_at, lies_ahead, sooner_both, sooner_changes}
 use Rattle.board_live.proofs.live.Live.due.Goals as goal
 
 pub returns-clause-asks : goal.returns-clause-asks
@@ -52,3 +52,21 @@ returns-clause-changes c setting recovers past text turns s h =
     (c.due-cable.ensures.changes (cabled past) turns s.attends.cable h)
     (c.due-game.ensures setting recovers (came past turns) text game)
     (c.ends_at-end.ensures setting recovers (came past turns) text game)))
+
+pub returns-clause-wakes : goal.returns-clause-wakes
+returns-clause-wakes c setting recovers past text turns s h =
+    let game = game_at c.args.self.now setting recovers past text turns s h in
+    record {
+      cable = c.due-cable.result;
+      state = c.due-game.result;
+      end = c.ends_at-end.result;
+      cable_is = record {
+        ahead = lies_ahead c.args.now c.due-cable.result c.due-cable.ensures.later c.count_time.ensures;
+        asks = c.due-cable.ensures.asks (cabled past) turns s.attends.cable h;
+        handling = c.due-cable.ensures.handling (cabled past) turns s.attends.cable h;
+        changes = c.due-cable.ensures.changes (cabled past) turns s.attends.cable h;
+      };
+      state_is = c.due-game.ensures setting recovers (came past turns) text game;
+      end_is = c.ends_at-end.ensures setting recovers (came past turns) text game;
+      due_is = c.sooner.ensures ∙ ap (λ known. earlier known c.ends_at-end.result) c.sooner-known.ensures;
+    }

@@ -43,7 +43,9 @@ returns-clause-stands c = λ setup recovers past text s.
           (λ turns h. c.due-due.ensures.asks (setting_of setup) recovers (m ∷ moments past) (text ++ more) turns took.2 h)
           (λ turns h. c.due-due.ensures.handling (setting_of setup) recovers (m ∷ moments past) (text ++ more) turns took.2 h)
           (λ turns h. c.due-due.ensures.state (setting_of setup) recovers (m ∷ moments past) (text ++ more) turns took.2 h)
-          (λ turns h. c.due-due.ensures.changes (setting_of setup) recovers (m ∷ moments past) (text ++ more) turns took.2 h)),
+          (λ turns h. c.due-due.ensures.changes (setting_of setup) recovers (m ∷ moments past) (text ++ more) turns took.2 h)
+          (λ turns h. c.due-due.ensures.end (setting_of setup) recovers (m ∷ moments past) (text ++ more) turns took.2 h)
+          (λ turns h. c.due-due.ensures.wakes (setting_of setup) recovers (m ∷ moments past) (text ++ more) turns took.2 h)),
       record {
         clock = clock ∙ sym (clock_goes_on heard past other);
         tags = s.tags;
