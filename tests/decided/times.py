@@ -42,7 +42,7 @@ def files() -> None:
 
 
 def written() -> None:
-    """What comes within a millisecond came at once."""
+    """Each event has a line, and its time counts from the beginning of its call."""
     for began, events, expected in cases("times", "written"):
         same(expected, times.lines([(at, what, count) for at, what, count in events], began).decode(), expected)
 
