@@ -223,6 +223,10 @@ class Times:
         finally:
             self._lock.release()
 
+    def added_last(self) -> range:
+        """The bytes of the capture that were added last, if that is known."""
+        return times.added_last(self._content())
+
     def _written(self) -> bytes:
         """What the file has, or will begin with."""
         if not self._size:

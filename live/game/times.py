@@ -139,6 +139,17 @@ def _covers(before: int, what: str, count: int) -> int:
     return count if what == BEGIN else before + count if what in (HEARD, ADDED) else before
 
 
+def added_last(content: Content) -> range:
+    """The bytes of the capture that were added last; none if that isn't known."""
+    found, last = kept(content), range(0)
+    if isinstance(found, Kept):
+        covered = found.size
+        for _, what, count in _events(content, found.begins):
+            before, covered = covered, _covers(covered, what, count)
+            last = range(before, covered) if what == ADDED else last
+    return last
+
+
 def cut(content: Content, found: Kept, size: int, first: Content) -> bytes:
     """A file of which only those events stay that account for the capture's first so many bytes, which begin with `first`; and no
     end, since the game goes on, or has another one."""
