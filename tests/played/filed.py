@@ -7,9 +7,10 @@ from attending.answers import Answer, Entry
 from attending.filed import Event, events_after, events_in
 from play_board import field
 from played import words
+from played.asleep import Clock
 from played.boards import Board
 from played.recorder import Live, signal_to
-from played.stage import a_board, begun, bytes_of, ended, kill, rest, same, stop, until, until_dumped, until_game, until_kept, until_line
+from played.stage import a_board, begin_game, begun, bytes_of, ended, kill, rest, same, stop, until, until_dumped, until_game, until_kept, until_line
 from played.tapped import Tap
 from played.times import accounted
 
@@ -138,4 +139,46 @@ def times_as_told_of_another(folder: pathlib.Path) -> None:
     assert {"called", "took", "ok"} <= {word for _, word, _ in file}, file
 
 
-CASES = [times_as_told, times_as_told_anew, times_as_told_of_another]
+def times_as_told_asleep(folder: pathlib.Path) -> None:
+    """The computer sleeps for 35 s: the program is told that nobody listened, and the file has it at the same place."""
+    clock, tap = Clock(folder), Tap(folder)
+    board, live = begin_game(folder, start=[*tap.start, *clock.start[1:]])
+    until_dumped(board, live.name)
+    clock.go_on(35)
+    rest(1.5)  # the loop turns each second
+    board.play("g1f3")
+    until_game(live.name, "1. e4 e5 2. Nf3 *")
+    until_dumped(board, live.name)
+    same(stop(live), 0)
+    same([count for _, word, count in is_filed(live.name, tap.calls) if word == "stopped"], [35_000])
+
+
+def times_as_told_as_it_ends(folder: pathlib.Path) -> None:
+    """Another move is made after a typed result: the program watches the board on, and is told what happens there; then the result is
+    taken off, and another program is told the files."""
+    tap, board, live = a_game(folder)
+    live.type("1-0")
+    until_game(live.name, "1. e4 e5 1-0")
+    board.play("g1f3")
+    until_line(live, "is over: another move was made after its result")
+    board.play("b8c6")
+    until_line(live, "LOOK after 1... e5")
+    until_dumped(board, live.name)
+    before = tap.calls
+    live.type("*")
+    until_line(live, "goes on, without the result")
+    same([word for _, word, _ in events_after([], *before[0])].count("over"), 1)
+    until_game(live.name, "1. e4 e5 2. Nf3 Nc6 *")
+    board.play("f1b5")
+    until_game(live.name, "1. e4 e5 2. Nf3 Nc6 3. Bb5 *")
+    until_dumped(board, live.name)
+    same(stop(live), 0)
+    (told, said), = tap.calls[len(before) :]
+    events = events_in(next(entry.sent for entry in told if entry.word == "kept"))
+    without_ends = [event for event in events_after([], *before[0]) if event[1] != "over"]
+    same(events[: len(without_ends)], without_ends)
+    same([word for _, word, _ in events[len(without_ends) :]], ["begin", "away", "opened", "reopened"])
+    same(events_in(bytes_of(f"{live.name}.times")), events_after(events, told, said))
+
+
+CASES = [times_as_told, times_as_told_anew, times_as_told_of_another, times_as_told_asleep, times_as_told_as_it_ends]

@@ -31,7 +31,7 @@ class Writing:
 starts, opens, takes = attending.Attending.start, program.Program.start, attending.Attending._takes
 
 def start(self):
-    begins[:] = [self.notes]
+    begins[:] = [pathlib.Path(self._past.capture.path).stem if self.notes else ""]
     starts(self)
 
 def opened(self, words, *streams):
@@ -39,9 +39,9 @@ def opened(self, words, *streams):
     if words[0] != "live":
         return child
     number = len(list(folder.glob("*.told")))
-    logs[child.stdin.fileno()] = folder / f"{{number:03}}" if begins == [True] else None
-    if begins == [True]:
-        (folder / f"{{number:03}}.told").touch()
+    logs[child.stdin.fileno()] = log = folder / f"{{begins[0]}}.{{number:03}}" if begins[0] else None
+    if log:
+        open(f"{{log}}.told", "ab").close()
     return child
 
 def take(self, part):
@@ -68,8 +68,12 @@ class Tap:
     @property
     def calls(self) -> List[Tuple[List[Entry], List[Answer]]]:
         """What each was told and has answered."""
+        return self.calls_of("*")
+
+    def calls_of(self, game: str) -> List[Tuple[List[Entry], List[Answer]]]:
+        """The same of those that attend this game."""
         found = []
-        for told in sorted(self._folder.glob("*.told")):
+        for told in sorted(self._folder.glob(f"{game}.*.told")):
             said = told.with_suffix(".said")
             found.append(([*entries_of(told.read_bytes())], all_answers(said.read_bytes())[1] if said.exists() else []))
         return found

@@ -29,7 +29,7 @@ from played.stage import (
     until_line,
 )
 
-NUMBERED = ("begin", "away", "heard", "added", "stopped", "asked", "over")
+NUMBERED = ("begin", "away", "heard", "added", "stopped", "asked", "over", "suspect")
 ALONE = ("opened", "answered", "gone", "called", "took", "ok", "back", "reopened")
 NOTHING = "Nothing is to be done"
 OTHER = "other.times"
