@@ -175,33 +175,36 @@ class Times:
             self._begin_at(self.clock(), self._capture.total if size is None else size, away)
 
     def _begin_at(self, now: int, size: int, away: Optional[int]) -> None:
-        self._begun = self._beginning(now, size, away)
+        self._begun = self._beginning(now, size, away, self._line)
         self._began, self._at, self._away = now, max(self._at, now), away
         at = 0 if self._is_aside else len(self._events)  # what has come since then is of this call
         self._events[at:at] = self._begun
         self._is_aside = False
 
-    def _beginning(self, now: int, size: int, away: Optional[int]) -> List[times.Happened]:
+    def _beginning(self, now: int, size: int, away: Optional[int], line: Tuple[str, ...]) -> List[times.Happened]:
         begun: List[times.Happened] = [(now, times.BEGIN, size)]
         if away is not None:
             begun.append((now, times.AWAY, away))
-        return [*begun, *((now, what, None) for what in self._line)]
+        return [*begun, *((now, what, None) for what in line)]
 
     def attended(self) -> Begun:
         """From now on a program attends the board. For it a call begins: so one begins here too, unless nothing has happened in the
         present one. What it is told after that has lines here, and how the line is belongs to it."""
-        if self._begun and self._events[-len(self._begun) :] == self._begun:
-            del self._events[-len(self._begun) :]
-        else:
-            now = max(self.clock(), self._at)
-            self._began, self._at, self._away = now, now, now - self._at
-        began, line, self._line = self._began or 0, self._line, ()
-        content = self._content()
-        self._begun = self._beginning(began, self._capture.total, self._away)
-        self._line = line
-        self._events += self._begun
-        self._is_attended = True
-        return Begun(began, self._away, content)
+        is_free = self._lock.acquire(blocking=False)
+        try:
+            if is_free and self._begun and self._events[-len(self._begun) :] == self._begun:
+                del self._events[-len(self._begun) :]
+            else:
+                now = max(self.clock(), self._at)
+                self._began, self._at, self._away = now, now, now - self._at
+            content = self._content() if is_free else b""
+            self._begun = self._beginning(self._at, self._capture.total, self._away, ())
+            self._events += self._begun
+            self._is_attended = True
+            return Begun(self._at, self._away, content)
+        finally:
+            if is_free:
+                self._lock.release()
 
     def reaches(self, at: int) -> None:
         """What is noted next happened at this time, with what a program was told then."""
@@ -213,19 +216,18 @@ class Times:
         self._is_attended, self._was_away = False, away
 
     def _content(self) -> bytes:
-        """All lines, those too that aren't written yet; empty if they aren't known, or the file is just being changed."""
-        if self._is_foreign or not self._lock.acquire(blocking=False):
+        """All lines, those too that aren't written yet, unless some before them are lost; empty if they aren't known."""
+        if self._is_foreign or (self._is_lost and not self._size):
             return b""
         try:
-            return self._written() + times.lines(self._events, self._from)
+            return self._written() + times.lines([] if self._is_lost else self._events, self._from)
         except OSError:
             return b""
-        finally:
-            self._lock.release()
 
     def added_last(self) -> range:
         """The bytes of the capture that were added last, if that is known."""
-        return times.added_last(self._content())
+        with self._lock:
+            return times.added_last(self._content())
 
     def _written(self) -> bytes:
         """What the file has, or will begin with."""
@@ -373,7 +375,7 @@ class Times:
         """What was lost has no times: from here on they count anew."""
         now = self._events[0][0] if self._events else self.clock()
         grown = sum(count or 0 for _, what, count in self._events if what in (times.HEARD, times.ADDED))
-        self._events[:0] = self._beginning(now, max(0, self._capture.total - grown), 0)
+        self._events[:0] = self._beginning(now, max(0, self._capture.total - grown), 0, self._line)
 
     def _fails(self, error: Exception) -> None:
         """Whatever it is: the game goes on."""
