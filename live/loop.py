@@ -7,6 +7,7 @@ import contextlib
 import functools
 import heapq
 import itertools
+import math
 import os
 import select
 import signal
@@ -216,6 +217,19 @@ class Loop:
             _, _, timer = heapq.heappop(self._timers)
             if not timer.cancelled:
                 self._call(timer.callback)
+
+
+class Counting:
+    """The time in milliseconds, by a clock that counts on while the computer sleeps, and otherwise goes as the loop's. It never goes
+    back."""
+
+    def __init__(self) -> None:
+        self._slept = -math.inf  # the seconds by which it is ahead of the loop's clock, which stands still while the computer sleeps
+
+    def __call__(self) -> int:
+        now = Loop.now()
+        self._slept = max(self._slept, Loop.counting() - now)
+        return int((now + self._slept) * 1000)
 
 
 class Signals:

@@ -18,6 +18,7 @@ class Afterwards:
 
     def __init__(self, before: Recording, looks: Callable[[Look], None]) -> None:
         self._attending, self._looks = before.hand_over(self), looks
+        self._attending.note_no_more()
         self.undecided = self._attending.undecided()  # what the board has sent, and was neither kept nor known to be another board's
         self._was_told = self.undecided  # and comes again, before all else
         course = before.course

@@ -66,7 +66,7 @@ class AttendedGame:
 
     def lent(self, sent: bytes) -> None:
         """The game's board has sent this on another game's cable."""
-        self._keep(self._guard.now(), sent)
+        self._keep(self._guard.now(), sent, ADDED)
         self.attending.tell(ADDED, sent)
 
     # What is answered.
@@ -94,16 +94,16 @@ class AttendedGame:
             self._is_news = False
             self.standing.show()
 
-    def _keep(self, at: float, sent: bytes) -> None:
+    def _keep(self, at: float, sent: bytes, what: str = HEARD) -> None:
         """The board has sent this, and it is the game's."""
-        self._append(sent, HEARD)
+        self._append(sent, what)
 
     def _append(self, sent: bytes, what: str) -> None:
-        """The capture gets this."""
+        """The capture gets this. What is added gets its line in the game's times when the program is told of it, if it is."""
         kept = self._write(sent)
         if kept < len(sent) and not self.game.capture.at_limit:
             self._has_lost = True
-        if kept:
+        if kept and not (what == ADDED and self.attending.notes):
             self.game.times.happened(what, kept)
 
     def _write(self, sent: bytes) -> int:

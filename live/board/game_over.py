@@ -55,6 +55,7 @@ class Listening(AttendedGame):
         self._played = 0  # moves since the end, as far as they are known
         self._is_paused = False
         self._tick = guard.after(TICK, self._each_second)
+        self._shows()
         if self._from_the_start:
             self.attend(game.options.of_board(), self._from)
         elif before is None or before.attending.is_closed:
@@ -85,6 +86,13 @@ class Listening(AttendedGame):
             self.game.capture.write()
             self.game.times.wake()
         self.wake()
+        if self._screen.shows_time:
+            self._shows()
+
+    def _shows(self) -> None:
+        """That the game is over, and what somebody must look at."""
+        over = "over, no result" if self._result == NO_RESULT else f"over {self._result}"
+        self._screen.over(f"{self.looks.short}; {over}" if self.looks.open else over)
 
     def _reports(self, at: float, texts: List[str]) -> None:
         for line in filter(None, map(line_of, texts)):
@@ -111,6 +119,7 @@ class Listening(AttendedGame):
             keep_looks(self.game.paths, self.looks)
         except OSError as error:
             self._screen.say(f"{self.game.paths.look} can't be written ({text_of(error)})")
+        self._shows()
         self._hears.looked()
 
     def pause(self) -> None:
@@ -123,11 +132,18 @@ class Listening(AttendedGame):
 
     def finish(self, done: Callable[[str], None]) -> None:
         """What is still to be answered comes into the capture."""
-        self.settle(lambda: done(unwritten_of(self.game, Made())))
+
+        def ended() -> None:
+            if self.looks.open:
+                self._screen.say(f"in {self.game.paths.pgn}: {self.looks.all}")
+            done(unwritten_of(self.game, Made()))
+
+        self.settle(ended)
 
     def look_again(self) -> None:
         """The alarms that are kept have changed."""
         self.looks = kept_looks(self.game.paths)
+        self._shows()
 
     def says(self, text: str) -> None:
         """A child process has ended, and is started again."""

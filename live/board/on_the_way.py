@@ -61,7 +61,7 @@ class OnTheWay:
 
     def _passes(self, what: str, sent: bytes) -> None:
         now = self._games.attended
-        if what in NOTED:
+        if what in NOTED and not (now and now.attending.notes):
             self._games.game.times.happened(what)
         if now is None:
             self.left(sent)

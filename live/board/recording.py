@@ -25,7 +25,7 @@ from live.game.looks import Look, Looks
 from live.game.making_pgn import Made, Maker
 from live.game.opening import Opened
 from live.game.report import Clock, Differs, Event, Fault, Line, Move, Picture, Position, Recovered, Result, line_of
-from live.game.times import ADDED, BACK, LOOKED, OVER, REOPENED
+from live.game.times import ADDED, BACK, HEARD, LOOKED, OVER, REOPENED
 from live.guard import Guard
 from live.steps import Resume, Steps
 from live.terminal.screen import Screen
@@ -97,10 +97,10 @@ class Recording(AttendedGame):
             self._tell_old()
         self.attend(self.game.options.of_live(), with_times=True, known=opened.old.lines)
         if self._old == front_of(self.game.paths, self.game.capture) != 0:  # nothing has come since plies were taken off
-            self._tell(BACK)
-            self._tell(REOPENED)
+            self.attending.tell(BACK)
+            self.attending.tell(REOPENED)
             self._goes_on()
-        elif opened.is_reopened:  # its times have it already
+        elif opened.is_reopened:  # as the times of the calls before say, if they could be written
             self.attending.tell(REOPENED)
             self._goes_on()
 
@@ -115,6 +115,9 @@ class Recording(AttendedGame):
 
     def _tell_old(self) -> None:
         """Shows what was played before this call."""
+        if self.course.is_given:  # perhaps an arbiter has typed its result just before
+            self._by_hand = self.game.times.added_last()
+            self._typed = self.course.result if self.course.result_at in self._by_hand else ""
         for news in self.course.news:
             self._screen.told(news.shown, True)
         self.course.news.clear()
@@ -125,17 +128,12 @@ class Recording(AttendedGame):
 
     # What the board sends.
 
-    def _keep(self, at: float, sent: bytes) -> None:
+    def _keep(self, at: float, sent: bytes, what: str = HEARD) -> None:
         unheard = self._guard.away.seconds - self._away
         if self.standing.was_away or unheard:
             self._comes_back(unheard)
         self._heard_at = at
-        super()._keep(at, sent)
-
-    def _tell(self, what: str, count: Optional[int] = None) -> None:
-        """This happens now, and is kept with the game's times."""
-        self.game.times.happened(what, count)
-        self.attending.tell(what, count=count)
+        super()._keep(at, sent, what)
 
     def _comes_back(self, unheard: float) -> None:
         """The board is heard again. Nobody listened for so many of the last seconds."""
@@ -254,7 +252,7 @@ class Recording(AttendedGame):
         """The board's cable may have been exchanged with that of one of these boards. The program keeps the suspicions."""
         self._suspects(others)
         for other in others:
-            self._tell(times.SUSPECT, other)
+            self.attending.tell(times.SUSPECT, count=other)
 
     def _suspects(self, others: Sequence[int]) -> None:
         self._suspected += [other for other in others if other not in self._suspected]
@@ -290,7 +288,7 @@ class Recording(AttendedGame):
         """Acknowledges the alarms. Returns the answer."""
         seen = acknowledged(self._alarms.acknowledge())
         self._suspected.clear()
-        self._tell(LOOKED)
+        self.attending.tell(LOOKED)
         self._screen.say(seen)
         self._tell_looks()
         return seen
@@ -381,7 +379,7 @@ class Recording(AttendedGame):
         if self._is_over or self._begins_anew or self._is_reopened:
             return
         if is_known and over.size <= front_of(self.game.paths, self.game.capture):  # its times don't tell that an arbiter has reopened it
-            self._tell(REOPENED)
+            self.attending.tell(REOPENED)
             return
         is_typed = self._typed == over.result and self._by_hand.start < over.size <= self._by_hand.stop
         self.end = self._by_hand.stop if is_typed else over.size  # with the picture that stands behind the sign of a result
@@ -448,9 +446,10 @@ class Recording(AttendedGame):
 
     def _note_end(self) -> None:
         size = self.game.capture.total if self.end is None else self.end
-        self.game.times.over(size)
-        if not self.attending.is_closed:
+        if self.attending.notes:
             self.attending.tell(OVER, count=size)
+        else:
+            self.game.times.over(size)
 
     def _all_is_heard(self) -> None:
         self._is_heard = self.end is None

@@ -3,6 +3,7 @@
 from __future__ import annotations
 
 import dataclasses
+import functools
 import os
 from dataclasses import dataclass
 from typing import TYPE_CHECKING, Callable, Optional, Tuple
@@ -158,12 +159,14 @@ class Single:
         if text in QUITS and not self.board.is_recorded:
             self.end()
             return
-        self.board.typed(text, self._answered)
+        self.board.typed(text, functools.partial(self._answered, self.board.is_recorded))
 
-    def _answered(self, answer: Answer) -> None:
-        """A typed line is answered. What was done is said already."""
+    def _answered(self, is_recorded: bool, answer: Answer) -> None:
+        """A typed line is answered. What was done to a game that is recorded is said already; to another one, it is in its log."""
         if answer[0] != DONE:
             self._screen.say(answer[1])
+        elif not is_recorded:
+            self._screen.show(answer[1])
 
     def refuses(self, text: str, error: Exception) -> None:
         """A line of the terminal raised an error."""
@@ -194,7 +197,8 @@ class Single:
         if self.board.trouble:
             return f"NOT RECORDED: {self.board.trouble}", None, True
         if state is None:
-            return "over", None, False
+            look = self.board.looks.short
+            return (f"{look}; over" if look else "over"), None, bool(look)
         since = None if state.kind is Kind.WAITS else state.since
         return state._replace(since=now).text(now), since, state.is_alarm
 

@@ -9,26 +9,30 @@ from dataclasses import dataclass
 from typing import Callable, Deque, List, Optional, Protocol, Tuple, Union
 
 from live.game import times
-from live.game.attended import CAPTURE, HOLD, KEEP, KEPT, NUMBER, TEXT, UNSEEN, WAITS, WAKE, Answer, Answers, entry
+from live.game.attended import CAPTURE, HOLD, KEEP, KEPT, LENT, NUMBER, TEXT, UNSEEN, WAITS, WAKE, Answer, Answers, entry
 from live.game.files import Capture
 from live.game.program import CHUNK, Child, HearsChild, Program
 from live.game.timed import Times
 from live.guard import Guard
-from live.loop import Callback, Loop, Timer
+from live.loop import Callback, Counting, Timer
 from live.refused import FAILED, Refused
 
 PIECE = 64 * 1024  # bytes of a capture without times that are told at once; with its times it is told as a whole
 LATER = 0.01  # seconds by which it is woken later than it has said: two times that are close need one wake
 OF_THE_LINE = (times.OPENED, times.ANSWERED, times.GONE, times.CALLED)
+OF_THE_PAST = (KEPT, CAPTURE, times.BEGIN, times.AWAY)  # with the answers to these no game gets bytes
+UNLINED = (*OF_THE_PAST, NUMBER, LENT, WAKE, TEXT, times.HEARD)  # these have no line in the game's times, or have it otherwise
 
 
 class Told:
-    """Something that was told: when, by the loop; what, and the bytes with it; and what is called once it is answered."""
+    """Something that was told: when, by the loop; what, with which number, and the bytes with it; when by the clock of the game's times;
+    whether it has its line there; and what is called once it is answered."""
 
-    __slots__ = ("at", "what", "sent", "thens")
+    __slots__ = ("at", "what", "sent", "count", "time", "is_noted", "thens")
 
-    def __init__(self, at: float, what: str, sent: bytes = b"") -> None:
-        self.at, self.what, self.sent = at, what, sent
+    def __init__(self, at: float, what: str, sent: bytes = b"", count: Optional[int] = None) -> None:
+        self.at, self.what, self.sent, self.count = at, what, sent, len(sent) if sent else count
+        self.time, self.is_noted = 0, what in UNLINED
         self.thens: List[Callback] = []
 
 
@@ -54,7 +58,11 @@ Part = Union[bytes, Tuple[int, int]]  # to be told: bytes, or those of the captu
 class Attending(Child):
     """Attends a board. The first `known` lines of the report are known.
 
-    If the child ends too soon, another one is told all that is kept, how the line is, and what wasn't answered."""
+    If the child ends too soon, another one is told all that is kept, how the line is, and what wasn't answered.
+
+    What it is told has its line in the game's times, if these are told: with the same time, and in the order in which the child
+    takes it. So a line waits until all that was told before is answered, since the game may get bytes then. When another child
+    takes its place, a call begins for both: that child doesn't know what the one before it had held, and says as one that begins."""
 
     def __init__(
         self, guard: Guard, program: Program, words: Tuple[str, ...], past: Optional[Past], hears: HearsAnswers, known: int = 0
@@ -69,8 +77,9 @@ class Attending(Child):
         self.keeps = False  # whether what the board sends is kept, as far as is known
         self._line: Tuple[str, ...] = ()  # what was told of the line
         self._number = ""  # of the game's board, if it was told
-        self._began = 0  # when its call began, by its clock
-        self._slept = -math.inf  # the seconds by which that clock is ahead of the loop's, which stands still while the computer sleeps
+        self._times = past.times if past else None  # which get the lines of what is told
+        self._clock = self._times.clock if self._times else Counting()
+        self._began = self._last = 0  # by this clock: when its call began, and when it was told something last
         self._away = guard.away.seconds
         self._due = math.inf  # when it is to be woken
         self._timer: Optional[Timer] = None  # which may come before that
@@ -85,23 +94,47 @@ class Attending(Child):
         """This happens now."""
         if self._guard.away.seconds > self._away:
             before, self._away = self._away, self._guard.away.seconds
-            self._tell(Told(self._guard.now(), times.STOPPED), int((self._away - before) * 1000))
+            self._tell(Told(self._guard.now(), times.STOPPED, count=int((self._away - before) * 1000)))
         if what in OF_THE_LINE:
             self._line = times.line_after(self._line, what)
         elif what == NUMBER:
             self._number = sent.decode("ascii")
-        self._tell(Told(self._guard.now(), what, sent), count)
+        self._tell(Told(self._guard.now(), what, sent, count))
+        self._note_lines()
         self._feed()
 
-    def _tell(self, told: Told, count: Optional[int] = None) -> None:
+    def _tell(self, told: Told) -> None:
+        if told.what not in OF_THE_PAST:
+            self._last = max(self._last, self._clock())
+        told.time = self._last
         self._told.append(told)
-        self._out.append(entry(self._milliseconds() - self._began, told.what, len(told.sent) if told.sent else count, told.sent))
+        self._out.append(entry(told.time - self._began, told.what, told.count, told.sent))
 
-    def _milliseconds(self) -> int:
-        """The time by a clock that counts on while the computer sleeps, and otherwise goes as the loop's."""
-        now = self._guard.now()
-        self._slept = max(self._slept, Loop.counting() - now)
-        return int((now + self._slept) * 1000)
+    @property
+    def notes(self) -> bool:
+        """Whether what it is told gets its lines in the game's times."""
+        return self._times is not None
+
+    def _note_lines(self, are_all: bool = False) -> None:
+        """What was told gets its line, up to the first that may bring bytes to the game; or all of it, since nothing is answered any
+        more."""
+        if self._times is None:
+            return
+        for told in self._told:
+            if told.what not in OF_THE_PAST:
+                self._times.reaches(told.time)
+            if not told.is_noted:
+                told.is_noted = True
+                self._times.happened(told.what, told.count)
+            if not are_all and told.what not in OF_THE_PAST:
+                return
+
+    def note_no_more(self) -> None:
+        """What it is told from now on gets no lines."""
+        self._note_lines(are_all=True)
+        if self._times:
+            self._times.left(self._away)
+            self._times = None
 
     def then(self, done: Callback) -> None:
         """Calls this when all that was told so far is answered."""
@@ -147,6 +180,7 @@ class Attending(Child):
     def take(self) -> bytes:
         """Ends it. Returns what the board has sent and was neither kept nor known to be another board's."""
         self.close()
+        self.note_no_more()
         thens, left = self._thens(), self.undecided()
         self._told.clear()
         self._held.clear()
@@ -164,12 +198,12 @@ class Attending(Child):
     # How it begins.
 
     def _begins_anew(self) -> None:
+        self._note_lines(are_all=True)
         thens, left = self._thens(), self.undecided()
         self._told.clear()
         self._out.clear()
         self._held.clear()
         self._answers = Answers(self._reported)
-        self._began = self._milliseconds()
         self._tell_past()
         if self._number:
             self._tell(Told(self._guard.now(), NUMBER, self._number.encode()))
@@ -180,28 +214,28 @@ class Attending(Child):
         if self._gets_text:
             self._tell(Told(self._guard.now(), TEXT))
         self._told[-1].thens += thens
+        self._note_lines()
 
     def _tell_past(self) -> None:
         """What is kept, and that a call begins."""
         past, now = self._past, self._guard.now()
         size = 0 if past is None else past.capture.size - past.start
-        away: Optional[int] = None
-        if past and past.times:
-            away = past.times.take_away()
-            content = past.times.content() if size > 0 else b""
-            if content:
-                self._tell(Told(now, KEPT, content))
+        begun = self._times.attended() if self._times else None
+        self._began = self._last = begun.at if begun else self._clock()
+        if begun and begun.content and size > 0:
+            self._tell(Told(now, KEPT, begun.content))
         if past:
             piece = size if self._told else PIECE
             for at in range(past.start, past.capture.size, piece or PIECE):
                 until = min(at + piece, past.capture.size)
-                self._tell(Told(now, CAPTURE), until - at)
+                self._tell(Told(now, CAPTURE, count=until - at))
                 self._out.append((at, until))
-        self._tell(Told(now, times.BEGIN), size)
-        if away is not None:
-            self._tell(Told(now, times.AWAY), away)
+        self._tell(Told(now, times.BEGIN, count=size))
+        if begun and begun.away is not None:
+            self._tell(Told(now, times.AWAY, count=begun.away))
         if past and past.capture.pending:
             self._tell(Told(now, times.ADDED, past.capture.pending))
+            self._told[-1].is_noted = True  # when it came
 
     def _writes(self, number: int) -> bool:
         if not self._out:
@@ -233,6 +267,7 @@ class Attending(Child):
                 return  # meanwhile
             told = self._told.popleft()
             self._take(told, answer)
+            self._note_lines()
             for then in told.thens:
                 then()
 

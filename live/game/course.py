@@ -16,6 +16,7 @@ class Course:
         self.plies: List[Move] = []
         self.fens: List[str] = []  # of the start and after each ply, as far as they are reported
         self.result = "*"
+        self.result_at = 0  # the offset of the line that gave it
         self.recovered: List[str] = []  # the pairs that were recovered
         self.placement = ""  # what the board shows
         self.clock: Optional[Clock] = None  # what the clocks show, if it was reported
@@ -46,7 +47,7 @@ class Course:
     def _take_change(self, change: Change, offset: int) -> None:
         self.news.append(change)
         if isinstance(change, Result):
-            self.result = change.outcome
+            self.result, self.result_at = change.outcome, offset
             return
         if change.corrects and self.plies:
             self.plies.pop()
@@ -63,6 +64,11 @@ class Course:
         del self.plies[kept:], self.ends[kept:], self.fens[kept + 1 :]
         self.result = result
         return gone
+
+    @property
+    def is_given(self) -> bool:
+        """Whether it has a result that its last move didn't give."""
+        return self.result != "*" and self.result_at not in self.ends[-1:]
 
     def standing(self) -> Sequence[Event]:
         """The fewest lines that give the board's state."""

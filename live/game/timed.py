@@ -2,6 +2,8 @@
 
 What happens is noted by the loop, and may be written by a worker too, while a typed line is obeyed: so a lock. While a game is
 recorded the loop doesn't wait for it.
+
+While a program attends the board of the game, what it is told has the same time here, and stands in the same order.
 """
 
 from __future__ import annotations
@@ -12,12 +14,13 @@ import math
 import os
 import threading
 import time
+from dataclasses import dataclass
 from typing import Callable, List, Optional, Protocol, Tuple
 
 from live.game import times
 from live.game.began import Began, began_line, keep_began, this_start
 from live.game.files import LARGEST, Capture, Paths, existing, open_regular, part_of, put_in_place, remove, sync_folder, text_of
-from live.loop import Away, Callback, Loop
+from live.loop import Away, Callback, Counting, Loop
 
 TRIES_AGAIN = 1.0  # seconds after a write has failed
 MOST_WAIT = 1000  # events that wait for the first bytes of a capture
@@ -43,6 +46,16 @@ def milliseconds() -> int:
     return int(Loop.counting() * 1000)
 
 
+@dataclass(frozen=True)
+class Begun:
+    """A call begins in which a program attends the board: when, by the clock; for how many milliseconds nobody was there before, if
+    that is known; and all lines from before."""
+
+    at: int
+    away: Optional[int]
+    content: bytes
+
+
 class Times:
     """When the bytes of a game's capture came, and what else happened."""
 
@@ -53,8 +66,13 @@ class Times:
         self._says: Callable[[str], None] = lambda text: None
         self._told: List[str] = []  # to be said
         self.unexpected: Tuple[str, ...] = ()  # errors that aren't the system's
+        self.clock = Counting()  # of all that is noted, and of what a program is told that attends the board
         self._events: List[times.Happened] = []  # to be written, by the clock's own time
-        self._began: Optional[int] = None  # when the call began, by the clock; nothing is noted before
+        self._from = 0  # when the call began to which the first of them belongs, by the clock
+        self._began: Optional[int] = None  # when this call began; nothing is noted before
+        self._begun: List[times.Happened] = []  # that it begins, as long as nothing has happened in it
+        self._is_attended = False  # whether a program attends the board that is told what is noted
+        self._at = 0  # when the last thing happened, by the clock
         self._was_away = 0.0
         self._line: Tuple[str, ...] = ()  # what was last noted of the line
         self.leave: Callback = self.close  # ends it
@@ -65,7 +83,6 @@ class Times:
         self._is_aside = False  # whether the capture is just becoming another one
         self._is_foreign = False  # whether there is a file that must be kept beside
         self._away: Optional[int] = None  # milliseconds since its last line, if known
-        self._is_away_told = False  # to the program
         self._trouble = ""  # why it can't be written
         self._is_lost = False  # and that something wasn't
         self._again = -math.inf  # when it is tried again
@@ -155,49 +172,90 @@ class Times:
         with self._lock:
             self._look_once()
             away = self._away if self._began is None else 0
-            self._away, self._is_away_told = away, False
-            self._begin_at(milliseconds(), self._capture.total if size is None else size, away)
+            self._begin_at(self.clock(), self._capture.total if size is None else size, away)
 
     def _begin_at(self, now: int, size: int, away: Optional[int]) -> None:
-        begun: List[Tuple[str, Optional[int]]] = [(times.BEGIN, size)]
+        self._begun = self._beginning(now, size, away, self._line)
+        self._began, self._at, self._away = now, max(self._at, now), away
+        at = 0 if self._is_aside else len(self._events)  # what has come since then is of this call
+        self._events[at:at] = self._begun
+        self._is_aside = False
+
+    def _beginning(self, now: int, size: int, away: Optional[int], line: Tuple[str, ...]) -> List[times.Happened]:
+        begun: List[times.Happened] = [(now, times.BEGIN, size)]
         if away is not None:
-            begun.append((times.AWAY, away))
-        begun += [(what, None) for what in self._line]
-        self._began, self._is_aside = now, False
-        self._events[:0] = [(now, what, count) for what, count in begun]
+            begun.append((now, times.AWAY, away))
+        return [*begun, *((now, what, None) for what in line)]
 
-    def take_away(self) -> Optional[int]:
-        """For how many milliseconds nobody was there before this call, or before it went on from another capture; None if that isn't
-        known. It is 0 when asked again."""
-        is_told, self._is_away_told = self._is_away_told, True
-        return 0 if is_told else self._away
+    def attended(self) -> Begun:
+        """From now on a program attends the board. For it a call begins: so one begins here too, unless nothing has happened in the
+        present one. What it is told after that has lines here, and how the line is belongs to it."""
+        is_free = self._lock.acquire(blocking=False)
+        try:
+            if is_free and self._begun and self._events[-len(self._begun) :] == self._begun:
+                del self._events[-len(self._begun) :]
+            else:
+                now = max(self.clock(), self._at)
+                self._began, self._at, self._away = now, now, now - self._at
+            content = self._content() if is_free else b""
+            self._begun = self._beginning(self._at, self._capture.total, self._away, ())
+            self._events += self._begun
+            self._is_attended = True
+            return Begun(self._at, self._away, content)
+        finally:
+            if is_free:
+                self._lock.release()
 
-    def content(self) -> bytes:
-        """What the file has; empty if that isn't known, or is just being changed."""
-        if not self._size or self._is_foreign or not self._lock.acquire(blocking=False):
+    def reaches(self, at: int) -> None:
+        """What is noted next happened at this time, with what a program was told then."""
+        self._at = max(self._at, at)
+        self._begun = []
+
+    def left(self, away: float) -> None:
+        """The program attends the board no more. It was told of so many seconds in which the recorder was stopped."""
+        self._is_attended, self._was_away = False, away
+
+    def _content(self) -> bytes:
+        """All lines, those too that aren't written yet, unless some before them are lost; empty if they aren't known."""
+        if self._is_foreign or (self._is_lost and not self._size):
             return b""
         try:
-            number = open_regular(self._path, os.O_RDONLY)
-            try:
-                return part_of(number, 0, self._size)
-            finally:
-                os.close(number)
+            return self._written() + times.lines([] if self._is_lost else self._events, self._from)
         except OSError:
             return b""
+
+    def added_last(self) -> range:
+        """The bytes of the capture that were added last, if that is known."""
+        with self._lock:
+            return times.added_last(self._content())
+
+    def _written(self) -> bytes:
+        """What the file has, or will begin with."""
+        if not self._size:
+            first = self._capture.bytes(0, min(times.HEADED, self._capture.size))
+            return times.heading(self.generation, first) if first and self._events else b""
+        number = open_regular(self._path, os.O_RDONLY)
+        try:
+            return part_of(number, 0, self._size)
         finally:
-            self._lock.release()
+            os.close(number)
 
     def note(self, what: str, count: Optional[int] = None) -> None:
-        """This has happened."""
+        """This has happened: now, or with what a program was told that attends the board."""
         if self._began is None:
             return
-        now = milliseconds()
-        if self._turns and self._turns.away.seconds > self._was_away:
-            before, self._was_away = self._was_away, self._turns.away.seconds
-            self._events.append((now, times.STOPPED, int((self._was_away - before) * 1000)))
+        if not self._is_attended:
+            self._at = max(self._at, self.clock())
+            self._note_away()
         if count is None:
             self._line = times.line_after(self._line, what)
-        self._events.append((now, what, count))
+        self._begun = []
+        self._events.append((self._at, what, count))
+
+    def _note_away(self) -> None:
+        if self._turns and self._turns.away.seconds > self._was_away:
+            before, self._was_away = self._was_away, self._turns.away.seconds
+            self._events.append((self._at, times.STOPPED, int((self._was_away - before) * 1000)))
 
     def happened(self, what: str, count: Optional[int] = None) -> None:
         """The same, in the loop: it is written at once; what comes often, within a second."""
@@ -267,19 +325,20 @@ class Times:
         events = self._events[:]
         first = b"" if self._size else self._capture.bytes(0, min(times.HEADED, self._capture.size))
         heading = b"" if self._size else times.heading(self.generation, first)
-        content = heading + times.lines(events, self._began or 0)
+        content = heading + times.lines(events, self._from)
         if self._size + len(content) > LARGEST:
             raise OSError(errno.EFBIG, "it has 64 MiB")
         self._keep_begins(events, self._size + len(heading))
         if os.write(number, content) < len(content):
             raise OSError(errno.ENOSPC, os.strerror(errno.ENOSPC))
         self._size += len(content)
-        late = milliseconds() - events[-1][0] if events else 0
+        late = self.clock() - events[-1][0] if events else 0
         if late >= LATE:  # the file is as old as its last line: from there on nobody is known to have been there
             at = time.time_ns() - late * 1_000_000
             with contextlib.suppress(OSError):  # of another user's file
                 os.utime(number, ns=(at, at))
         del self._events[: len(events)]
+        self._from = max((at for at, what, _ in events if what == times.BEGIN), default=self._from)
         if self._is_lost:
             self._told.append(f"{self._path} is written again")
         self._trouble, self._is_lost = "", False
@@ -289,7 +348,7 @@ class Times:
         lines = b""
         for number, (at, what, _) in enumerate(events):
             if what == times.BEGIN:
-                begin = (self.generation, size + len(times.lines(events[:number], self._began or 0)))
+                begin = (self.generation, size + len(times.lines(events[:number], self._from)))
                 lines += began_line(begin, Began(at, this_start()))
         if lines:
             keep_began(self._paths.began, lines)
@@ -314,9 +373,9 @@ class Times:
 
     def _begin_again(self) -> None:
         """What was lost has no times: from here on they count anew."""
-        now = self._events[0][0] if self._events else milliseconds()
+        now = self._events[0][0] if self._events else self.clock()
         grown = sum(count or 0 for _, what, count in self._events if what in (times.HEARD, times.ADDED))
-        self._begin_at(now, max(0, self._capture.total - grown), 0)
+        self._events[:0] = self._beginning(now, max(0, self._capture.total - grown), 0, self._line)
 
     def _fails(self, error: Exception) -> None:
         """Whatever it is: the game goes on."""
@@ -366,7 +425,7 @@ class Times:
                     del self._told[told:]
             except Exception as error:
                 self._fails(error)
-            self._begin_at(milliseconds(), self._capture.total, 0)
+            self._begin_at(self.clock(), self._capture.total, 0)
 
     def _back_from(self, before: str) -> None:
         path, kept = self._path, times_of(before)

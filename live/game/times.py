@@ -47,19 +47,12 @@ def line(event: Happened) -> bytes:
 
 
 def lines(events: Sequence[Happened], began: int = 0) -> bytes:
-    """The lines of some events, of a call that began then. What came within a millisecond came at once."""
-    text, heard, heard_at = "", 0, 0  # what was heard then, and has no line yet
+    """The lines of some events: those of a call that began then, and of calls that begin among them."""
+    text = ""
     for at, what, count in events:
-        at = at - began if at > began else 0
-        if heard and (what != HEARD or at != heard_at):
-            text += f"{heard_at} {HEARD} {heard}\n"
-            heard = 0
-        if what == HEARD:
-            heard, heard_at = heard + (count or 0), at
-        else:
-            text += f"{at} {what}\n" if count is None else f"{at} {what} {count}\n"
-    if heard:
-        text += f"{heard_at} {HEARD} {heard}\n"
+        began = at if what == BEGIN else began
+        since = at - began if at > began else 0
+        text += f"{since} {what}\n" if count is None else f"{since} {what} {count}\n"
     return text.encode()
 
 
@@ -144,6 +137,17 @@ def _events(content: Content, start: int) -> Iterator[Tuple[int, str, int]]:
 def _covers(before: int, what: str, count: int) -> int:
     """How many bytes are accounted for, after an event."""
     return count if what == BEGIN else before + count if what in (HEARD, ADDED) else before
+
+
+def added_last(content: Content) -> range:
+    """The bytes of the capture that were added last; none if that isn't known."""
+    found, last = kept(content), range(0)
+    if isinstance(found, Kept):
+        covered = found.size
+        for _, what, count in _events(content, found.begins):
+            before, covered = covered, _covers(covered, what, count)
+            last = range(before, covered) if what == ADDED else last
+    return last
 
 
 def cut(content: Content, found: Kept, size: int, first: Content) -> bytes:

@@ -120,6 +120,9 @@ class RowScreen(Screen):
     def old(self, text: str) -> None:
         """Doesn't repeat what was played before: the table has the last move, and the log has all moves."""
 
+    def over(self, text: str) -> None:
+        """Doesn't show it here: the table does."""
+
     def move(self, text: str) -> None:
         if self._held is not None and text.startswith(A_RESULT):  # the answer has it, and the state would repeat it
             self._last.append(text)

@@ -120,6 +120,10 @@ class Screen:
             self._tell_state(self._clock(), text, is_news)
         self.on_change()
 
+    def over(self, text: str) -> None:
+        """Shows that the game is over, while its board is still watched."""
+        self.state(text, text)
+
     def _tell_state(self, now: float, text: str, is_news: bool) -> None:
         """Shows it if it has changed; on a terminal, also after it has lasted for a while."""
         # A result that was just shown as a line needs no second one.

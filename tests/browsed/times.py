@@ -81,9 +81,14 @@ def end_of(page: Page) -> Optional[int]:
     return None if end is None else int(end)
 
 
+def ends_in(found: Read) -> List[int]:
+    """Where the game ended, in all calls."""
+    return [end for call in range(len(found.calls)) for end in found.numbers("over", call)]
+
+
 def until_ends(stage: Hall, page: Page, ends: List[Optional[int]], lost: bool = False) -> Read:
     """What the browser has of the first board's times, as soon as these ends stand in them."""
-    stage.until(lambda: until_kept(stage, page, lost).numbers("over") == ends, f"the ends {ends}")
+    stage.until(lambda: ends_in(until_kept(stage, page, lost)) == ends, f"the ends {ends}")
     return until_kept(stage, page, lost)
 
 
@@ -121,8 +126,8 @@ def times_of_a_game(folder: pathlib.Path) -> None:
         stage.until_dumped(page, port)
         answered(stage, page, "0-1", "the result 0-1")
         again = until_ends(stage, page, [end_of(page)], lost=True)  # what came after the first end has no times any more
-        same((len(again.calls), again.numbers("over", 0), again.total(0)), (2, [], found.numbers("over")[0]))
-        assert again.numbers("over")[0] > found.numbers("over")[0], again
+        same((len(again.calls), again.numbers("over", 0), again.total(0)), (3, [], found.numbers("over")[0]))
+        assert ends_in(again)[0] > found.numbers("over")[0], again
         same(said_of_times(page), [])
 
 
@@ -173,7 +178,7 @@ def times_of_the_way_back(folder: pathlib.Path) -> None:
         found = until_times(stage, chosen, "board 1", lambda read: read.gone_back == 1, "the new times")
         before = in_folder(stage, chosen, "board 1.before-1")
         same((before.gone_back, before.numbers("begin")), (0, [0]))
-        same((found.words()[:4], found.numbers("away")), (["begin", "away", "opened", "back"], [0]))
+        same((found.words()[:6], found.numbers("away")), (["begin", "away", "opened", "added", "back", "reopened"], [0]))
         answered(stage, page, "1-0", "the result 1-0")
         until_over(stage, page)
         until_ends(stage, page, [end_of(page)])
@@ -183,7 +188,7 @@ def times_of_the_way_back(folder: pathlib.Path) -> None:
         stage.until_moves(page, ["e4", "c5", "Nf3"])
         found = until_ends(stage, page, [])
         same((found.gone_back, len(found.calls), end_of(page), found.words().count("back")), (1, 1, None, 2))
-        same(found.words().count("reopened"), 1)
+        same(found.words().count("reopened"), 2)
         same(said_of_times(page), [])
 
 

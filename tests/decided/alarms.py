@@ -71,6 +71,9 @@ class Child:
     def tell(self, what: str, sent: bytes) -> None:
         self.told.append(sent)
 
+    def note_no_more(self) -> None:
+        """The times of the game get their lines otherwise."""
+
 
 def told_once() -> None:
     """While the pieces are set up, the program that attended the game is told each byte once: what was undecided as the game was over

@@ -42,7 +42,7 @@ def files() -> None:
 
 
 def written() -> None:
-    """What comes within a millisecond came at once."""
+    """Each event has a line, and its time counts from the beginning of its call."""
     for began, events, expected in cases("times", "written"):
         same(expected, times.lines([(at, what, count) for at, what, count in events], began).decode(), expected)
 
@@ -54,6 +54,17 @@ def cuts() -> None:
         same(f"{size} bytes", times.cut(text.encode(), found_in(text), size, b"a"[:size]).decode(), whole(left))
 
 
+def added() -> None:
+    """Which bytes were added last: a call says anew how many there are, and what stands behind the events doesn't count."""
+    front = f"{OF_A}0 begin 1\n12 heard 67\n"
+    for rest, begins, ends in (
+        ("", 0, 0), ("20 added 30\n", 68, 98), ("20 added 30\n21 heard 5\n30 added 7\n31 heard 9\n", 103, 110),
+        ("20 added 30\n0 begin 200\n5 added 4\n", 200, 204), ("20 added 30\n0 begin 98\n", 68, 98), ("20 added 30\n21 added", 68, 98),
+    ):  # fmt: skip
+        same(rest, times.added_last((front + rest).encode()), range(begins, ends))
+    same("no file", len(times.added_last(b"")), 0)
+
+
 def told() -> None:
     """A file that is torn, or tells of more bytes or fewer."""
     for text, have, expected in cases("times", "told"):
@@ -62,4 +73,4 @@ def told() -> None:
         same(text, seen, [f"{one} Nothing is to be done" for one in expected])
 
 
-TABLES = [digests, files, written, cuts, told]
+TABLES = [digests, files, written, cuts, added, told]

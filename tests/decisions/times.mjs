@@ -107,7 +107,7 @@ export function line(counts) {
     [[], "opened", ["opened"]],
     [["opened"], "answered", ["opened", "answered"]],
     [["opened", "answered"], "took", ["opened", "answered"]],
-    [["opened"], "gone", []],
+    [["opened"], "gone", ["gone"]],
     [["opened", "answered"], "called", []],
   ]) {
     counts.same(`${words} ${what}`, lineAfter(words, what), after);

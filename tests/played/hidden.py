@@ -21,6 +21,7 @@ from live.broadcast import broadcast
 from live.game import timed
 loop.Loop.now = staticmethod(lambda: time.monotonic() + float(ahead.read_text()))
 timed.milliseconds = lambda: int((loop.Loop.counting() + float(ahead.read_text())) * 1000)
+loop.Counting.__call__ = lambda self: timed.milliseconds()
 def notes(name):
     real, noted = getattr(broadcast.OneGame, name), {}
     def called(self, *words):

@@ -29,7 +29,7 @@ from played.stage import (
     until_line,
 )
 
-NUMBERED = ("begin", "away", "heard", "added", "stopped", "asked", "over")
+NUMBERED = ("begin", "away", "heard", "added", "stopped", "asked", "over", "suspect")
 ALONE = ("opened", "answered", "gone", "called", "took", "ok", "back", "reopened")
 NOTHING = "Nothing is to be done"
 OTHER = "other.times"
@@ -166,7 +166,7 @@ def times_of_the_way_back(folder: pathlib.Path) -> None:
     same(stop(live), 0)
     before, found = accounted(f"{live.name}.before-1"), accounted(live.name)
     same((before.gone_back, before.numbers("begin"), found.gone_back), (0, [0], 1))
-    same(found.words()[:3], ["begin", "away", "opened"])
+    same(found.words()[:5], ["begin", "away", "back", "reopened", "opened"])
     same(found.numbers("away"), [0])
     again = go_on(board, live, typed=True)
     until_line(again, words.AGREES)
@@ -248,8 +248,9 @@ def times_asleep(folder: pathlib.Path) -> None:
     same(stop(live), 0)
     found = accounted(live.name)
     same(found.numbers("stopped"), [35_000])
-    same(sorted({at for at, _, _ in found.calls[0]}), [0, 35_000])
-    same([at for at, word, _ in found.calls[0] if word == "stopped"], [35_000])
+    slept = found.words().index("stopped")
+    times = [at for at, _, _ in found.calls[0]]  # which go on as the loop's clock while the other one stands still
+    same((times[slept - 1] < 35_000, times[slept] >= 35_000), (True, True))
 
 
 # ---- What stands there instead ----

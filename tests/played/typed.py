@@ -19,6 +19,7 @@ from played.stage import (
     bytes_of,
     ended,
     go_on,
+    kill,
     movetext,
     rest,
     same,
@@ -184,6 +185,53 @@ def result_given_again(folder: pathlib.Path) -> None:
     board.play("b5a4")
     until_line(live, "LOOK after 3. Bb5: 2 moves were made")
     same(movetext(live.name), RUY_TEXT.replace("*", "0-1"))
+    until_line(live, "LOOK after 3. Bb5; over 0-1\n")
+    live.type("q")
+    same(ended(live), 0)
+    same(live.says(f"in {live.name}.pgn: LOOK after 3. Bb5: 2 moves were made, and the game is over: 0-1\n"), True)
+
+
+def look_named_at_the_set_up(folder: pathlib.Path) -> None:
+    """The same game is looked at, and has another alarm when its pieces are set up: that ends the recording, which names it."""
+    board, live = begin_game(folder, typed=True)
+    live.type("1-0")
+    until_game(live.name, "1. e4 e5 1-0")
+    board.play("g1f3")
+    until_line(live, "over 1-0\n")
+    board.play("b8c6")
+    until_line(live, "LOOK after 1... e5; over 1-0\n")
+    answered(live, "ok", "acknowledged: LOOK after 1... e5")
+    until_line(live, "over 1-0\n", 3)
+    board.play("f1b5")
+    until_line(live, "LOOK after 1... e5; over 1-0\n", 2)
+    board.set_up([])
+    same(ended(live), 0)
+    same(live.says(f"in {live.name}.pgn: LOOK after 1... e5: 3 moves were made, and the game is over: 1-0\n"), True)
+
+
+def typed_before_a_restart(folder: pathlib.Path) -> None:
+    """The recorder is killed within the ten seconds of a typed result: the one that begins again knows that it was typed. That of mate it
+    isn't, though the moves were."""
+    board, live = begin_game(folder, typed=True)
+    live.type("1-0")
+    until_game(live.name, "1. e4 e5 1-0")
+    until(lambda: b" added " in bytes_of(f"{live.name}.times"), "the line of what was typed")
+    kill(live)
+    again = go_on(board, live)
+    until_line(again, "ends in 10 seconds; if the result was typed by mistake, type *")
+    until_line(again, f"{live.name} is over: its result was given")
+    same(ended(again), 0)
+    same(movetext(live.name), "1. e4 e5 1-0")
+    (folder / "mate").mkdir()
+    board, live = begin_game(folder / "mate", typed=True)
+    live.type("Qh5 Nc6 Bc4 Nf6 Qxf7#")
+    until_game(live.name, "1. e4 e5 2. Qh5 Nc6 3. Bc4 Nf6 4. Qxf7# 1-0")
+    until(lambda: b" added " in bytes_of(f"{live.name}.times"), "the line of what was typed")
+    kill(live)
+    again = go_on(board, live)
+    until_line(again, "ends in 10 seconds, unless the result changes")
+    until_line(again, f"{live.name} is over: it has a result")
+    same(ended(again), 0)
 
 
 def corrected_after_it(folder: pathlib.Path) -> None:
@@ -310,6 +358,8 @@ CASES = [
     result_by_mistake,
     corrected_after_it,
     result_given_again,
+    look_named_at_the_set_up,
+    typed_before_a_restart,
     unplugged_after_it,
     no_text,
     without_moves,

@@ -83,9 +83,12 @@ class Seat:
 class Tables:
     """The tables of a hall, and the call that records them."""
 
-    def __init__(self, folder: pathlib.Path, count: int = BOARDS, serials: bool = False, shift: int = 0) -> None:
-        """The table says each board's serial number, where `serials`; its cable is the one `shift` places on."""
-        self._folder, self.now = folder, stopwatch()
+    def __init__(
+        self, folder: pathlib.Path, count: int = BOARDS, serials: bool = False, shift: int = 0, start: Sequence[object] = ()
+    ) -> None:
+        """The table says each board's serial number, where `serials`; its cable is the one `shift` places on. `start` are words that
+        start the call."""
+        self._folder, self._start, self.now = folder, start, stopwatch()
         places = {n: (n + shift - 1) % count + 1 for n in range(1, count + 1)}
         self.seats: Dict[int, Seat] = {n: Seat(folder / f"board{place}", n, self.now) for n, place in places.items()}
         Stage.boards += self.seats.values()  # type: ignore[arg-type]
@@ -96,7 +99,7 @@ class Tables:
 
     def record(self) -> Live:
         """Starts the call, or starts it again."""
-        self.live = Live(self._folder / "round.csv", self._folder / "games", program=ROUND, typed=True)
+        self.live = Live(self._folder / "round.csv", self._folder / "games", program=ROUND, typed=True, start=self._start)
         return self.live
 
     def begun(self) -> None:

@@ -5,7 +5,7 @@ import { STOPPED } from '../game/times.js';
 
 export class Attendant {
   /**
-   * `hears` gets told(entry) for what is told, { word, given, at, now }; answered(entry, answer) in the same order; and wake() when
+   * `hears` gets told(entry) for what is told, { word, given, at, now, isNoted }; answered(entry, answer) in the same order; and wake() when
    * the process is to be woken. `began` is when its call begins, by the clock that counts on.
    */
   constructor(program, guard, options, hears, began = guard.counted()) {
@@ -13,6 +13,7 @@ export class Attendant {
     this.guard = guard;
     this.hears = hears;
     this.began = began;
+    this.last = began; // when it was told something last
     this.wasAway = guard.away();
     this.timer = null;
     this.isLeft = false;
@@ -27,12 +28,15 @@ export class Attendant {
     this.send(word, given, at);
   }
 
-  /** This happens, or is from the calls before. An error in the process ends the recording. */
-  send(word, given = null, at = this.began) {
+  /**
+   * This happens, or is from the calls before, and may be noted in the game's times already. An error in the process ends the recording.
+   */
+  send(word, given = null, at = this.began, isNoted = false) {
     if (this.isLeft || this.guard.ended) return;
-    const entry = { word, given, at, now: this.guard.now() };
+    this.last = Math.max(at, this.last);
+    const entry = { word, given, at: this.last, now: this.guard.now(), isNoted };
     this.hears.told(entry);
-    const asked = this.program.tell(this.key, Math.max(0, at - this.began), word, given);
+    const asked = this.program.tell(this.key, this.last - this.began, word, given);
     this.guard.call(() => asked.then((answer) => this.answered(entry, answer), (error) => this.fails(error)));
   }
 

@@ -1,5 +1,8 @@
 // Has the program attend the board of a game: it is told what happens, and decides. What it gives to the game is kept before
 // anything of the answer is shown; what it sends to the board goes out at once.
+//
+// What it is told has its line in the game's times, with the same time, and in the order in which the program takes it. So a line waits
+// until all that was told before is answered, since the game may get bytes then.
 
 import { ADDED, AWAY, BEGIN, GONE, HEARD, OPENED } from '../game/times.js';
 import { KEEP, KEPT, LENT, NUMBER, OTHER, TEXT, WAKE } from '../game/attended.js';
@@ -8,6 +11,9 @@ import { Attendant } from './attendant.js';
 
 const MOST_HELD = 1 << 20; // bytes that no game has, as in the program
 const OPENS = 0.2; // seconds in which a recorder that is begun may get its line
+const CAPTURE = 'capture';
+const OF_THE_PAST = [KEPT, CAPTURE, BEGIN, AWAY]; // with the answers to these no game gets bytes
+const UNLINED = [...OF_THE_PAST, NUMBER, LENT, WAKE, TEXT, HEARD]; // these have no line in the times, or have it otherwise
 
 const textBytes = (text) => new TextEncoder().encode(text);
 
@@ -25,7 +31,6 @@ export class Attending {
     this.guard = guard;
     this.hears = hears;
     this.attendant = null;
-    this.isOpen = false; // the line, as the program was told
     this.epoch = 0; // how often the lines were heard from the first one on
     this.lines = [];
     this.heard = 0; // lines that were heard in this epoch
@@ -33,6 +38,7 @@ export class Attending {
     this.shown = 0; // the last of them whose answer was shown
     this.pending = []; // answers that wait until the capture's first `mark` bytes are kept
     this.isShowing = false;
+    this.unanswered = []; // entries
     this.held = []; // entries with what the board has sent and no game has
     this.waiting = []; // those who wait until an entry's answer is shown
     this.texts = []; // those who wait for the text of the game
@@ -43,15 +49,15 @@ export class Attending {
 
   /** Attends the board of this capture from now on. All that it has may be shown. */
   take(capture, times) {
+    this.noteLines(true);
+    this.unanswered = [];
     this.capture = capture;
     this.times = times;
     this.kept = capture.size; // bytes that may be shown
     this.known = capture.size; // bytes whose lines are heard again with the next `begin`
     this.isAnew = true;
-    this.isHistory = this.attendant === null; // whether its bytes came in the calls before; else the board has just shown them
-    this.before = this.isHistory ? () => this.times.before : () => '';
-    this.began = () => this.times.began;
-    this.awayFor = () => this.times.awayFor;
+    // whether its bytes came in the calls before; else the board has just shown them
+    this.isHistory = this.attendant === null || times.before !== '';
   }
 
   /** The game has other options now: the capture is read anew, with the next `begin`. */
@@ -69,10 +75,10 @@ export class Attending {
 
   /** The next process goes on with what is kept: nobody was away but since the last of it. */
   goesOn() {
+    this.noteLines(true);
+    this.unanswered = [];
+    this.times.beginAgain();
     this.isHistory = true;
-    this.before = () => this.times.all;
-    this.began = () => this.guard.counted();
-    this.awayFor = () => Math.max(0, this.guard.counted() - this.times.last);
   }
 
   close() {
@@ -107,22 +113,22 @@ export class Attending {
       answered: (entry, answer) => this.answered(entry, answer),
       wake: () => this.tell(WAKE),
     };
-    const attendant = new Attendant(this.program, this.guard, options, hears, this.began());
+    const { began, before, begun, line } = this.times;
+    const attendant = new Attendant(this.program, this.guard, options, hears, began);
     this.attendant = attendant;
     this.lines = [];
     this.pending = [];
     this.held = [];
     this.leaveTexts();
-    const before = isHistory ? this.before() : '';
-    if (before) attendant.send(KEPT, textBytes(before));
-    if (isHistory && sent.length > 0) attendant.send('capture', sent);
-    attendant.send(BEGIN, isHistory ? sent.length : 0);
-    const away = this.awayFor();
-    if (away !== null) attendant.send(AWAY, away);
+    if (isHistory && before && sent.length > 0) attendant.send(KEPT, textBytes(before));
+    if (isHistory && sent.length > 0) attendant.send(CAPTURE, sent);
+    const tells = ([what, count]) => attendant.send(what, what === ADDED ? sent : count, began, true);
+    const isFirst = ([what]) => OF_THE_PAST.includes(what);
+    begun.filter(isFirst).forEach(tells);
     if (number) attendant.send(NUMBER, textBytes(number));
-    if (isBegun || this.isOpen) attendant.send(this.isOpen ? OPENED : GONE);
-    else this.guard.after(OPENS, () => this.hears.isConnected || this.tell(GONE));
-    if (!isHistory && sent.length > 0) attendant.send(ADDED, sent);
+    begun.filter((one) => !isFirst(one)).forEach(tells);
+    if (isBegun && line.length === 0) attendant.send(GONE);
+    else if (line.length === 0) this.guard.after(OPENS, () => this.hears.isConnected || this.tell(GONE));
     held.forEach(({ given, at }) => attendant.send(HEARD, given, at));
   }
 
@@ -136,7 +142,6 @@ export class Attending {
 
   /** The same, even while nothing else is told. */
   tellNow(word, given = null, at = this.guard.counted()) {
-    if (word === OPENED || word === GONE) this.isOpen = word === OPENED;
     this.attendant.tell(word, given, at);
   }
 
@@ -179,17 +184,31 @@ export class Attending {
     this.told += 1;
     entry.number = this.told;
     if (entry.word === HEARD) this.held.push(entry);
+    this.unanswered.push(Object.assign(entry, { isNoted: entry.isNoted || UNLINED.includes(entry.word) }));
+    this.noteLines();
+  }
+
+  /** What was told gets its line, up to the first that may bring bytes to the game; or all of it, since nobody answers any more. */
+  noteLines(areAll = false) {
+    for (const entry of this.unanswered) {
+      const { word, given, at } = entry;
+      if (!entry.isNoted) this.times.note(word, given instanceof Uint8Array ? given.length : given, at);
+      entry.isNoted = true;
+      if (!areAll && !OF_THE_PAST.includes(word)) return;
+    }
   }
 
   // What it answers.
 
   answered(entry, answer) {
     entry.isAnswered = true;
+    this.unanswered.shift();
     if (answer.handling) this.settle(entry, answer);
     if (answer.kept.length > 0) this.hears.keeps(answer.kept, entry.at, entry.now, answer.number);
     if (answer.handling) this.hears.handled(answer.handling, answer.other);
     if (answer.handling === OTHER) this.lend(answer.other);
     if (answer.asks) this.hears.asks(answer.asks, entry.at);
+    this.noteLines();
     this.pending.push({ number: entry.number, mark: this.capture.size, entry, answer });
     this.show();
   }
@@ -266,6 +285,7 @@ export class Attending {
 
   /** What the program hasn't answered, and can't any more: it counts as the game's, unless what came before it was held. */
   takeUnanswered() {
+    this.noteLines(true);
     const isHeld = this.held.some(({ isAnswered }) => isAnswered);
     const unanswered = isHeld ? [] : [...this.held.map(({ given }) => given), ...this.later];
     this.held = [];

@@ -233,14 +233,16 @@ export class Recorder {
   }
 
   /** What its board has sent comes to the game. */
-  takeSent(bytes, at, now) {
+  takeSent(bytes, at, now, isAdded = false) {
     const room = LARGEST - this.capture.size;
     if (room <= 0) return; // the game is over, and nobody has begun another one
     const unheard = this.guard.away() - this.away;
     this.away += unheard;
     if (unheard > 0) this.sayUnheard(unheard);
     this.boardIsThere(now, unheard > 0);
-    this.append(bytes.slice(0, room), HEARD, at, now);
+    const taken = bytes.slice(0, room);
+    this.capture.append(taken, now);
+    if (!isAdded) this.times.note(HEARD, taken.length, at);
     this.lookAtLimit();
   }
 
@@ -259,16 +261,13 @@ export class Recorder {
     if (this.leftAt === null) this.leftAt = this.heardAt;
   }
 
-  /** The capture gets what the board has sent, or somebody has added. */
-  append(bytes, what, at = this.guard.counted(), now = this.guard.now()) {
-    this.capture.append(bytes, now);
-    this.times.note(what, bytes.length, at);
-  }
-
   /** If an error ends the recording, what the program hasn't answered is kept. */
   keepUnanswered() {
     if (!this.guard.error) return;
-    for (const bytes of this.attending.takeUnanswered()) this.append(bytes, HEARD);
+    for (const bytes of this.attending.takeUnanswered()) {
+      this.capture.append(bytes, this.guard.now());
+      this.times.note(HEARD, bytes.length);
+    }
   }
 
   /** The board is asked with these letters. */
@@ -283,8 +282,9 @@ export class Recorder {
   /** Another game's cable has brought this, which is this board's. */
   takeLent(bytes) {
     this.attending.inTurn(() => {
-      this.takeSent(bytes, this.guard.counted(), this.guard.now());
-      this.attending.tellNow(ADDED, bytes);
+      const at = this.guard.counted();
+      this.takeSent(bytes, at, this.guard.now(), true);
+      this.attending.tellNow(ADDED, bytes, at);
     });
   }
 
@@ -330,9 +330,7 @@ export class Recorder {
 
   /** This happens on its cable. */
   happened(what) {
-    const at = this.guard.counted();
-    this.times.note(what, null, at);
-    this.attending.tell(what, null, at);
+    this.attending.tell(what);
   }
 
   plugged() {
@@ -391,11 +389,7 @@ export class Recorder {
   /** Its cable may have been exchanged with those of the boards with these numbers. The program keeps the suspicions. */
   suspect(others) {
     this.alarms.suspect(others);
-    const at = this.guard.counted();
-    for (const other of others) {
-      this.times.note(SUSPECT, other, at);
-      this.attending.tell(SUSPECT, other, at);
-    }
+    for (const other of others) this.attending.tell(SUSPECT, other);
   }
 
   /** The program has raised these. Nobody need look at a game that is over, unless it goes on. */
@@ -540,13 +534,6 @@ export class Recorder {
 
   // Ending.
 
-  /** This happens now: the program is told, even while it is told nothing else, and it is kept with the game's times. */
-  tells(what, count = null) {
-    const at = this.guard.counted();
-    this.times.note(what, count, at);
-    this.attending.tellNow(what, count, at);
-  }
-
   /** What the program says of the game's end. A game that is stored as over stays as it is. */
   ends({ over, played, begins }) {
     this.played = played || this.played;
@@ -592,8 +579,8 @@ export class Recorder {
     this.played = 0;
     this.reread();
     this.times.isNotOver();
-    this.tells(REOPENED);
-    this.tells(BACK);
+    this.attending.tellNow(REOPENED);
+    this.attending.tellNow(BACK);
     await this.times.write(); // before the game's record: the times would have an end that the game lacks
     await this.keepGame();
   }
@@ -605,14 +592,14 @@ export class Recorder {
     this.reread();
     const done = this.keepGame();
     this.times.isNotOver();
-    this.times.note(OVER, end);
+    this.attending.tellNow(OVER, end);
     return done;
   }
 
   closeGame(end, reason) {
     this.game = { ...this.game, end, looks: this.alarms.looks.open };
     this.keepGame();
-    this.tells(OVER, end);
+    this.attending.tellNow(OVER, end);
     this.hears.says(`${this.game.name} is over: ${reason}`);
     this.reread();
   }
@@ -725,7 +712,7 @@ export class Recorder {
 
   /** Adds this by hand. */
   async add(put) {
-    this.append(put, ADDED);
+    this.capture.append(put, this.guard.now());
     this.attending.tellNow(ADDED, put);
     this.game = { ...this.game, typedTo: this.capture.size };
     await Promise.all([this.capture.write(), this.keepGame()]);
@@ -764,7 +751,7 @@ export class Recorder {
    * The capture is this from now on; the old one is kept beside it, if wanted. Up to `typedTo` it is what was typed. `timesOf`
    * makes the times of the new capture of this game. If the game goes on with it, plies were taken off.
    */
-  async renew(content, keepsBefore, changes = {}, timesOf = (game, capture) => this.times.next(game, capture, 0)) {
+  async renew(content, keepsBefore, changes = {}, timesOf = (game, capture, words) => this.times.next(game, capture, 0, words)) {
     await this.times.hold();
     const chunks = spread(content, this.guard.now());
     const { all } = this.times;
@@ -772,9 +759,7 @@ export class Recorder {
     const hasBefore = this.game.hasBefore || keepsBefore;
     const game = { ...this.game, hasBefore, typedTo: 0, overTo: 0, played: 0, ...changes };
     const capture = new Capture(this.database, game.id, chunks);
-    const times = timesOf(game, capture);
-    const isBack = changes.end === null;
-    if (isBack) times.note(BACK);
+    const times = timesOf(game, capture, changes.end === null ? [BACK, REOPENED] : []);
     const { row } = times;
     try {
       await this.database.renew(game, chunks, row, keepsBefore ? before : null);
@@ -787,7 +772,6 @@ export class Recorder {
     capture.trouble = this.capture.trouble;
     this.takeGame(game, capture, times);
     this.reread();
-    if (isBack) this.attending.tellNow(BACK);
   }
 
   /** Puts in what a longer capture of this game has beyond what was kept when the game was opened, with its times. */

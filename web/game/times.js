@@ -37,16 +37,13 @@ function line([at, what, count]) {
   return count === null ? `${at} ${what}\n` : `${at} ${what} ${count}\n`;
 }
 
-/** The lines of some events, of a call that began then. What came within a millisecond came at once. */
+/** The lines of some events: those of a call that began then, and of calls that begin among them. */
 export function lines(events, began = 0) {
-  const joined = [];
-  for (const [when, what, count] of events) {
-    const at = Math.max(0, when - began);
-    const before = joined[joined.length - 1];
-    if (before && what === HEARD && before[1] === HEARD && before[0] === at) before[2] += count;
-    else joined.push([at, what, count]);
-  }
-  return joined.map(line).join('');
+  let from = began;
+  return events.map(([when, what, count]) => {
+    if (what === BEGIN) from = when;
+    return line([Math.max(0, when - from), what, count]);
+  }).join('');
 }
 
 /** The events from an offset on, up to what is none: where each begins and ends, its time, its word and its number. */
@@ -140,10 +137,9 @@ export function isEarlier(found, now) {
 
 /** The words that say how the line is, after one more of them. */
 export function lineAfter(words, what) {
-  if (what === OPENED) return [OPENED];
+  if (what === OPENED || what === GONE) return [what];
   if (what === ANSWERED) return [OPENED, ANSWERED];
-  if (what === GONE || what === CALLED) return [];
-  return words;
+  return what === CALLED ? [] : words;
 }
 
 /** What is said of a file of this size, whose capture has so many bytes. */

@@ -2,7 +2,7 @@
 // costs times, and never a move.
 
 import {
-  AWAY, BEGIN, HEADED, OVER, STOPPED, adding, cut, heading, isOf, kept, lineAfter, lines, toldOf, toldOfMissing, toldOfOther, toldOfTrouble,
+  ADDED, AWAY, BEGIN, HEADED, OVER, adding, cut, heading, isOf, kept, lineAfter, lines, toldOf, toldOfMissing, toldOfOther, toldOfTrouble,
 } from '../game/times.js';
 import { LARGEST } from './capture.js';
 import { otherName } from './file_names.js';
@@ -36,12 +36,12 @@ export class Times {
     this.other = ''; // what isn't of this capture, until it is kept beside
     this.epoch = database.epoch; // of the database that has the rows
     this.events = []; // without lines yet, by the clock's own time
-    this.began = 0; // when the call began, by that clock
-    this.awayFor = null; // for how many milliseconds nobody was there before that, if it is known
+    this.from = 0; // when the call began to which the first of them belongs, by that clock
+    this.began = 0; // when this call began
+    this.begun = []; // what was noted then, [what, how much]
     this.before = ''; // all lines from before that
     this.last = 0; // when something was noted last
     this.line = []; // what was last noted of the cable
-    this.wasAway = guard.away();
     this.timer = null;
     this.writing = null;
     this.isHeld = true; // whether nothing is kept now
@@ -97,27 +97,34 @@ export class Times {
 
   // What happens.
 
-  /** A call begins, or the game goes on from another capture: it has this many bytes. */
-  begin(away = null, size = this.capture.size) {
-    this.began = this.guard.counted();
-    this.awayFor = away;
+  /**
+   * A call begins, or the game goes on from another capture. It has so many bytes, and then so many more that are added; and then these
+   * words are noted. The program that attends the board is told the same.
+   */
+  begin(away = null, size = this.capture.size, added = 0, words = []) {
+    this.gather(true);
     this.before = this.text;
+    this.began = Math.max(this.guard.counted(), this.last);
     this.last = this.began;
-    this.events.push([this.began, BEGIN, size]);
-    if (away !== null) this.events.push([this.began, AWAY, away]);
-    for (const what of this.line) this.events.push([this.began, what, null]);
+    this.begun = [[BEGIN, size]];
+    if (away !== null) this.begun.push([AWAY, away]);
+    this.begun.push(...this.line.map((what) => [what, null]));
+    if (added > 0) this.begun.push([ADDED, added]);
+    this.begun.push(...words.map((what) => [what, null]));
+    this.events.push(...this.begun.map(([what, count]) => [this.began, what, count]));
     this.writeSoon();
+  }
+
+  /** Another program attends the board from now on: for it a call begins. */
+  beginAgain() {
+    this.begin(Math.max(0, this.guard.counted() - this.last));
   }
 
   /** This has happened then, by the clock that counts on. */
   note(what, count = null, at = this.guard.counted()) {
-    const now = Math.max(at, this.last);
-    this.last = now;
-    const away = this.guard.away();
-    if (away > this.wasAway) this.events.push([now, STOPPED, Math.floor(1000 * (away - this.wasAway))]);
-    this.wasAway = away;
+    this.last = Math.max(at, this.last);
     if (count === null) this.line = lineAfter(this.line, what);
-    this.events.push([now, what, count]);
+    this.events.push([this.last, what, count]);
     this.writeSoon();
   }
 
@@ -133,10 +140,10 @@ export class Times {
 
   // When the capture becomes another one.
 
-  /** Those of a new game; or of this game's new capture: then nobody was away. */
-  next(game, capture, away = null) {
+  /** Those of a new game; or of this game's new capture: then nobody was away. The board has shown what it has. */
+  next(game, capture, away = null, words = []) {
     const times = this.of(game, capture);
-    times.begin(away);
+    times.begin(away, 0, capture.size, words);
     return times;
   }
 
@@ -150,7 +157,9 @@ export class Times {
     const over = game.end === null ? [] : [[OVER, game.end]];
     const [[, begins], ...events] = added > 0 ? adding(size, added, capture.size) : [[BEGIN, capture.size], ...over];
     times.begin(0, begins);
+    if (events.length === 0) return times;
     events.forEach(([what, count]) => times.note(what, count));
+    times.begin(0);
     return times;
   }
 
@@ -169,12 +178,13 @@ export class Times {
     return this.text;
   }
 
-  /** Makes lines of what has happened. */
-  gather() {
-    const isTooEarly = !this.text && this.capture.size < DUMP && this.events.length < MOST_WAIT;
+  /** Makes lines of what has happened; before the capture has a dump only if they are wanted. */
+  gather(areWanted = false) {
+    const isTooEarly = !this.text && this.capture.size < (areWanted ? 1 : DUMP) && this.events.length < MOST_WAIT;
     if (this.events.length === 0 || isTooEarly) return;
     if (!this.text) this.text = heading(this.game.goneBack || 0, this.capture.bytes(HEADED));
-    const more = lines(this.events, this.began);
+    const more = lines(this.events, this.from);
+    for (const [at, what] of this.events) if (what === BEGIN) this.from = at;
     this.events = [];
     if (this.text.length + more.length < LARGEST) this.text += more;
     else this.fails(new Error('it has 64 MiB'));

@@ -1,0 +1,79 @@
+"""What the program was really told that attends a game, and what it has answered: a recorder that writes both down."""
+
+import pathlib
+import sys
+from typing import List, Tuple
+
+from attending.answers import Answer, Entry, all_answers
+from attending.filed import entries_of
+from played import TOP
+
+# Starts the recorder so that each child that is told a game's times leaves two files: what is written to it, and what it has written.
+TAP = """
+import os, pathlib, runpy, sys
+sys.dont_write_bytecode = True
+folder, sys.argv = pathlib.Path(sys.argv[1]), sys.argv[2:]
+sys.path.insert(0, {top!r})
+from live.game import attending, program
+logs, begins = {{}}, []
+
+class Writing:
+    def __getattr__(self, name):
+        return getattr(os, name)
+
+    def write(self, number, content):
+        count = os.write(number, content)
+        if logs.get(number):
+            with open(f"{{logs[number]}}.told", "ab") as log:
+                log.write(bytes(content)[:count])
+        return count
+
+starts, opens, takes = attending.Attending.start, program.Program.start, attending.Attending._takes
+
+def start(self):
+    begins[:] = [pathlib.Path(self._past.capture.path).stem if self.notes else ""]
+    starts(self)
+
+def opened(self, words, *streams):
+    child = opens(self, words, *streams)
+    if words[0] != "live":
+        return child
+    number = len(list(folder.glob("*.told")))
+    logs[child.stdin.fileno()] = log = folder / f"{{begins[0]}}.{{number:03}}" if begins[0] else None
+    if log:
+        open(f"{{log}}.told", "ab").close()
+    return child
+
+def take(self, part):
+    log = logs.get(self._child.stdin.fileno()) if self._child else None
+    if log:
+        with open(f"{{log}}.said", "ab") as file:
+            file.write(part)
+    takes(self, part)
+
+attending.os, attending.Attending.start, program.Program.start, attending.Attending._takes = Writing(), start, opened, take
+runpy.run_path(sys.argv[0], run_name="__main__")
+"""
+
+
+class Tap:
+    """Recorders that are started with `start` write down what their programs are told, one behind the other."""
+
+    def __init__(self, folder: pathlib.Path) -> None:
+        self._folder, script = folder / "told", folder / "tap.py"
+        self._folder.mkdir()
+        script.write_text(TAP.format(top=str(TOP)))
+        self.start: List[object] = [sys.executable, script, self._folder]
+
+    @property
+    def calls(self) -> List[Tuple[List[Entry], List[Answer]]]:
+        """What each was told and has answered."""
+        return self.calls_of("*")
+
+    def calls_of(self, game: str) -> List[Tuple[List[Entry], List[Answer]]]:
+        """The same of those that attend this game."""
+        found = []
+        for told in sorted(self._folder.glob(f"{game}.*.told")):
+            said = told.with_suffix(".said")
+            found.append(([*entries_of(told.read_bytes())], all_answers(said.read_bytes())[1] if said.exists() else []))
+        return found
