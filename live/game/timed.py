@@ -25,6 +25,7 @@ from live.loop import Away, Callback, Counting, Loop
 TRIES_AGAIN = 1.0  # seconds after a write has failed
 MOST_WAIT = 1000  # events that wait for the first bytes of a capture
 DUMP = 67  # bytes of a capture that a new file waits for
+AT_ONCE = 65536  # bytes of a capture that the program may be told as a whole, though no times of theirs are known
 OFTEN = (times.HEARD, times.ASKED)  # a move comes in several reads
 LATE = 20  # milliseconds from an event to its line
 NOTHING = "Nothing is to be done"
@@ -198,6 +199,9 @@ class Times:
                 now = max(self.clock(), self._at)
                 self._began, self._at, self._away = now, now, now - self._at
             content = self._content() if is_free else b""
+            if is_free and not content and 0 < self._capture.size <= AT_ONCE:  # what a game begins with is of a call of its own
+                self._events.append((self._at, times.BEGIN, self._capture.size))
+                content = self._content()
             self._begun = self._beginning(self._at, self._capture.total, self._away, ())
             self._events += self._begun
             self._is_attended = True
