@@ -183,10 +183,8 @@ class Times:
         self._is_aside = False
 
     def _beginning(self, now: int, size: int, away: Optional[int], line: Tuple[str, ...]) -> List[times.Happened]:
-        begun: List[times.Happened] = [(now, times.BEGIN, size)]
-        if away is not None:
-            begun.append((now, times.AWAY, away))
-        return [*begun, *((now, what, None) for what in line)]
+        gone: List[times.Happened] = [] if away is None else [(now, times.AWAY, away)]
+        return [(now, times.BEGIN, size), *gone, *((now, what, None) for what in line)]
 
     def attended(self) -> Begun:
         """From now on a program attends the board. For it a call begins: so one begins here too, unless nothing has happened in the
@@ -228,10 +226,14 @@ class Times:
         except OSError:
             return b""
 
-    def added_last(self) -> range:
-        """The bytes of the capture that were added last, if that is known."""
-        with self._lock:
-            return times.added_last(self._content())
+    def content(self) -> bytes:
+        """The same; empty too if the file is just being changed."""
+        if not self._lock.acquire(blocking=False):
+            return b""
+        try:
+            return self._content()
+        finally:
+            self._lock.release()
 
     def _written(self) -> bytes:
         """What the file has, or will begin with."""
