@@ -116,7 +116,7 @@ class Recording(AttendedGame):
     def _tell_old(self) -> None:
         """Shows what was played before this call."""
         if self.course.is_given:  # perhaps an arbiter has typed its result just before
-            self._by_hand = self.game.times.added_last()
+            self._by_hand = times.added_last(self.game.times.content())
             self._typed = self.course.result if self.course.result_at in self._by_hand else ""
         for news in self.course.news:
             self._screen.told(news.shown, True)

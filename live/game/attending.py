@@ -222,8 +222,9 @@ class Attending(Child):
         size = 0 if past is None else past.capture.size - past.start
         begun = self._times.attended() if self._times else None
         self._began = self._last = begun.at if begun else self._clock()
-        if begun and begun.content and size > 0:
-            self._tell(Told(now, KEPT, begun.content))
+        content = begun.content if begun else past.times.content() if past and past.times else b""
+        if content and size > 0:
+            self._tell(Told(now, KEPT, content))
         if past:
             piece = size if self._told else PIECE
             for at in range(past.start, past.capture.size, piece or PIECE):

@@ -25,6 +25,7 @@ from live.loop import Away, Callback, Counting, Loop
 TRIES_AGAIN = 1.0  # seconds after a write has failed
 MOST_WAIT = 1000  # events that wait for the first bytes of a capture
 DUMP = 67  # bytes of a capture that a new file waits for
+AT_ONCE = 65536  # bytes of a capture that the program may be told as a whole, though no times of theirs are known
 OFTEN = (times.HEARD, times.ASKED)  # a move comes in several reads
 LATE = 20  # milliseconds from an event to its line
 NOTHING = "Nothing is to be done"
@@ -182,10 +183,8 @@ class Times:
         self._is_aside = False
 
     def _beginning(self, now: int, size: int, away: Optional[int], line: Tuple[str, ...]) -> List[times.Happened]:
-        begun: List[times.Happened] = [(now, times.BEGIN, size)]
-        if away is not None:
-            begun.append((now, times.AWAY, away))
-        return [*begun, *((now, what, None) for what in line)]
+        gone: List[times.Happened] = [] if away is None else [(now, times.AWAY, away)]
+        return [(now, times.BEGIN, size), *gone, *((now, what, None) for what in line)]
 
     def attended(self) -> Begun:
         """From now on a program attends the board. For it a call begins: so one begins here too, unless nothing has happened in the
@@ -198,6 +197,9 @@ class Times:
                 now = max(self.clock(), self._at)
                 self._began, self._at, self._away = now, now, now - self._at
             content = self._content() if is_free else b""
+            if is_free and not content and 0 < self._capture.size <= AT_ONCE:  # what a game begins with is of a call of its own
+                self._events.append((self._at, times.BEGIN, self._capture.size))
+                content = self._content()
             self._begun = self._beginning(self._at, self._capture.total, self._away, ())
             self._events += self._begun
             self._is_attended = True
@@ -224,10 +226,14 @@ class Times:
         except OSError:
             return b""
 
-    def added_last(self) -> range:
-        """The bytes of the capture that were added last, if that is known."""
-        with self._lock:
-            return times.added_last(self._content())
+    def content(self) -> bytes:
+        """The same; empty too if the file is just being changed."""
+        if not self._lock.acquire(blocking=False):
+            return b""
+        try:
+            return self._content()
+        finally:
+            self._lock.release()
 
     def _written(self) -> bytes:
         """What the file has, or will begin with."""

@@ -5,7 +5,7 @@ from typing import List, Tuple
 
 from attending.answers import Answer, Entry
 from attending.filed import Event, events_after, events_in
-from play_board import field
+from play_board import BLACK, KING, field
 from played import words
 from played.asleep import Clock
 from played.boards import Board
@@ -35,11 +35,13 @@ def told_of(entries: List[Entry], word: str) -> List[Entry]:
 
 
 def is_filed(name: object, calls: List[Tuple[List[Entry], List[Answer]]]) -> List[Event]:
-    """Each child was told the files as they were; what it was told and answered stands behind that in the file of times. Returns the
-    events."""
-    events: List[Event] = []
+    """Each child was told the files as they were; what it was told and answered stands behind that in the file of times. What a game
+    begins with is of a call before the first one. Returns the events."""
+    size = next((entry.number or 0 for entry in calls[0][0] if entry.word == "begin"))
+    events: List[Event] = [(0, "begin", size)] if size else []
     for told, said in calls:
-        files = [entry for entry in told if entry.word == "kept"]
+        files = [entry for entry in told if entry.word in ("kept", "capture")]
+        same([entry.word for entry in files], ["kept", "capture"] if events else [])
         same(events_in(files[0].sent) if files else [], events)
         events = events_after(events, told, said)
     same(events_in(bytes_of(f"{name}.times")), events)
@@ -114,7 +116,7 @@ def times_as_told_anew(folder: pathlib.Path) -> None:
     until_dumped(board, live.name)
     same(stop(live), 0)
     events = is_filed(live.name, tap.calls[before:])
-    same([event[1] for event in events[:4]], ["begin", "away", "back", "reopened"])
+    same([event[1] for event in events[:5]], ["begin", "begin", "away", "back", "reopened"])
 
 
 def times_as_told_of_another(folder: pathlib.Path) -> None:
@@ -181,4 +183,35 @@ def times_as_told_as_it_ends(folder: pathlib.Path) -> None:
     same(events_in(bytes_of(f"{live.name}.times")), events_after(events, told, said))
 
 
-CASES = [times_as_told, times_as_told_anew, times_as_told_of_another, times_as_told_asleep, times_as_told_as_it_ends]
+def times_as_told_in_a_series(folder: pathlib.Path) -> None:
+    """The next game of a series begins with what the board has shown, which is told as a call before it. Killed, it goes on."""
+    tap, board = Tap(folder), a_board(folder)
+    live = Live(board.device, folder / "round", "--series", start=tap.start)
+    begun(live)
+    board.play("e2e4")
+    board.kings_in_centre("e4", "d5")
+    until_line(live, f"round-2 {words.BEGINS}")
+    board.set_up(last=(KING, BLACK + KING))
+    until(lambda: len(bytes_of(folder / "round-2.dgt")) >= 67, "the second game")
+    board.play("d2d4")
+    until_game(folder / "round-2", "1. d4 *")
+    until_dumped(board, folder / "round-2")
+    same(stop(live), 0)
+    events = is_filed(folder / "round-2", tap.calls_of("round-2"))
+    same(([word for _, word, _ in events[:3]], (events[0][2] or 0) >= 67), (["begin", "begin", "opened"], True))
+    again = Live(board.device, folder / "round", "--series", start=tap.start)
+    board.play("d7d5")
+    until_game(folder / "round-2", "1. d4 d5 *")
+    same(stop(again), 0)
+    same(len(tap.calls_of("round-2")), 2)
+    is_filed(folder / "round-2", tap.calls_of("round-2"))
+
+
+CASES = [
+    times_as_told,
+    times_as_told_anew,
+    times_as_told_of_another,
+    times_as_told_asleep,
+    times_as_told_as_it_ends,
+    times_as_told_in_a_series,
+]

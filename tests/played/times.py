@@ -221,7 +221,7 @@ def times_of_a_series(folder: pathlib.Path) -> None:
     same(stop(again), 0)
     first, second = accounted(folder / "round-1"), accounted(folder / "round-2", lost=True)
     same(first.numbers("over"), [int(bytes_of(folder / "round-1.end"))])
-    same((first.words().count("opened"), second.words(0)[:2]), (1, ["begin", "opened"]))
+    same((first.words().count("opened"), second.words(0), second.words(1)[:2]), (1, ["begin"], ["begin", "opened"]))
     assert said_of_times(folder / "round-1") == [], said_of_times(folder / "round-1")
 
 
