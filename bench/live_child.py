@@ -5,10 +5,10 @@
 A call that begins again is compared too: `live` is told the first 8 MB as a capture of the calls before, with a file of times that has a
 line for each second; `watch` reads them from a pipe. It is to take at most twice as long.
 
-`live` is told 4,096 bytes at a time, as a line that is slow brings them, and what it answers is read up to `done` before it is told more.
-`watch` gets the same bytes in the same chunks, and what it writes is read beside it. The processor time of each child, user and system
-together, process start included: medians of five runs by turns. `live` is to take at most one and a half times what `watch` takes. The
-environment variable PROGRAM is the path of another program.
+Both get 4,096 bytes for each read, as a line that is slow brings them, and what they write is read beside it: so neither waits, and
+`live` is to take at most one and a half times what `watch` takes. As a recorder does it, `waiting` is `live` too, but what it answers is
+read up to `done` before it is told more, so it sleeps before each chunk. The processor time of each child, user and system together,
+process start included: medians of five runs by turns. The environment variable PROGRAM is the path of another program.
 """
 
 import os
@@ -17,7 +17,7 @@ import subprocess
 import sys
 import threading
 import time
-from typing import Callable, Dict, Iterable, List, Tuple
+from typing import Callable, Dict, Iterable, Iterator, List, Tuple
 
 sys.dont_write_bytecode = True
 TOP = pathlib.Path(__file__).resolve().parents[1]
@@ -49,14 +49,20 @@ def ended(process: "subprocess.Popen[bytes]") -> float:
     return 1000 * float(used.ru_utime + used.ru_stime)
 
 
-def live(parts: List[bytes]) -> float:
-    host = Host()
-    host.tell(Entry(0, "begin", 0))
-    host.tell(Entry(0, "opened"))
+def entries(parts: List[bytes]) -> Iterator[Entry]:
+    """What `live` is told of a call that brings these parts."""
+    yield Entry(0, "begin", 0)
+    yield Entry(0, "opened")
     at = 0
     for part in parts:
         at += 1000 * len(part) // RATE
-        host.tell(brings(at, "heard", part))
+        yield brings(at, "heard", part)
+
+
+def waiting(parts: List[bytes]) -> float:
+    host = Host()
+    for entry in entries(parts):
+        host.tell(entry)
     return ended(host.left())
 
 
@@ -77,8 +83,13 @@ def fed(word: str, near: int, far: int, parts: Iterable[bytes]) -> float:
     return ended(process)
 
 
+def live(parts: List[bytes]) -> float:
+    """A pipe that gives an entry for each read: one of packets. An entry is a line more than its chunk, so it may take two."""
+    return fed("live", *os.pipe2(os.O_DIRECT | os.O_CLOEXEC), [entry.text for entry in entries(parts)])
+
+
 def watch(parts: List[bytes]) -> float:
-    """A pipe that gives a chunk for each read: one of packets."""
+    """The same of chunks."""
     return fed("watch", *os.pipe2(os.O_DIRECT | os.O_CLOEXEC), parts)
 
 
@@ -109,7 +120,7 @@ def timed(run: Callable[[List[bytes]], float], parts: List[bytes]) -> Used:
 
 def main(runs: int = 5, size: int = streams.SIZE) -> int:
     parts = chunks(streams.hands(False)[:size])
-    commands: Dict[str, Callable[[List[bytes]], float]] = {"live": live, "watch": watch, "again": again, "read": read}
+    commands: Dict[str, Callable[[List[bytes]], float]] = {"live": live, "waiting": waiting, "watch": watch, "again": again, "read": read}
     taken: Dict[str, List[Used]] = {name: [] for name in commands}
     load = os.getloadavg()[0]
     for _ in range(runs):
@@ -119,6 +130,7 @@ def main(runs: int = 5, size: int = streams.SIZE) -> int:
     print(f"{len(parts)} chunks, {runs} runs by turns; load {load:.1f} at the beginning, {os.getloadavg()[0]:.1f} at the end")
     for name, (used, clock) in medians.items():
         print(f"{name:<8} {used:8.1f} ms of the processor {clock:10.1f} ms by the clock")
+    print(f"waiting beside watch: {medians['waiting'][0] / medians['watch'][0]:.2f}")
     for one, other, goal in (("live", "watch", GOAL), ("again", "read", GOAL_AGAIN)):
         ratio = medians[one][0] / medians[other][0]
         print(f"{one} beside {other}: {ratio:.2f}, at most {goal}: {'met' if ratio <= goal else 'not met'}")
