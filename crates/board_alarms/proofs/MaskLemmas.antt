@@ -1,17 +1,20 @@
 -- Two pictures are the same if they differ on no square.
-use Rattle.std.proofs.Common.{◌≡◌, ◌<◌, ◌^◌, ◌==◌, inl, inr, ℕ, Bool, false, not, List, Option, Some, length, slice_index, sym, ap, ◌∙◌, arith}
+use Rattle.std.proofs.Common.{◌≡◌, ◌<◌, ◌^◌, ◌==◌, inl, inr, ℕ, Bool, true, false, not, List, Option, Some, None, length, refl, slice_index, sym, ap, ◌∙◌, arith}
 use Rattle.std.specs.Int.{bit_at}
 use Rattle.std.specs.Str.{bytes_eq}
 use Rattle.std.proofs.lemmas.Bool.{cases_eq, eq-eqb, ne_eqb, true≢false}
 use Rattle.std.proofs.lemmas.Grind.{same_number_lists}
 use Rattle.std.proofs.lemmas.Nat.Bits.{bit_at-zero}
 use Rattle.std.proofs.lemmas.Slice.Eq.{bytes_eq-Decides}
+use Rattle.chess_rules.specs.declared.parts.Parts.{Parts}
+use Rattle.settle_core.specs.declared.plies.Ply.{Ply}
+use Rattle.board_doubts.specs.declared.heard.Heard.{Heard}
 use Rattle.square_runs.specs.Squares.{Marks, some_square}
 use Rattle.square_runs.proofs.Squares.{any_none, marks_some}
 use Rattle.settle_core.specs.Masks.{IsDiff}
 use Rattle.board_alarms.specs.declared.news.Sight.{Sight}
-use Rattle.board_alarms.specs.declared.news.Sight.TheVariants.{Nothing, Again, Another}
-use Rattle.board_alarms.specs.Hearing.{last_shown, shown_at}
+use Rattle.board_alarms.specs.declared.news.Sight.TheVariants.{Nothing, Again, Another, Moves}
+use Rattle.board_alarms.specs.Hearing.{HearsPicture, SeesApart, is_another, last_shown, shown_at}
 use Rattle.board_alarms.specs.Inside.{DiffersBy, ShowsLast}
 use Rattle.settle_core.proofs.Stages.{differ_false}
 use Rattle.settle_core.proofs.Visiting.{unset_same}
@@ -48,8 +51,25 @@ pub differs_by : (sight : Sight) (mask : ℕ) (last : Option (List ℕ)) (positi
 differs_by Nothing mask last position seen differs shows = tt
 differs_by Again mask last position seen differs shows = differs seen shows
 differs_by Another mask last position seen differs shows = differs seen shows
+differs_by Moves mask last position seen differs shows = differs seen shows
 
 pub shows_last : (sight : Sight) (last before : Option (List ℕ)) (seen : List ℕ) → last_shown (shown_at sight seen) before ≡ last → ShowsLast sight last seen
 shows_last Nothing last before seen is = tt
 shows_last Again last before seen is = sym is
 shows_last Another last before seen is = sym is
+shows_last Moves last before seen is = sym is
+
+-- ---- what is heard of a picture
+
+pub hears_none : (sight : Sight) (start : Parts) (plies : List Ply) (picture : List ℕ) → is_another sight ≡ false → HearsPicture start plies (shown_at sight picture) None
+hears_none Nothing start plies picture none = refl
+hears_none Again start plies picture none = refl
+hears_none Another start plies picture none = absurd cc
+hears_none Moves start plies picture none = absurd cc
+
+pub hears_another : (sight : Sight) (start : Parts) (plies : List Ply) (picture : List ℕ) (heard : Option Heard) → is_another sight ≡ true
+    → SeesApart start plies picture heard → HearsPicture start plies (shown_at sight picture) heard
+hears_another Nothing start plies picture heard some sees = absurd cc
+hears_another Again start plies picture heard some sees = absurd cc
+hears_another Another start plies picture heard some sees = sees
+hears_another Moves start plies picture heard some sees = sees

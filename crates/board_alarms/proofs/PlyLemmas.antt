@@ -16,10 +16,7 @@ use Rattle.board_events.specs.Session.{entries_in}
 use Rattle.board_events.specs.Settings.{Setting}
 use Rattle.board_doubts.specs.declared.heard.Ply.{Ply as HeardPly}
 use Rattle.board_alarms.specs.Plies.{heard_ply}
-use Rattle.board_alarms.specs.declared.news.Sight.{Sight}
-use Rattle.board_alarms.specs.declared.news.Sight.TheVariants.{Nothing, Again, Another}
-use Rattle.board_alarms.specs.Hearing.{IsShown, shown_at}
-use Rattle.board_alarms.specs.Inside.{Grows, first_of, shows_another}
+use Rattle.board_alarms.specs.Inside.{Grows, first_of}
 
 abbrev plies_of : Score → List Ply
 plies_of score = score.plies
@@ -50,38 +47,6 @@ pub grows : (setting : Setting) (past : List Event) (event : Event) (old new : S
     → Folds setting.start (deduplicated (entries_in setting (event ∷ past))) new → Grows old.plies new.plies
 grows setting past event old new valid f g =
     grows_entry setting.start (entry_at setting.first setting.rotated (event ∷ past)) (entries_in setting past) (is_entry event past) old new valid f g
-
-none_given : (start : Parts) (entry : Entry) (past : List Entry) (given : Bool) (old new : Score) → Valid start → given ≡ false → Folds start (deduplicated past) old
-    → Folds start (deduplicated (if given then entry ∷ past else past)) new → new ≡ old
-none_given start entry past true old new valid none f g = absurd cc
-none_given start entry past false old new valid none f g = folds_once start (deduplicated past) new old valid g f
-
-given_again : (start : Parts) (entry : Entry) (past : List Entry) (again : Bool) (old new : Score) → Valid start → again ≡ true → Folds start past old
-    → Folds start (if again then past else entry ∷ past) new → new ≡ old
-given_again start entry past true old new valid is f g = folds_once start past new old valid g f
-given_again start entry past false old new valid is f g = absurd cc
-
-repeated : (start : Parts) (entry : Entry) (past : List Entry) (given : Bool) (old new : Score) → Valid start → given ≡ true → repeats entry.picture past ≡ true
-    → Folds start (deduplicated past) old → Folds start (deduplicated (if given then entry ∷ past else past)) new → new ≡ old
-repeated start entry past true old new valid is again f g = given_again start entry (deduplicated past) (repeats entry.picture past) old new valid again f g
-repeated start entry past false old new valid is again f g = absurd cc
-
--- Without another picture the plies stay.
-pub stays : (setting : Setting) (past : List Event) (event : Event) (old new : Score) (sight : Sight) (picture : List ℕ) → Valid setting.start
-    → Folds setting.start (deduplicated (entries_in setting past)) old → Folds setting.start (deduplicated (entries_in setting (event ∷ past))) new
-    → IsShown setting past event (shown_at sight picture) → shows_another sight ≡ false → new.plies ≡ old.plies
-stays setting past event old new Nothing picture valid f g shown none =
-    ap plies_of (none_given setting.start (entry_at setting.first setting.rotated (event ∷ past)) (entries_in setting past) (is_entry event past) old new valid shown f g)
-stays setting past event old new Again picture valid f g shown none =
-    let again = ap (λ (seen : List ℕ). repeats seen (entries_in setting past)) (sym shown.1) ∙ shown.2 in
-    ap plies_of (repeated setting.start (entry_at setting.first setting.rotated (event ∷ past)) (entries_in setting past) (is_entry event past) old new valid shown.0 again f g)
-stays setting past event old new Another picture valid f g shown none = absurd cc
-
-pub same_plies : (one other : List Ply) → Grows one other → length one ≡ length other → first_of one ≡ first_of other → other ≡ one
-same_plies one other (inl e) l f = e
-same_plies one other (inr (inl g)) l f = let longer = ap length g.1 in absurd (omega (arith, l, longer))
-same_plies [] other (inr (inr g)) l f = let longer = ap length g.1 in absurd (omega (arith, l, longer))
-same_plies (p ∷ ps) other (inr (inr g)) l f = g.1 ∙ ap (λ (q : Ply). q ∷ ps) (same_Some g.0 p (sym (f ∙ ap first_of g.1)))
 
 -- There is one more ply.
 pub one_more : (old new : List Ply) → Grows old new → length old < length new → (ply : Ply) × (new ≡ ply ∷ old)

@@ -25,7 +25,7 @@ use Rattle.board_looks.specs.Looks.{alarms}
 use Rattle.board_alarms.specs.declared.news.News.{News}
 use Rattle.board_alarms.specs.declared.news.News.TheVariants.{Gone, Begins, PutsIn, Looked, PutsBack, Suspects}
 use Rattle.board_alarms.specs.declared.news.Sight.{Sight}
-use Rattle.board_alarms.specs.declared.news.Sight.TheVariants.{Nothing as SeesNone, Again as SeesAgain, Another as SeesAnother}
+use Rattle.board_alarms.specs.declared.news.Sight.TheVariants.{Nothing as SeesNone, Again as SeesAgain, Another as SeesAnother, Moves as SeesMoves}
 use Rattle.board_alarms.specs.Clock.{clock_of, counts_of, lever_at, lever_said, presses_of, runs_said}
 use Rattle.board_alarms.specs.Gaps.{gap_before}
 use Rattle.board_alarms.specs.Items.{Item, Sent, Noted, events_of}
@@ -44,6 +44,28 @@ abbrev pub shown_at : Sight → List ℕ → Shown
 shown_at SeesNone picture = Nothing
 shown_at SeesAgain picture = Again picture
 shown_at SeesAnother picture = Another picture
+shown_at SeesMoves picture = Another picture
+
+-- It is another picture.
+abbrev pub is_another : Sight → Bool
+is_another SeesAnother = true
+is_another SeesMoves = true
+is_another other = false
+
+-- The plies have become others.
+abbrev pub moves : Sight → Bool
+moves SeesMoves = true
+moves other = false
+
+-- The second plies are others than the first ones, or the same.
+abbrev pub AreMoved : Bool → List Ply → List Ply → Type 0
+AreMoved true old new = new ≢ old
+AreMoved false old new = new ≡ old
+
+-- The plies become others with an event after these, or stay.
+abbrev pub HasMoved : Setting → List Event → Event → Bool → Type 0
+HasMoved setting past event moved = (old new : Score) → Folds setting.start (deduplicated (entries_in setting past)) old
+    → Folds setting.start (deduplicated (entries_in setting (event ∷ past))) new → AreMoved moved old.plies new.plies
 
 -- This is shown by an event after these.
 abbrev pub IsShown : Setting → List Event → Event → Shown → Type 0

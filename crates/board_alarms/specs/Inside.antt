@@ -9,7 +9,7 @@ use Rattle.settle_core.specs.Masks.{IsDiff}
 use Rattle.board_events.specs.History.{reading_at}
 use Rattle.board_looks.specs.declared.look.Told.{Told}
 use Rattle.board_alarms.specs.declared.news.Sight.{Sight}
-use Rattle.board_alarms.specs.declared.news.Sight.TheVariants.{Nothing, Again, Another}
+use Rattle.board_alarms.specs.declared.news.Sight.TheVariants.{Nothing, Again, Another, Moves}
 use Rattle.board_alarms.specs.Clock.{clock_of, counts_of, lever_at, lever_said, presses_of, runs_said}
 use Rattle.board_alarms.specs.Hearing.{with_heard}
 
@@ -34,19 +34,16 @@ with_clock at added plies first event past told = with_heard at added plies (clo
     (with_heard at added plies (presses_of (lever_said event) (lever_at past))
     (with_heard at added plies (counts_of (reading_at first past) (reading_at first (event ∷ past))) told))
 
--- An event shows another picture.
-abbrev pub shows_another : Sight → Bool
-shows_another Another = true
-shows_another other = false
-
 -- The last picture is this one, if an event has shown it.
 abbrev pub ShowsLast : Sight → Option (List ℕ) → List ℕ → Type 0
 ShowsLast Nothing last seen = ⊤
 ShowsLast Again last seen = last ≡ Some seen
 ShowsLast Another last seen = last ≡ Some seen
+ShowsLast Moves last seen = last ≡ Some seen
 
 -- It differs from a position on these squares.
 abbrev pub DiffersBy : Sight → ℕ → List ℕ → List ℕ → Type 0
 DiffersBy Nothing mask position seen = ⊤
 DiffersBy Again mask position seen = IsDiff mask position seen
 DiffersBy Another mask position seen = IsDiff mask position seen
+DiffersBy Moves mask position seen = IsDiff mask position seen

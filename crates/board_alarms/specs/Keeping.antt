@@ -17,7 +17,6 @@ use Rattle.board_alarms.specs.declared.line.Line.{Line}
 use Rattle.board_alarms.specs.Clock.{lever_at}
 use Rattle.board_alarms.specs.Gaps.{has_begun, heard_at, is_cut}
 use Rattle.board_alarms.specs.Hearing.{HasResult, Tells}
-use Rattle.board_alarms.specs.Inside.{first_of}
 use Rattle.board_alarms.specs.Items.{Item, events_of}
 use Rattle.board_alarms.specs.Plies.{before, black_moves, position}
 
@@ -42,7 +41,6 @@ pub record KeepsPositions (kept : Positions) (start : Parts) (plies : List Ply) 
 -- What is kept of such a game.
 pub record KeepsCourse (course : Course) (start : Parts) (plies : List Ply) : Type 0 where
   pub counted : course.count ≡ length plies
-  pub last_is : course.last ≡ first_of plies
   pub side : course.black ≡ black_moves start plies
   pub keeps : KeepsPositions course.positions start plies
 

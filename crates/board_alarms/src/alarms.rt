@@ -4,7 +4,7 @@ ghost use Rattle.board_events.specs.Session.{HasTakenEvents};
 ghost use Rattle.board_events.specs.Settings.{Setting};
 ghost use Rattle.board_looks.specs.declared.look.Told.{Told as ToldOf};
 ghost use Rattle.board_looks.specs.Keeping.{StandsFor as LooksStandFor};
-ghost use Rattle.board_alarms.specs.Hearing.{AreOpen, HasResult, IsShown, last_shown, shown_at, with_news};
+ghost use Rattle.board_alarms.specs.Hearing.{AreOpen, HasMoved, HasResult, IsShown, last_shown, moves, shown_at, with_news};
 ghost use Rattle.board_alarms.specs.Items.{Item, Noted, Sent, events_of};
 ghost use Rattle.board_alarms.specs.Keeping.{StandsFor};
 
@@ -56,6 +56,7 @@ fn show(last: &mut Option<[u8; 64]>, sight: Sight, picture: &[u8; 64])
         Sight::Nothing => {}
         Sight::Again => *last = Some(*picture),
         Sight::Another => *last = Some(*picture),
+        Sight::Moves => *last = Some(*picture),
     }
 }
 
@@ -108,6 +109,7 @@ impl Alarms {
         outcome: Option<Outcome>,
     ) -> Result<(), AllocError>
         ensures { (setting : Setting) (items : List Item) → StandsFor self.old setting items → IsShown setting (events_of items) event.now (shown_at sight picture.now)
+            → HasMoved setting (events_of items) event.now (moves sight)
             → HasTakenEvents session.now setting (event.now ∷ events_of items) → HasResult setting.start session.now.settler.score outcome
             → OnOk result (StandsFor self.new setting (Sent at is_added event.now ∷ items)) }
     {

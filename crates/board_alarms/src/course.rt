@@ -6,14 +6,14 @@ ghost use Rattle.settle_core.specs.declared.plies.Ply.{Ply as PlyOf};
 ghost use Rattle.settle_core.specs.Masks.{IsDiff};
 ghost use Rattle.board_doubts.specs.declared.heard.Heard.TheVariants.{Shows};
 ghost use Rattle.board_alarms.specs.Hearing.{SeesApart, agrees as agrees_with, shown_at, stands as stands_on};
-ghost use Rattle.board_alarms.specs.Inside.{DiffersBy, Grows, first_of};
+ghost use Rattle.board_alarms.specs.Inside.{DiffersBy, Grows};
 ghost use Rattle.board_alarms.specs.Keeping.{KeepsCourse, KeepsPositions};
 ghost use Rattle.board_alarms.specs.Plies.{HearsPlies, heard_ply, is_black as is_black_of, position, repeats as repeats_of};
 
 use crate::news::Sight;
 use board_doubts::{Heard, Played, Ply, Seen, seen};
 use chess_rules::{Position, Side};
-use settle_core::{Ply as GamePly, Settler};
+use settle_core::Settler;
 
 /// The last positions of a game, as pictures.
 #[derive(Clone, Copy)]
@@ -35,8 +35,6 @@ pub struct Positions {
 pub struct Course {
     /// How many plies it has.
     pub count: u64,
-    /// The last one.
-    last: Option<GamePly>,
     /// Black is to move.
     black: bool,
     positions: Positions,
@@ -58,21 +56,6 @@ fn is_black(position: &Position) -> bool
     }
 }
 
-fn is_picture(one: &[u8; 64], other: &[u8; 64]) -> bool
-    ensures { IsTrue result ↔ (one.now ≡ other.now) }
-{
-    *one == *other
-}
-
-fn last_of(settler: &Settler) -> Option<GamePly>
-    ensures { result ≡ first_of settler.now.score.plies }
-{
-    match settler.moves().last() {
-        Some(last) => Some(*last),
-        None => None,
-    }
-}
-
 /// The last ply as it is heard.
 fn ply_of(settler: &Settler) -> Option<Ply>
     ensures { (ply : PlyOf) (earlier : List PlyOf) → settler.now.score.plies ≡ ply ∷ earlier → result ≡ Some (heard_ply settler.now.start ply earlier) }
@@ -85,12 +68,6 @@ fn ply_of(settler: &Settler) -> Option<Ply>
         }),
         None => None,
     }
-}
-
-fn is_ply(one: Option<GamePly>, other: Option<GamePly>) -> bool
-    ensures { IsTrue result ↔ (one ≡ other) }
-{
-    one == other
 }
 
 /// Whether the two positions are the same, and so many plies were made.
@@ -187,7 +164,6 @@ impl Course {
     {
         Course {
             count: 0,
-            last: None,
             black: is_black(start),
             positions: Positions::new(start.picture()),
         }
@@ -203,23 +179,6 @@ impl Course {
         } else {
             self.positions.instead(here)
         }
-    }
-
-    /// Whether a game that has come on from here has the same plies. It has so many, and this is the last one.
-    fn has_same_plies(&self, count: u64, last: Option<GamePly>) -> bool
-        ensures { (start : Parts) (old new : List PlyOf) → KeepsCourse self.now start old → count ≡ length new → last ≡ first_of new → Grows old new
-            → IsTrue result ↔ (new ≡ old) }
-    {
-        count == self.count && is_ply(last, self.last)
-    }
-
-    /// Whether the game has the plies of the settler, which has come on from here.
-    pub fn is_at(&self, settler: &Settler) -> bool
-        ensures { (start : Parts) (old : List PlyOf) → KeepsCourse self.now start old → Grows old settler.now.score.plies
-            → IsTrue result ↔ (settler.now.score.plies ≡ old) }
-    {
-        let count = settler.moves().len() as u64;
-        self.has_same_plies(count, last_of(settler))
     }
 
     /// Goes on to the plies of the settler, which are others, and says what is heard of them.
@@ -247,7 +206,6 @@ impl Course {
         let positions = self.positions_after(count, picture);
         Course {
             count,
-            last: last_of(settler),
             black: is_black(position),
             positions,
         }
@@ -275,6 +233,7 @@ impl Course {
             Sight::Nothing => false,
             Sight::Again => is_none(differs, &self.positions.here, picture),
             Sight::Another => is_none(differs, &self.positions.here, picture),
+            Sight::Moves => is_none(differs, &self.positions.here, picture),
         }
     }
 

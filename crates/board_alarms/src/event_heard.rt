@@ -11,8 +11,8 @@ ghost use Rattle.board_doubts.specs.declared.heard.Heard.TheVariants.{Agrees, En
 ghost use Rattle.board_looks.specs.declared.look.Told.{Told as ToldOf};
 ghost use Rattle.board_looks.specs.Keeping.{StandsFor as LooksStandFor};
 ghost use Rattle.board_alarms.specs.Clock.{lever_at};
-ghost use Rattle.board_alarms.specs.Hearing.{HearsPicture, HearsResult, agrees as agrees_with, away_of, shown_at, with_heard};
-ghost use Rattle.board_alarms.specs.Inside.{Grows, ShowsLast, is_time, shows_another as shows_another_of, with_clock};
+ghost use Rattle.board_alarms.specs.Hearing.{AreMoved, HearsPicture, HearsResult, agrees as agrees_with, away_of, moves as moves_of, shown_at, with_heard};
+ghost use Rattle.board_alarms.specs.Inside.{Grows, ShowsLast, is_time, with_clock};
 ghost use Rattle.board_alarms.specs.Keeping.{KeepsCourse};
 ghost use Rattle.board_alarms.specs.Plies.{HearsPlies};
 
@@ -83,14 +83,11 @@ pub fn tell_picture(
         → OnOk result ((heard : Option HeardOf) × HearsPicture start plies (shown_at sight picture.now) heard
         × LooksStandFor looks.new (with_heard when.at when.is_added course.now.count heard told)) }
 {
-    match sight {
-        Sight::Nothing => Ok(()),
-        Sight::Again => Ok(()),
-        Sight::Another => {
-            let seen = course.seen(picture);
-            looks.see(when.at, when.is_added, &seen, course.count)
-        }
+    if !sight.is_another() {
+        return Ok(());
     }
+    let seen = course.seen(picture);
+    looks.see(when.at, when.is_added, &seen, course.count)
 }
 
 /// Tells that the board shows the game's position, if so.
@@ -104,24 +101,6 @@ fn tell_agreement(looks: &mut Looks, when: When, plies: u64, agrees: bool) -> Re
     }
 }
 
-fn shows_another(sight: Sight) -> bool
-    ensures { result ≡ shows_another_of sight }
-{
-    matches!(sight, Sight::Another)
-}
-
-/// Whether the game has the plies of the settler, which has come on from here with an event that shows this. Without another picture
-/// they stay.
-fn stays(course: &Course, settler: &Settler, sight: Sight) -> bool
-    ensures { (start : Parts) (old : List PlyOf) → KeepsCourse course.now start old → Grows old settler.now.score.plies
-        → (shows_another_of sight ≡ false → settler.now.score.plies ≡ old) → IsTrue result ↔ (settler.now.score.plies ≡ old) }
-{
-    if !shows_another(sight) {
-        return true;
-    }
-    course.is_at(settler)
-}
-
 /// Tells what is heard of the plies, and lets the game go on to those of the settler.
 pub fn tell_plies(
     looks: &mut Looks,
@@ -132,19 +111,19 @@ pub fn tell_plies(
     picture: &[u8; 64],
 ) -> Result<(), AllocError>
     ensures { (start : Parts) (old : List PlyOf) (told : List ToldOf) → KeepsCourse course.old start old → settler.now.start ≡ start
-        → Grows old settler.now.score.plies → (shows_another_of sight ≡ false → settler.now.score.plies ≡ old)
+        → Grows old settler.now.score.plies → AreMoved (moves_of sight) old settler.now.score.plies
         → ShowsLast sight settler.now.last picture.now → LooksStandFor looks.old told → OnOk result ((news ply : Option HeardOf)
         × HearsPlies start (agrees_with start settler.now.score.plies (shown_at sight picture.now)) old settler.now.score.plies news ply
         × KeepsCourse course.new start settler.now.score.plies
         × LooksStandFor looks.new (with_heard when.at when.is_added course.new.count ply (with_heard when.at when.is_added course.new.count news told))) }
 {
-    if stays(course, settler, sight) {
-        let agrees = course.agrees(sight, settler.differs(), picture);
-        return tell_agreement(looks, when, course.count, agrees);
+    if sight.moves() {
+        let heard = course.go_on(settler);
+        tell(looks, when, course.count, heard.news)?;
+        return tell(looks, when, course.count, heard.ply);
     }
-    let heard = course.go_on(settler);
-    tell(looks, when, course.count, heard.news)?;
-    tell(looks, when, course.count, heard.ply)
+    let agrees = course.agrees(sight, settler.differs(), picture);
+    tell_agreement(looks, when, course.count, agrees)
 }
 
 fn is_result(one: Option<Outcome>, other: Option<Outcome>) -> bool

@@ -1,4 +1,6 @@
 //! What comes of a game.
+ghost use Rattle.std.specs.Prelude.{◌≡◌};
+ghost use Rattle.board_alarms.specs.Hearing.{is_another as is_another_of, moves as moves_of};
 
 /// What an event shows.
 #[derive(Clone, Copy)]
@@ -7,8 +9,26 @@ pub enum Sight {
     Nothing,
     /// The last picture again.
     Again,
-    /// Another picture, or the first.
+    /// Another picture, or the first, and the plies stay.
     Another,
+    /// Another picture, or the first, with which the plies have become others.
+    Moves,
+}
+
+impl Sight {
+    /// Whether it is another picture, or the first.
+    pub fn is_another(self) -> bool
+        ensures { result ≡ is_another_of self }
+    {
+        matches!(self, Sight::Another | Sight::Moves)
+    }
+
+    /// Whether the plies have become others.
+    pub fn moves(self) -> bool
+        ensures { result ≡ moves_of self }
+    {
+        matches!(self, Sight::Moves)
+    }
 }
 
 /// What comes beside the events of a board.

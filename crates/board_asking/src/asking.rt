@@ -1,7 +1,7 @@
 //! The machine: it takes what happens on a board's line, and says when to ask the board, and what.
 ghost use Rattle.std.specs.Prelude.{◌≡◌, ◌<◌, ◌∷◌, [], List, IfSome};
 ghost use Rattle.board_asking.specs.declared.line.Event.{Event as EventOf};
-ghost use Rattle.board_asking.specs.declared.line.Happening.TheVariants.{Updates};
+ghost use Rattle.board_asking.specs.declared.line.Happening.TheVariants.{Dumps, Updates};
 ghost use Rattle.board_asking.specs.Pace.{AsksAlike, asks};
 ghost use Rattle.board_asking.specs.Silence.{is_silent};
 ghost use Rattle.board_asking.specs.Whose.{HandledAlike, handling_at, own_number, shown_number};
@@ -52,6 +52,16 @@ impl Asking {
     {
         self.pace.take_update(at);
         self.starting.take_update();
+    }
+
+    /// Takes a dump.
+    pub fn take_dump(&mut self, at: u64, picture: &[u8; 64])
+        ensures { let event : EventOf = record { at = at; what = Dumps picture.now } in (past : List EventOf) → StandsFor self.old past → StandsFor self.new (event ∷ past) }
+    {
+        self.pace.take_dump(at);
+        self.starting.take_dump(picture);
+        self.silence.take_dump(at);
+        self.whose.take_dump();
     }
 
     /// What the next request is.

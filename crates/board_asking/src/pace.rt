@@ -2,7 +2,7 @@
 ghost use Rattle.std.specs.Prelude.{◌≡◌, ◌≢◌, ◌<◌, ◌^◌, ◌∷◌, [], ℕ, List, IfSome, if◌then◌else◌};
 ghost use Rattle.board_asking.specs.Lasting.{has_come};
 ghost use Rattle.board_asking.specs.declared.line.Event.{Event as EventOf};
-ghost use Rattle.board_asking.specs.declared.line.Happening.TheVariants.{Updates};
+ghost use Rattle.board_asking.specs.declared.line.Happening.TheVariants.{Dumps, Updates};
 ghost use Rattle.board_asking.specs.Line.{asked_by, dumped_by, is_unanswered, open_by, unanswered_by, unfinished_by, updated_by, wanted_by};
 ghost use Rattle.board_asking.specs.Pace.{HasPace, asks, AsksAlike, would_help};
 
@@ -146,6 +146,19 @@ impl Pace {
         ensures { let event : EventOf = record { at = at; what = Updates } in (past : List EventOf) → HasPace self.old past → HasPace self.new (event ∷ past) }
     {
         self.updated = Some(at);
+    }
+
+    /// Takes a dump.
+    pub fn take_dump(&mut self, at: u64)
+        ensures { (event : EventOf) (picture : List ℕ) (past : List EventOf) → event.at ≡ at → event.what ≡ Dumps picture → HasPace self.old past → HasPace self.new (event ∷ past) }
+    {
+        self.dumped = if self.is_unanswered {
+            self.asked
+        } else {
+            Some(at)
+        };
+        self.is_wanted = false;
+        self.is_unanswered = false;
     }
 
     /// Whether a request was sent that is still to be answered.

@@ -1,6 +1,7 @@
 //! When a board is silent.
 ghost use Rattle.std.specs.Prelude.{◌≡◌, ◌∷◌, [], ℕ, List};
 ghost use Rattle.board_asking.specs.declared.line.Event.{Event as EventOf};
+ghost use Rattle.board_asking.specs.declared.line.Happening.TheVariants.{Dumps};
 ghost use Rattle.board_asking.specs.Silence.{HasSilence, heard_by, is_silent, lost_by, silent_by};
 
 use crate::lasting::lasted;
@@ -63,6 +64,15 @@ impl Silence {
         self.is_silent = silent(event.what, event.at, self.lost, self.heard, self.is_silent);
         self.lost = lost(event.what, self.lost);
         self.heard = heard(event.what, event.at, self.heard);
+    }
+
+    /// Takes a dump.
+    pub fn take_dump(&mut self, at: u64)
+        ensures { (event : EventOf) (picture : List ℕ) (past : List EventOf) → event.at ≡ at → event.what ≡ Dumps picture → HasSilence self.old past → HasSilence self.new (event ∷ past) }
+    {
+        self.is_silent = false;
+        self.lost = 0;
+        self.heard = Some(at);
     }
 
     /// Whether the board is silent.

@@ -2,7 +2,7 @@
 ghost use Rattle.std.specs.Prelude.{◌≡◌, ◌∷◌, [], ℕ, List};
 ghost use Rattle.std.specs.Str.{bytes_eq};
 ghost use Rattle.board_asking.specs.declared.line.Event.{Event as EventOf};
-ghost use Rattle.board_asking.specs.declared.line.Happening.TheVariants.{Updates};
+ghost use Rattle.board_asking.specs.declared.line.Happening.TheVariants.{Dumps, Updates};
 ghost use Rattle.board_asking.specs.Starting.{HasStarting, differs, is_start, last_dump_by, start_by, updates_by};
 
 use crate::line::{Event, Happening};
@@ -87,6 +87,15 @@ impl Starting {
         ensures { (event : EventOf) (past : List EventOf) → event.what ≡ Updates → HasStarting self.old past → HasStarting self.new (event ∷ past) }
     {
         self.has_updated = true;
+    }
+
+    /// Takes a dump.
+    pub fn take_dump(&mut self, picture: &[u8; 64])
+        ensures { (event : EventOf) (past : List EventOf) → event.what ≡ Dumps picture.now → HasStarting self.old past → HasStarting self.new (event ∷ past) }
+    {
+        self.is_start = self.is_start || (!self.has_updated && differs_from(picture, &self.dump));
+        self.has_updated = false;
+        self.dump = Some(*picture);
     }
 
     /// Whether the board may have forgotten that updates are wanted, or was never asked for them.

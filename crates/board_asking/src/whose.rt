@@ -1,7 +1,8 @@
 //! Which board is on the cable, and what is done with what it sends.
-ghost use Rattle.std.specs.Prelude.{◌≡◌, ◌≢◌, ◌<◌, ◌∷◌, [], List, IfSome};
+ghost use Rattle.std.specs.Prelude.{◌≡◌, ◌≢◌, ◌<◌, ◌∷◌, [], ℕ, List, IfSome};
 ghost use Rattle.std.specs.Str.{bytes_eq};
 ghost use Rattle.board_asking.specs.declared.line.Event.{Event as EventOf};
+ghost use Rattle.board_asking.specs.declared.line.Happening.TheVariants.{Dumps};
 ghost use Rattle.board_asking.specs.Whose.{HandledAlike, HasWhose, awaited_by, dumps_by, handling_at, handling_by, handling_of, is_awaited, is_number_asked, left_by, own_by, own_number, shown_by, shown_number};
 
 use crate::lasting::{after, lasted, to_come};
@@ -159,6 +160,13 @@ impl Whose {
         self.awaited = awaited(event.what, event.at, self.awaited);
         self.own = own(event.what, self.own);
         self.shown = shown(event.what, self.shown);
+    }
+
+    /// Takes a dump.
+    pub fn take_dump(&mut self)
+        ensures { (event : EventOf) (picture : List ℕ) (past : List EventOf) → event.what ≡ Dumps picture → HasWhose self.old past → HasWhose self.new (event ∷ past) }
+    {
+        self.dumps = self.dumps.saturating_add(1).min(3);
     }
 
     /// The number of the game's board, if it is known.

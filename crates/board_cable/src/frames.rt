@@ -77,6 +77,10 @@ fn tell(at: u64, event: &Event, last: [u8; 5], bytes: &[u8], asking: &mut Asking
         asking.take_update(at);
         return;
     }
+    if let Event::Message(Message::Dump(codes)) = event {
+        asking.take_dump(at, codes);
+        return;
+    }
     if let Some(what) = told_of(event, last, bytes) {
         asking.take(Told { at, what });
     }

@@ -1,5 +1,5 @@
 -- What the parts stand for. A reader needs none of it: the contracts hold for whatever this says.
-use Rattle.std.specs.Prelude.{◌≡◌, ◌≢◌, ◌⊎◌, Bool, true, ℕ, List, ◌∷◌, drop, length, Option, Some, None}
+use Rattle.std.specs.Prelude.{◌≡◌, Bool, true, ℕ, List, ◌∷◌, length}
 use Rattle.std.specs.Str.{bytes_eq}
 use Rattle.chess_rules.specs.declared.parts.Parts.{Parts}
 use Rattle.chess_rules.specs.Picture.{picture}
@@ -31,15 +31,6 @@ pub record KeepsCourse (course : Course) (start : Parts) (plies : List Ply) : Ty
   pub at_start : course.is_at_start ≡ bytes_eq (position start plies) (picture start)
   pub start_is : course.start ≡ picture start
   pub here_is : course.here ≡ position start plies
-
--- The second plies are the first ones; or these and one more; or these with another one in the place of the last.
-abbrev pub Grows : List Ply → List Ply → Type 0
-Grows old new = (new ≡ old) ⊎ (((ply : Ply) × (new ≡ ply ∷ old)) ⊎ ((ply : Ply) × (new ≡ ply ∷ drop 1 old)))
-
--- The game after an event, if the plies are others.
-abbrev pub IsNext : Parts → List Ply → List Ply → Option Course → Type 0
-IsNext start old new None = new ≡ old
-IsNext start old new (Some course) = (new ≢ old) × KeepsCourse course start new
 
 -- This was told.
 pub record HasJudged (judging : Judging) (past : List Event) : Type 0 where

@@ -5,8 +5,9 @@ ghost use Rattle.chess_rules.specs.declared.parts.Parts.{Parts};
 ghost use Rattle.chess_rules.specs.Picture.{picture};
 ghost use Rattle.settle_core.specs.declared.plies.Ply.{Ply as PlyOf};
 ghost use Rattle.settle_core.specs.Masks.{IsDiff};
+ghost use Rattle.board_alarms.specs.Hearing.{AreMoved};
 ghost use Rattle.board_alarms.specs.Plies.{position};
-ghost use Rattle.board_endings.specs.Keeping.{Grows, IsNext, KeepsCourse};
+ghost use Rattle.board_endings.specs.Keeping.{KeepsCourse};
 ghost use Rattle.board_endings.specs.Moves.{TellsMove, brings_home as brings_home_of, brings_rook as brings_rook_of, castles_by, goes_two, is_king as is_king_of, is_rook as is_rook_of, last_ply, move_of};
 
 use chess_rules::Position;
@@ -64,12 +65,6 @@ fn either(one: bool, other: bool) -> bool
 
 fn is_same(one: u8, other: u8) -> bool
     ensures { result ≡ (one == other) }
-{
-    one == other
-}
-
-fn is_ply(one: Option<Ply>, other: Option<Ply>) -> bool
-    ensures { IsTrue result ↔ (one ≡ other) }
 {
     one == other
 }
@@ -165,14 +160,6 @@ impl Course {
         }
     }
 
-    /// Whether a game that has come on from here has the same plies. It has so many, and this is the last one.
-    fn has_same_plies(&self, count: u64, last: Option<Ply>) -> bool
-        ensures { (start : Parts) (old new : List PlyOf) → KeepsCourse self.now start old → count ≡ length new → last ≡ last_ply new → Grows old new
-            → IsTrue result ↔ (new ≡ old) }
-    {
-        count == self.count && is_ply(last, self.last)
-    }
-
     /// The game after an event.
     fn after(&self, settler: &Settler) -> Course
         ensures { (start : Parts) (old : List PlyOf) → KeepsCourse self.now start old → settler.now.start ≡ start
@@ -190,20 +177,6 @@ impl Course {
             is_at_start,
             start: self.start,
             here,
-        }
-    }
-
-    /// The game after an event, if its plies are others.
-    fn next(&self, settler: &Settler) -> Option<Course>
-        ensures { (start : Parts) (old : List PlyOf) → KeepsCourse self.now start old → settler.now.start ≡ start → Grows old settler.now.score.plies
-            → IsNext start old settler.now.score.plies result }
-    {
-        let count = settler.moves().len() as u64;
-        let last = last_of(settler);
-        if self.has_same_plies(count, last) {
-            None
-        } else {
-            Some(self.after(settler))
         }
     }
 
@@ -225,22 +198,20 @@ impl Course {
         }
     }
 
-    /// Goes on with an event. The move or correction, if the plies have become others.
-    pub fn go_on(&mut self, is_added: bool, settler: &Settler) -> Option<Move>
-        ensures keeps { (start : Parts) (old : List PlyOf) → KeepsCourse self.old start old → settler.now.start ≡ start → Grows old settler.now.score.plies
+    /// Goes on with an event, with which the plies become others or stay. The move or correction, if they do.
+    pub fn go_on(&mut self, moves: bool, is_added: bool, settler: &Settler) -> Option<Move>
+        ensures keeps { (start : Parts) (old : List PlyOf) → KeepsCourse self.old start old → settler.now.start ≡ start → AreMoved moves old settler.now.score.plies
             → KeepsCourse self.new start settler.now.score.plies }
-        ensures tells { (start : Parts) (old : List PlyOf) → KeepsCourse self.old start old → settler.now.start ≡ start → Grows old settler.now.score.plies
+        ensures tells { (start : Parts) (old : List PlyOf) → KeepsCourse self.old start old → settler.now.start ≡ start → AreMoved moves old settler.now.score.plies
             → TellsMove start is_added old settler.now.score.plies result }
     {
-        let next = self.next(settler);
-        match next {
-            None => None,
-            Some(next) => {
-                let played = self.move_to(&next, is_added);
-                *self = next;
-                Some(played)
-            }
+        if !moves {
+            return None;
         }
+        let next = self.after(settler);
+        let played = self.move_to(&next, is_added);
+        *self = next;
+        Some(played)
     }
 
     /// Whether a picture shows the game's position, if it differs from it on these squares.

@@ -3,7 +3,7 @@ ghost use Rattle.std.specs.Prelude.{◌≡◌, ◌∷◌, ◌<◌, ◌^◌, [], 
 ghost use Rattle.dgt_frame.specs.declared.events.Event.{Event as EventOf};
 ghost use Rattle.board_events.specs.Session.{HasTakenEvents};
 ghost use Rattle.board_events.specs.Settings.{Setting};
-ghost use Rattle.board_alarms.specs.Hearing.{HasResult};
+ghost use Rattle.board_alarms.specs.Hearing.{HasMoved, HasResult, is_another, moves};
 ghost use Rattle.game_over.specs.Result.{has_come as has_come_of};
 ghost use Rattle.board_endings.specs.Items.{Item, Noted, Sent, events_of};
 ghost use Rattle.board_endings.specs.Keeping.{IsShown, StandsFor};
@@ -14,7 +14,7 @@ use crate::course::Course;
 use crate::judging::Judging;
 use crate::news::{End, News};
 use crate::picture::told_of;
-use board_alarms::When;
+use board_alarms::{Sight, When};
 use board_events::Session;
 use chess_game::result_at;
 use chess_rules::Position;
@@ -70,7 +70,7 @@ impl Endings {
         }
     }
 
-    /// Takes an event, with which the capture has so many bytes. It may show another picture than the one before it; then this is
+    /// Takes an event, with which the capture has so many bytes. If this shows another picture than the one before it, then this is
     /// that picture. The session has taken it already, and the game has this result with it.
     ///
     /// # Errors
@@ -80,22 +80,23 @@ impl Endings {
         &mut self,
         when: When,
         bytes: u64,
-        is_another: bool,
+        sight: Sight,
         picture: &[u8; 64],
         session: &Session,
         outcome: Option<Outcome>,
     ) -> Result<(), AllocError>
         ensures { (setting : Setting) (items : List Item) (event : EventOf) → StandsFor self.old setting items
-            → IsShown setting (events_of items) event is_another picture.now → HasTakenEvents session.now setting (event ∷ events_of items)
+            → IsShown setting (events_of items) event (is_another sight) picture.now → HasMoved setting (events_of items) event (moves sight)
+            → HasTakenEvents session.now setting (event ∷ events_of items)
             → HasResult setting.start session.now.settler.score outcome
             → OnOk result (StandsFor self.new setting (Sent when.at when.is_added bytes event ∷ items)) }
     {
         self.bytes = bytes;
-        if !is_another {
+        if !sight.is_another() {
             return Ok(());
         }
         let settler = session.settler();
-        let moved = self.course.go_on(when.is_added, settler);
+        let moved = self.course.go_on(sight.moves(), when.is_added, settler);
         let differs = settler.differs();
         let told = told_of(&self.course, moved, differs, picture, self.result, outcome);
         self.result = outcome;

@@ -43,7 +43,7 @@ pub seen_is : (setting : Setting) (past : List Event) (event : Event) (shown : S
     → IsShown setting past event shown → IsSeen setting past event (is_another shown) seen
 seen_is setting past event Nothing seen last shown = record { another_is = no_entry _ _ shown; seen_is = λ e. absurd cc }
 seen_is setting past event Again seen last shown = record { another_is = same_again _ _ shown.0 shown.1; seen_is = λ e. absurd cc }
-seen_is setting past event (Another changed turned) seen last shown = record {
+seen_is setting past event (Another changed turned moved) seen last shown = record {
   another_is = another_one _ _ (shown.0).entry (shown.0).another;
   seen_is = λ e. picture_is setting past event seen (shown.0).entry last;
 }

@@ -4,6 +4,7 @@ use Rattle.std.specs.Int.{bit_at}
 use Rattle.std.proofs.lemmas.Nat.Bits.{bit_at-zero}
 use Rattle.std.proofs.lemmas.Option.{same_Some}
 use Rattle.chess_rules.specs.Picture.{picture}
+use Rattle.chess_rules.specs.Valid.{Valid}
 use Rattle.dgt_frame.specs.declared.events.Event.{Event}
 use Rattle.settle_core.specs.Entries.{last_picture}
 use Rattle.settle_core.specs.Masks.{IsDiff}
@@ -11,14 +12,17 @@ use Rattle.board_captures.proofs.ReadLemmas.{is_last, same_shown, some_shown}
 use Rattle.board_events.specs.declared.view.Change.TheVariants.{Square, Picture}
 use Rattle.board_events.specs.History.{picture_of}
 use Rattle.board_events.specs.Pictures.{ChangesPictures, IsLast, pictures}
-use Rattle.board_events.specs.Session.{entries_in}
+use Rattle.board_events.specs.declared.session.Taken.{Taken}
+use Rattle.board_events.specs.Session.{TellsTaken, entries_in}
 use Rattle.board_events.specs.Settings.{Setting}
 use Rattle.board_events.specs.View.{Views}
 use Rattle.recovery.proofs.KeepLemmas.{another_here, entry_here}
 use Rattle.board_game.specs.declared.pictures.Pictures.{Pictures}
 use Rattle.board_game.specs.declared.pictures.Shown.TheVariants.{Another}
+use Rattle.board_alarms.specs.Hearing.{HasMoved}
 use Rattle.board_game.specs.Hearing.{Changes, IsMask}
-use Rattle.board_game.specs.Inside.Shown.{HasSeen, IsShown}
+use Rattle.board_game.specs.Inside.Shown.{HasSeen, IsShown, moves}
+use Rattle.board_game.proofs.PlyLemmas.{moved as has_moved}
 
 -- a picture doesn't differ from itself
 pub no_difference : (picture : List ℕ) → IsDiff 0 picture picture
@@ -61,16 +65,18 @@ mask_of squares one other p q e f fits differ =
     let D : List ℕ → List ℕ → Type 0 = λ a b. IsDiff squares a b in
     record { fits = fits; differ = subst (D p) f (subst (λ a. D a other) e differ) }
 
-pub another_shown : (setting : Setting) (past : List Event) (event : Event) (p start : List ℕ) (changed turned : ℕ)
+pub another_shown : (setting : Setting) (past : List Event) (event : Event) (taken : Taken) (p start : List ℕ) (changed turned : ℕ) (moved : Bool)
     → pictures setting.rotated (event ∷ past) ≡ p ∷ pictures setting.rotated past
     → Changes (last_picture (entries_in setting past)) p changed → start ≡ reverse (picture setting.start) → turned < 2 ^ 64 → IsDiff turned start p
-    → IsShown setting past event (Another changed turned)
-another_shown setting past event p start changed turned more changes same within differ =
+    → Valid setting.start → TellsTaken setting past event taken → moved ≡ moves taken.seen → IsShown setting past event (Another changed turned moved)
+another_shown setting past event taken p start changed turned moved more changes same within differ valid tells moved_is =
     let new = another_here setting past event p more in
+    let M : Bool → Type 0 = λ b. HasMoved setting past event b in
     let now = (entry_here setting.rotated past event p more).1 in (
       record { entry = new.0; another = new.1 },
       subst (λ q. Changes (last_picture (entries_in setting past)) q changed) now changes,
       mask_of turned start p (reverse (picture setting.start)) (picture_of setting.rotated (event ∷ past)) same now within differ,
+      subst M (sym moved_is) (has_moved setting past event taken.seen valid new.0 new.1 tells.entry tells.seen),
     )
 
 -- the picture before it, where one square has changed

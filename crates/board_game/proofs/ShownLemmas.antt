@@ -54,8 +54,8 @@ whole_again setting past event seen last shown =
     let same = picture_is setting past event seen shown.0 last in
     (shown.0, same, ap (λ (p : List ℕ). repeats p (entries_in setting past)) same ∙ shown.1)
 
-pub whole_another : (setting : Setting) (past : List Event) (event : Event) (seen : List ℕ) (changed turned : ℕ) → IsLast seen (pictures setting.rotated (event ∷ past))
-    → IsShown setting past event (Another changed turned) → IsWhole setting past event (AnotherWhole seen)
-whole_another setting past event seen changed turned last shown =
+pub whole_another : (setting : Setting) (past : List Event) (event : Event) (seen : List ℕ) (changed turned : ℕ) (moved : Bool) → IsLast seen (pictures setting.rotated (event ∷ past))
+    → IsShown setting past event (Another changed turned moved) → IsWhole setting past event (AnotherWhole seen)
+whole_another setting past event seen changed turned moved last shown =
     let same = picture_is setting past event seen (shown.0).entry last in
     ((shown.0).entry, same, ap (λ (p : List ℕ). repeats p (entries_in setting past)) same ∙ (shown.0).another)

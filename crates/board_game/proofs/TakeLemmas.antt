@@ -1,10 +1,17 @@
 -- What is told of an event by itself.
-use Rattle.std.proofs.Common.{◌≡◌, ◌++◌, ℕ, List, ◌∷◌, Option, refl, sym, ap, ◌∙◌, append_assoc}
+use Rattle.std.proofs.Common.{◌≡◌, ◌++◌, ℕ, List, ◌∷◌, Option, refl, sym, ap, subst, ◌∙◌, append_assoc}
+use Rattle.dgt_frame.specs.declared.events.Event.{Event}
 use Rattle.dgt_frame.specs.Streams.{Timed}
+use Rattle.settle_core.specs.Entries.{deduplicated}
+use Rattle.settle_core.specs.Folding.{Score}
+use Rattle.settle_core.proofs.Once.{folds_once}
+use Rattle.board_events.specs.Session.{entries_in}
 use Rattle.board_events.specs.Settings.{Setting}
 use Rattle.board_alarms.specs.declared.event_heard.When.{When}
 use Rattle.board_alarms.specs.Keeping.{StandsFor as AlarmsStand}
 use Rattle.board_endings.specs.Keeping.{StandsFor as EndingsStand}
+use Rattle.board_listing.specs.declared.watcher.Watcher.{Watcher}
+use Rattle.board_listing.specs.GameText.{HasResult}
 use Rattle.board_listing.specs.GivenGame.{GameLine, text_of}
 use Rattle.board_listing.specs.Inside.Watchers.{HasWatched}
 use Rattle.board_listing.specs.WatchText.{WatchesEvent}
@@ -17,6 +24,15 @@ use Rattle.board_game.specs.Hearing.{HearsEvent, with_heard}
 use Rattle.board_game.specs.History.{Item, Sent, events_of}
 use Rattle.board_game.specs.Inside.Shown.{HasSeen}
 use Rattle.board_game.specs.Inside.Telling.{HasTold}
+
+-- The result is that of the game.
+pub result_of : (watcher : Watcher) (setting : Setting) (past : List Event) → HasWatched watcher setting past
+    → HasResult setting.start watcher.follower.session.settler.score watcher.follower.told
+result_of watcher setting past watched =
+    let followed = watched.followed in
+    let score = watcher.follower.session.settler.score in
+    let scores : followed.score ≡ score = folds_once setting.start (deduplicated (entries_in setting past)) followed.score score followed.valid followed.folds followed.stands.settler.folds in
+    subst (λ (s : Score). HasResult setting.start s watcher.follower.told) scores followed.told
 
 -- The parts of the teller have taken the event: so it is told.
 pub told_event : (old new : Teller) (setting : Setting) (items : List Item) (text : List ℕ) (time : When) (x : Timed) (all lines before after : List ℕ) (h : HasTold old setting items text)

@@ -1,5 +1,6 @@
 //! What is told of how a game ends.
 ghost use Rattle.std.specs.Prelude.{◌≡◌, ◌+◌, ◌∷◌, List, OnOk};
+ghost use Rattle.chess_rules.specs.Valid.{Valid};
 ghost use Rattle.dgt_frame.specs.declared.events.Event.{Event as EventOf};
 ghost use Rattle.board_alarms.specs.Hearing.{HasResult};
 ghost use Rattle.board_events.specs.Session.{HasTakenEvents};
@@ -7,10 +8,10 @@ ghost use Rattle.board_events.specs.Settings.{Setting};
 ghost use Rattle.board_endings.specs.Items.{Item as EndItem, Sent as Comes, events_of as end_events};
 ghost use Rattle.board_endings.specs.Keeping.{StandsFor as EndingsStand};
 ghost use Rattle.board_game.specs.Ending.{end_news, end_of_line, with_end_news};
-ghost use Rattle.board_game.specs.Inside.Shown.{HasSeen, IsShown, is_another as is_another_of};
+ghost use Rattle.board_game.specs.Inside.Shown.{HasSeen, IsShown};
 
 use crate::note::Note;
-use crate::pictures::{Pictures, Shown};
+use crate::pictures::{Pictures, Shown, sight};
 use board_alarms::When;
 use board_endings::{Endings, News};
 use board_events::Session;
@@ -53,12 +54,6 @@ pub fn note_end(endings: &mut Endings, at: u64, note: Note) -> Result<(), AllocE
     }
 }
 
-fn is_another(shown: Shown) -> bool
-    ensures { result ≡ is_another_of shown }
-{
-    matches!(shown, Shown::Another { .. })
-}
-
 /// Tells an event, which the session and the pictures have taken. It ends at this offset, and the game has this result with it.
 pub fn tell_end(
     endings: &mut Endings,
@@ -69,18 +64,11 @@ pub fn tell_end(
     session: &Session,
     outcome: Option<Outcome>,
 ) -> Result<(), AllocError>
-    ensures { (setting : Setting) (items : List EndItem) (event : EventOf) → EndingsStand endings.old setting items
+    ensures { (setting : Setting) (items : List EndItem) (event : EventOf) → Valid setting.start → EndingsStand endings.old setting items
         → HasSeen pictures.now setting (event ∷ end_events items) → IsShown setting (end_events items) event shown
         → HasTakenEvents session.now setting (event ∷ end_events items) → HasResult setting.start session.now.settler.score outcome
         → OnOk result (EndingsStand endings.new setting (Comes when.at when.is_added (offset + 1) event ∷ items)) }
 {
     let bytes = offset as u64 + 1;
-    endings.take(
-        when,
-        bytes,
-        is_another(shown),
-        pictures.last(),
-        session,
-        outcome,
-    )
+    endings.take(when, bytes, sight(shown), pictures.last(), session, outcome)
 }

@@ -1,18 +1,20 @@
 //! The pictures of a board, compared with others.
 ghost use Rattle.std.specs.Prelude.{◌≡◌, ◌<◌, ◌∷◌, [], ℕ, List, false, length, slice_set, true};
+ghost use Rattle.chess_rules.specs.Valid.{Valid};
 ghost use Rattle.dgt_frame.specs.declared.events.Event.{Event as EventOf};
 ghost use Rattle.settle_core.specs.Masks.{IsDiff};
-ghost use Rattle.board_events.specs.Entries.{is_entry as is_entry_of};
-ghost use Rattle.board_events.specs.History.{IsInRange, is_trusted};
+ghost use Rattle.board_events.specs.History.{IsInRange};
 ghost use Rattle.board_events.specs.Pictures.{IsLast, pictures};
+ghost use Rattle.board_events.specs.Session.{TellsTaken};
 ghost use Rattle.board_events.specs.Settings.{Setting};
-ghost use Rattle.board_alarms.specs.Hearing.{IsShown as IsWhole, shown_at};
-ghost use Rattle.board_game.specs.Inside.Shown.{HasSeen, IsShown};
+ghost use Rattle.board_alarms.specs.Hearing.{HasMoved, IsShown as IsWhole, is_another as is_another_sight, moves as moves_sight, shown_at};
+ghost use Rattle.board_game.specs.Inside.Shown.{HasSeen, IsShown, is_another, moves as moves_of};
 
 use board_alarms::Sight;
-use board_events::{Change, View};
+use board_events::{Change, Taken, View};
 use chess_rules::Position;
-use dgt_frame::{Event, Message};
+use dgt_frame::Event;
+use settle_core::Seen;
 use settle_core::masks::diff_mask;
 
 /// What an event shows. A mask has bit n for square n.
@@ -28,6 +30,8 @@ pub enum Shown {
         changed: u64,
         /// Where it differs from the start, seen from the other side.
         turned: u64,
+        /// The plies have become others with it.
+        moves: bool,
     },
 }
 
@@ -42,13 +46,12 @@ pub struct Pictures {
     mask: u64,
 }
 
-/// Whether an event shows a picture, if updates count or don't.
-fn is_entry(trusted: bool, event: &Event) -> bool
-    ensures { (past : List EventOf) → trusted ≡ is_trusted past → result ≡ is_entry_of event.now past }
+/// Whether the plies have become others, if this was seen.
+fn moves(seen: Option<Seen>) -> bool
+    ensures { result ≡ moves_of seen }
 {
-    match event {
-        Event::Message(Message::Dump(_)) => true,
-        Event::Message(Message::Update { .. }) => trusted,
+    match seen {
+        Some(Seen::Moved(_) | Seen::Replaced(_)) => true,
         _ => false,
     }
 }
@@ -84,13 +87,16 @@ fn changed_from(was_shown: bool, before: &[u8; 64], picture: &[u8; 64]) -> u64
 
 /// What an event shows, as alarms are told it.
 pub fn sight(shown: Shown) -> Sight
-    ensures { (setting : Setting) (past : List EventOf) (event : EventOf) (seen : List ℕ) → IsLast seen (pictures setting.rotated (event ∷ past))
+    ensures whole { (setting : Setting) (past : List EventOf) (event : EventOf) (seen : List ℕ) → IsLast seen (pictures setting.rotated (event ∷ past))
         → IsShown setting past event shown → IsWhole setting past event (shown_at result seen) }
+    ensures another { is_another_sight result ≡ is_another shown }
+    ensures moved { (setting : Setting) (past : List EventOf) (event : EventOf) → Valid setting.start → IsShown setting past event shown
+        → HasMoved setting past event (moves_sight result) }
 {
     match shown {
         Shown::Nothing => Sight::Nothing,
         Shown::Again => Sight::Again,
-        Shown::Another { .. } => Sight::Another,
+        Shown::Another { moves, .. } => if moves { Sight::Moves } else { Sight::Another },
     }
 }
 
@@ -109,12 +115,11 @@ impl Pictures {
         }
     }
 
-    /// Takes the next event, and says what it shows, if updates count or don't.
-    pub fn see(&mut self, trusted: bool, event: &Event) -> Shown
+    /// Takes the next event, of which the session has told this, and says what it shows.
+    pub fn see(&mut self, taken: &Taken, event: &Event) -> Shown
         requires { IsInRange event.now }
-        ensures seen { (setting : Setting) (past : List EventOf) → trusted ≡ is_trusted past → HasSeen self.old setting past
-            → HasSeen self.new setting (event.now ∷ past) }
-        ensures shown { (setting : Setting) (past : List EventOf) → trusted ≡ is_trusted past → HasSeen self.old setting past
+        ensures seen { (setting : Setting) (past : List EventOf) → HasSeen self.old setting past → HasSeen self.new setting (event.now ∷ past) }
+        ensures shown { (setting : Setting) (past : List EventOf) → Valid setting.start → TellsTaken setting past event.now taken.now → HasSeen self.old setting past
             → IsShown setting past event.now result }
     {
         let was_shown = self.has_shown;
@@ -125,7 +130,7 @@ impl Pictures {
         let picture = self.view.picture();
         match change {
             Change::Nothing => {
-                if is_entry(trusted, event) {
+                if taken.seen.is_some() {
                     Shown::Again
                 } else {
                     Shown::Nothing
@@ -139,6 +144,7 @@ impl Pictures {
                 Shown::Another {
                     changed: changed_here,
                     turned,
+                    moves: moves(taken.seen),
                 }
             }
             Change::Picture => {
@@ -149,6 +155,7 @@ impl Pictures {
                 Shown::Another {
                     changed: changed_here,
                     turned,
+                    moves: moves(taken.seen),
                 }
             }
         }

@@ -1,13 +1,15 @@
 //! Events to lines, and to what is heard of them.
-ghost use Rattle.std.specs.Prelude.{◌≡◌, ◌≤◌, ◌+◌, ◌↔◌, ◌∷◌, [], ◌++◌, ℕ, IsTrue, List, Option, OnOk};
+ghost use Rattle.std.specs.Prelude.{◌≡◌, ◌≤◌, ◌+◌, ◌↔◌, ◌∷◌, [], ◌++◌, ℕ, IfOk, IsTrue, List, Option, OnOk};
 ghost use Rattle.arrayvec.specs.ArrayVec.{array_vec_len};
 ghost use Rattle.dgt_frame.specs.declared.events.Event.{Event as EventOf};
 ghost use Rattle.dgt_frame.specs.Streams.{HasFrame};
-ghost use Rattle.settle_core.specs.Folding.{Score};
+ghost use Rattle.settle_core.specs.Entries.{deduplicated};
+ghost use Rattle.settle_core.specs.Folding.{Folds, Score};
 ghost use Rattle.settle_core.specs.Settler.{HasSettled};
 ghost use Rattle.board_events.specs.Session.{entries_in};
 ghost use Rattle.board_events.specs.Settings.{Setting};
-ghost use Rattle.board_listing.specs.Inside.Watchers.{HasWatched};
+ghost use Rattle.board_listing.specs.GameText.{HasResult};
+ghost use Rattle.board_listing.specs.Inside.Watchers.{AddsWatched, HasWatched};
 ghost use Rattle.board_standing.specs.declared.heard.Event.{Event as ToldOf};
 ghost use Rattle.board_standing.specs.declared.heard.Heard.{Heard as HeardOf};
 ghost use Rattle.board_standing.specs.Keeping.{StandsFor as StandingStands};
@@ -19,15 +21,13 @@ ghost use Rattle.board_alarms.specs.Keeping.{StandsFor as AlarmsStand};
 ghost use Rattle.board_game.specs.Alarming.{news_of, of_line, with_news};
 ghost use Rattle.board_game.specs.Hearing.{HearsEvent, HearsPicture, HearsResult, heard_of as heard_of_note, with_heard};
 ghost use Rattle.board_game.specs.History.{Item, Noted, Pair, Sent, with_events};
-ghost use Rattle.board_game.specs.Inside.Plies.{Grows, IsStage};
-ghost use Rattle.board_game.specs.Inside.Shown.{IsShown};
+ghost use Rattle.board_game.specs.Inside.Shown.{HasSeen, IsShown};
 ghost use Rattle.board_game.specs.Inside.Telling.{HasTold};
 ghost use Rattle.board_game.specs.Report.{first_line};
 
 use crate::ending::{note_end, tell_end};
 use crate::note::Note;
 use crate::pictures::{Pictures, Shown, sight};
-use crate::stage::{Stage, has_same_plies, stage_of};
 use board_alarms::{Alarms, News, When};
 use board_endings::Endings;
 use board_listing::Watcher;
@@ -70,27 +70,29 @@ fn make_room(gathered: &mut Lines, lines: &mut Vec<u8>) -> Result<(), AllocError
     Ok(())
 }
 
-/// What is heard of the picture of an event, before and after which the game had come so far.
-fn picture_heard(shown: Shown, old: &Stage, new: &Stage, settler: &Settler) -> Option<Heard>
+/// What is heard of the picture of an event.
+fn picture_heard(shown: Shown, settler: &Settler) -> Option<Heard>
     ensures { (setting : Setting) (past : List EventOf) (event : EventOf) (before : Score)
-        → HasSettled settler.now setting.start (entries_in setting (event ∷ past)) → IsStage old.now setting past before
-        → IsStage new.now setting (event ∷ past) settler.now.score → Grows before.plies settler.now.score.plies
+        → HasSettled settler.now setting.start (entries_in setting (event ∷ past)) → Folds setting.start (deduplicated (entries_in setting past)) before
         → IsShown setting past event shown → HearsPicture setting past event before settler.now.score result }
 {
     match shown {
         Shown::Nothing => None,
         Shown::Again => Some(Heard::Repeats),
-        Shown::Another { changed, turned } => {
-            if has_same_plies(old, new) {
-                let differs = settler.differs();
-                Some(Heard::Shows(Picture {
-                    differs,
-                    changed,
-                    turned,
-                }))
-            } else {
-                Some(Heard::Moves)
+        Shown::Another {
+            changed,
+            turned,
+            moves,
+        } => {
+            if moves {
+                return Some(Heard::Moves);
             }
+            let differs = settler.differs();
+            Some(Heard::Shows(Picture {
+                differs,
+                changed,
+                turned,
+            }))
         }
     }
 }
@@ -167,17 +169,40 @@ fn tell(standing: &mut Standing, at: u64, what: Option<Heard>)
     }
 }
 
-/// Tells how a board stands what is heard of the event that was watched last, before and after which the game had come so far.
-fn hear(standing: &mut Standing, watcher: &Watcher, at: u64, old: &Stage, new: &Stage, shown: Shown)
+/// Adds the lines of the next event, and says what it shows.
+fn watch(
+    watcher: &mut Watcher,
+    pictures: &mut Pictures,
+    gathered: &mut Lines,
+    offset: u32,
+    event: &Event,
+) -> Result<Shown, AllocError>
+    requires room { array_vec_len gathered.old + FREE ≤ GATHERED }
+    requires frame { HasFrame event.now }
+    requires watched { (setting : Setting) × (past : List EventOf) × HasWatched watcher.old setting past }
+    ensures added { OnOk result (AddsWatched watcher.old gathered.old.items (record { offset = offset; event = event.now }) watcher.new gathered.new.items) }
+    ensures seen { (setting : Setting) (past : List EventOf) → HasWatched watcher.old setting past → HasSeen pictures.old setting past
+        → OnOk result (HasSeen pictures.new setting (event.now ∷ past)) }
+    ensures shown { (setting : Setting) (past : List EventOf) → HasWatched watcher.old setting past → HasSeen pictures.old setting past
+        → IfOk result (IsShown setting past event.now) }
+{
+    match watcher.add(gathered, offset, event) {
+        Ok(taken) => Ok(pictures.see(&taken, event)),
+        Err(error) => Err(error),
+    }
+}
+
+/// Tells how a board stands what is heard of the event that was watched last, before which the game had this result.
+fn hear(standing: &mut Standing, watcher: &Watcher, at: u64, old: Option<Outcome>, shown: Shown)
     ensures { (setting : Setting) (past : List EventOf) (event : EventOf) (before : Score) (heard : List ToldOf)
-        → HasWatched watcher.now setting (event ∷ past) → IsStage old.now setting past before
-        → IsStage new.now setting (event ∷ past) watcher.now.follower.session.settler.score → IsShown setting past event shown
+        → HasWatched watcher.now setting (event ∷ past) → Folds setting.start (deduplicated (entries_in setting past)) before
+        → HasResult setting.start before old → IsShown setting past event shown
         → StandingStands standing.old heard → (picture ended : Option HeardOf) × HearsEvent setting past event picture ended
         × StandingStands standing.new (with_heard at ended (with_heard at picture heard)) }
 {
     let settler = watcher.session().settler();
-    let picture = picture_heard(shown, old, new, settler);
-    let ended = result_heard(old.result, new.result);
+    let picture = picture_heard(shown, settler);
+    let ended = result_heard(old, watcher.result());
     tell(standing, at, picture);
     tell(standing, at, ended);
 }
@@ -226,20 +251,17 @@ impl Teller {
             → OnOk result ((more : List ℕ) × (lines.new.items ++ gathered.new.items ≡ (lines.old.items ++ gathered.old.items) ++ more)
             × HasTold self.new setting (Sent when (record { offset = offset; event = event.now }) ∷ items) (text ++ more)) }
     {
-        let old = stage_of(&self.watcher);
-        let trusted = self.watcher.session().trusted();
+        let before = self.watcher.result();
         make_room(gathered, lines)?;
-        self.watcher.add(gathered, offset, event)?;
-        let shown = self.pictures.see(trusted, event);
-        let new = stage_of(&self.watcher);
-        hear(
-            &mut self.standing,
-            &self.watcher,
-            when.at,
-            &old,
-            &new,
-            shown,
-        );
+        let shown = watch(
+            &mut self.watcher,
+            &mut self.pictures,
+            gathered,
+            offset,
+            event,
+        )?;
+        hear(&mut self.standing, &self.watcher, when.at, before, shown);
+        let outcome = self.watcher.result();
         let picture = self.pictures.last();
         let session = self.watcher.session();
         self.alarms.take(
@@ -249,7 +271,7 @@ impl Teller {
             sight(shown),
             picture,
             session,
-            new.result,
+            outcome,
         )?;
         tell_end(
             &mut self.endings,
@@ -258,7 +280,7 @@ impl Teller {
             shown,
             &self.pictures,
             session,
-            new.result,
+            outcome,
         )
     }
 

@@ -1,10 +1,14 @@
 //! Events to lines.
 ghost use Rattle.std.specs.Prelude.{◌≡◌, ◌≤◌, ◌+◌, ◌∷◌, [], ◌++◌, List, OnErr, OnOk};
 ghost use Rattle.arrayvec.specs.ArrayVec.{array_vec_len};
+ghost use Rattle.dgt_frame.specs.declared.events.Event.{Event as EventOf};
 ghost use Rattle.dgt_frame.specs.Streams.{HasFrame, Timed};
+ghost use Rattle.board_events.specs.Session.{WantsMemory};
+ghost use Rattle.board_events.specs.Settings.{Setting};
 ghost use Rattle.board_listing.specs.declared.listing.Listing.{Listing};
 ghost use Rattle.board_listing.specs.Listings.{LacksMemory, first_line, last_line};
 ghost use Rattle.board_listing.specs.Inside.Printers.{AddsLines, Follows, HasBegun};
+ghost use Rattle.board_listing.specs.Inside.Watchers.{AddsWatched, HasWatched};
 
 use crate::events::{add_line, add_rest};
 use crate::follower::Follower;
@@ -25,6 +29,27 @@ pub fn add_first(lines: &mut Lines, listing: &Listing)
 {
     if let Listing::Watched { start, .. } = listing {
         add_position(lines, 0, start);
+    }
+}
+
+/// Adds the lines of an event that is watched.
+fn watch(
+    watcher: &mut Watcher,
+    lines: &mut Lines,
+    offset: u32,
+    event: &Event,
+) -> Result<(), AllocError>
+    requires room { array_vec_len lines.old + ROOM ≤ GATHERED }
+    requires frame { HasFrame event.now }
+    requires watched { (setting : Setting) × (past : List EventOf) × HasWatched watcher.old setting past }
+    ensures ok { OnOk result (AddsWatched watcher.old lines.old.items (record { offset = offset; event = event.now }) watcher.new lines.new.items) }
+    ensures err { OnErr result (lines.new.items ≡ lines.old.items) }
+    ensures memory { (setting : Setting) (past : List EventOf) → HasWatched watcher.old setting past
+        → OnErr result (WantsMemory setting past event.now) }
+{
+    match watcher.add(lines, offset, event) {
+        Ok(_) => Ok(()),
+        Err(error) => Err(error),
     }
 }
 
@@ -95,7 +120,7 @@ impl Printer {
                 Ok(())
             }
             Printer::Game(follower) => follower.add(lines, offset, event),
-            Printer::Watched(watcher) => watcher.add(lines, offset, event),
+            Printer::Watched(watcher) => watch(watcher, lines, offset, event),
         }
     }
 

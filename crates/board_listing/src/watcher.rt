@@ -1,5 +1,5 @@
 //! Events to what they make of a game, with what the board and the clocks show.
-ghost use Rattle.std.specs.Prelude.{◌≡◌, ◌≢◌, ◌↔◌, ◌⊎◌, ◌≤◌, ◌+◌, ◌++◌, [], ℕ, List, IfSome, IsTrue, None, OnErr, OnOk, Some, true, false};
+ghost use Rattle.std.specs.Prelude.{◌≡◌, ◌≢◌, ◌↔◌, ◌⊎◌, ◌≤◌, ◌+◌, ◌++◌, [], ℕ, List, IfOk, IfSome, IsTrue, None, OnErr, OnOk, Some, true, false};
 ghost use Rattle.arrayvec.specs.ArrayVec.{array_vec_len};
 ghost use Rattle.dgt_frame.specs.Streams.{HasFrame};
 ghost use Rattle.settle_core.specs.declared.plies.Seen.{Seen as SeenOf};
@@ -147,6 +147,12 @@ fn add_new_reading(
     }
 }
 
+fn copy(taken: &Taken) -> Taken
+    ensures { result ≡ taken.now }
+{
+    *taken
+}
+
 /// Follows the game of the events of a board, and makes the lines of what each event makes of it and shows.
 #[derive(Drop)]
 pub struct Watcher {
@@ -158,7 +164,7 @@ pub struct Watcher {
 impl Watcher {
     ghost use Rattle.dgt_frame.specs.declared.events.Event.{Event as EventOf};
     ghost use Rattle.board_events.specs.Settings.{Setting};
-    ghost use Rattle.board_events.specs.Session.{WantsMemory};
+    ghost use Rattle.board_events.specs.Session.{TellsTaken, WantsMemory};
     ghost use Rattle.board_listing.specs.Inside.Watchers.{AddsShown, AddsWatched, HasWatched, ShowsNews};
 
     /// A watcher that was given no event. Takes no memory.
@@ -172,16 +178,23 @@ impl Watcher {
         }
     }
 
-    /// Adds the lines of an event at this offset: five at most.
+    /// Adds the lines of an event at this offset: five at most. Returns what the session has told of it.
     ///
     /// # Errors
     ///
     /// Memory is taken only where the event gives a move. Where there is none, no line is added.
-    pub fn add(&mut self, lines: &mut Lines, offset: u32, event: &Event) -> Result<(), AllocError>
+    pub fn add(
+        &mut self,
+        lines: &mut Lines,
+        offset: u32,
+        event: &Event,
+    ) -> Result<Taken, AllocError>
         requires room { array_vec_len lines.old + ROOM ≤ GATHERED }
         requires frame { HasFrame event.now }
         requires watched { (setting : Setting) × (past : List EventOf) × HasWatched self.old setting past }
         ensures ok { OnOk result (AddsWatched self.old lines.old.items (record { offset = offset; event = event.now }) self.new lines.new.items) }
+        ensures tells { (setting : Setting) (past : List EventOf) → HasWatched self.old setting past
+            → IfOk result (TellsTaken setting past event.now) }
         ensures err { OnErr result (lines.new.items ≡ lines.old.items) }
         ensures memory { (setting : Setting) (past : List EventOf) → HasWatched self.old setting past
             → OnErr result (WantsMemory setting past event.now) }
@@ -193,9 +206,10 @@ impl Watcher {
             Ok(taken) => taken,
             Err(error) => return Err(error),
         };
+        let told = copy(&taken);
         self.tell(lines, offset, event, taken);
         add_new_reading(lines, offset, event, &old, &self.follower.session.reading());
-        Ok(())
+        Ok(told)
     }
 
     /// The session, for callers who show more of the game.

@@ -345,8 +345,7 @@ static CASES: [Case<'static>; 20] = [
 struct Board {
     session: Session,
     alarms: Alarms,
-    /// The last picture, if one was shown.
-    has_shown: bool,
+    /// The last picture.
     shown: [u8; 64],
 }
 
@@ -356,12 +355,13 @@ fn digits(n: u8) -> u8 {
     tens * 16 + n % 10
 }
 
-/// What a dump shows after another one.
-fn sight(codes: [u8; 64], has_shown: bool, last: [u8; 64]) -> Sight {
-    if has_shown && last == codes {
-        Sight::Again
-    } else {
-        Sight::Another
+/// What an event shows in which a session has seen this.
+fn sight(seen: Option<Seen>) -> Sight {
+    match seen {
+        None => Sight::Nothing,
+        Some(Seen::Same) => Sight::Again,
+        Some(Seen::Moved(_) | Seen::Replaced(_)) => Sight::Moves,
+        Some(_) => Sight::Another,
     }
 }
 
@@ -391,38 +391,29 @@ impl Board {
         Board {
             session: Session::new(alloc, start, First::White, false),
             alarms,
-            has_shown: false,
             shown: [0; 64],
         }
     }
 
     fn dump(&mut self, at: u64, is_added: bool, codes: [u8; 64]) -> Result<(), AllocError> {
-        let sight = sight(codes, self.has_shown, self.shown);
-        self.has_shown = true;
         self.shown = codes;
         let Some(event) = dump_of(codes) else {
             return Ok(());
         };
-        self.event(at, is_added, event, sight)
+        self.event(at, is_added, event)
     }
 
-    fn event(
-        &mut self,
-        at: u64,
-        is_added: bool,
-        event: Event,
-        sight: Sight,
-    ) -> Result<(), AllocError>
+    fn event(&mut self, at: u64, is_added: bool, event: Event) -> Result<(), AllocError>
         requires { IsInRange event }
     {
-        feed(&mut self.session, event)?;
+        let seen = feed(&mut self.session, event)?;
         let settler = self.session.settler();
         let result = result_at(settler.position(), settler.sign());
         self.alarms.take(
             at,
             is_added,
             &event,
-            sight,
+            sight(seen),
             &self.shown,
             &self.session,
             result,
@@ -436,7 +427,7 @@ impl Board {
             Time(white, black, status) => {
                 let times = [0, 0, digits(white), 0, 0, digits(black), status];
                 let event = Event::Message(Message::Time(times));
-                self.event(at, false, event, Sight::Nothing)
+                self.event(at, false, event)
             }
             Notes(news) => self.alarms.note(at, news),
         }

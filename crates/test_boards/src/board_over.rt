@@ -5,7 +5,7 @@ ghost use Rattle.board_events.specs.History.{IsInRange};
 
 use crate::coded_frames::expect_none;
 use crate::doubted::codes_of;
-use board_alarms::When;
+use board_alarms::{Sight, When};
 use board_endings::{End, Endings, News};
 use board_events::Session;
 use chess_game::result_at;
@@ -475,7 +475,6 @@ static CASES: [Case<'static>; 26] = [
 struct Board {
     session: Session,
     endings: Endings,
-    shown: Option<[u8; 64]>,
     bytes: u64,
 }
 
@@ -487,6 +486,16 @@ fn dump_of(codes: [u8; 64]) -> Option<Event>
         Some(Event::Message(Message::Dump(codes)))
     } else {
         None
+    }
+}
+
+/// What an event shows in which a session has seen this.
+fn sight(seen: Option<Seen>) -> Sight {
+    match seen {
+        None => Sight::Nothing,
+        Some(Seen::Same) => Sight::Again,
+        Some(Seen::Moved(_) | Seen::Replaced(_)) => Sight::Moves,
+        Some(_) => Sight::Another,
     }
 }
 
@@ -505,7 +514,6 @@ impl Board {
         Board {
             session: Session::new(alloc, start, First::White, false),
             endings,
-            shown: None,
             bytes: 0,
         }
     }
@@ -514,13 +522,11 @@ impl Board {
         let Some(event) = dump_of(codes) else {
             return Ok(());
         };
-        feed(&mut self.session, event)?;
+        let seen = feed(&mut self.session, event)?;
         let settler = self.session.settler();
         let result = result_at(settler.position(), settler.sign());
-        let is_another = self.shown != Some(codes);
-        self.shown = Some(codes);
         self.bytes = self.bytes.saturating_add(67);
-        self.endings.take(when, self.bytes, is_another, &codes, &self.session, result)
+        self.endings.take(when, self.bytes, sight(seen), &codes, &self.session, result)
     }
 
     fn take(&mut self, at: u64, step: Step<'_>) -> Result<(), AllocError> {

@@ -1,9 +1,9 @@
-use Rattle.std.proofs.Common.{◌≢◌, ℕ, Bool, List, Some, None, inl, refl, ap, subst, sym, ◌∙◌}
+use Rattle.std.proofs.Common.{◌≡◌, ◌≢◌, ℕ, Bool, List, Some, None, inl, refl, ap, subst, sym, ◌∙◌}
 use Rattle.std.specs.Prelude.{if◌then◌else◌}
 use Rattle.std.proofs.lemmas.Result.{on_ok_weaker}
 use Rattle.settle_core.specs.declared.plies.Ply.{Ply}
 use Rattle.board_doubts.specs.declared.heard.Heard.TheVariants.{Agrees}
-use Rattle.board_alarms.specs.Hearing.{agrees, shown_at}
+use Rattle.board_alarms.specs.Hearing.{AreMoved, agrees, shown_at}
 use Rattle.board_alarms.specs.Keeping.{KeepsCourse}
 use Rattle.board_alarms.specs.Inside.{DiffersBy}
 use Rattle.board_alarms.specs.Plies.{position}
@@ -15,10 +15,21 @@ use Rattle.settle_core.specs.Settling.{reached}
 use Rattle.settle_core.specs.Settler.{position_of}
 use Rattle.board_alarms.proofs.event_heard.tell_plies.Goals as goal
 
-pub returns-then-stays : goal.returns-then-stays
-returns-then-stays c = λ start old told keeps same grows none last looks.
+pub returns-then-moves : goal.returns-then-moves
+returns-then-moves c = λ start old told keeps same grows moved last looks.
+    let plies = c.args.settler.now.score.plies in
+    let M : Bool → Type 0 = λ b. AreMoved b old plies in
+    let other : plies ≢ old = subst M (sym c.moves.ensures ∙ c.if-moves.true) moved in
+    let hears = c.go_on-heard.ensures.heard start (agrees start plies (shown_at c.args.sight c.args.picture.now)) old keeps same grows other in
+    on_ok_weaker c.tell-then-moves.result (λ looks. (c.go_on-heard.result.news, c.go_on-heard.result.ply, hears, c.go_on-heard.ensures.keeps start old keeps same grows, looks))
+    (c.tell-then-moves.ensures _ (c.in_ok-tell.ensures told looks))
+
+pub returns : goal.returns
+returns c = λ start old told keeps same grows moved last looks.
     let shown = shown_at c.args.sight c.args.picture.now in
-    let stay = (c.stays.ensures start old keeps grows none).0 c.if-stays.true in
+    let plies = c.args.settler.now.score.plies in
+    let M : Bool → Type 0 = λ b. AreMoved b old plies in
+    let stay : plies ≡ old = subst M (sym c.moves.ensures ∙ c.if-moves.false) moved in
     let mask = c.differs.result in
     let seen = c.args.picture.now in
     let settler = c.args.settler.now in
@@ -34,11 +45,3 @@ returns-then-stays c = λ start old told keeps same grows none last looks.
       subst C (sym stay) keeps,
       looks,
     )) (c.tell_agreement.ensures told looks)
-
-pub returns : goal.returns
-returns c = λ start old told keeps same grows none last looks.
-    let plies = c.args.settler.now.score.plies in
-    let other : plies ≢ old = λ e. let no = c.if-stays.false in let t = (c.stays.ensures start old keeps grows none).1 e in absurd cc in
-    let hears = c.go_on-heard.ensures.heard start (agrees start plies (shown_at c.args.sight c.args.picture.now)) old keeps same grows other in
-    on_ok_weaker c.tell-2.result (λ looks. (c.go_on-heard.result.news, c.go_on-heard.result.ply, hears, c.go_on-heard.ensures.keeps start old keeps same grows, looks))
-    (c.tell-2.ensures _ (c.in_ok-tell.ensures told looks))

@@ -5,8 +5,9 @@ use Rattle.board_game.proofs.EndLemmas.{seen_is}
 use Rattle.board_game.proofs.ending.tell_end.Goals as goal
 
 pub returns : goal.returns
-returns c = λ setting items event h seen shown taken outcome.
+returns c = λ setting items event valid h seen shown taken outcome.
     let past = events_of items in
     let last = c.last.ensures setting (event ∷ past) seen in
     let S : Bool → Type 0 = λ another. IsShown setting past event another c.last.result.now in
-    c.take.ensures setting items event h (subst S (sym c.is_another.ensures) (seen_is setting past event c.args.shown c.last.result.now last shown)) taken outcome
+    c.take.ensures setting items event h (subst S (sym c.sight.ensures.another) (seen_is setting past event c.args.shown c.last.result.now last shown))
+    (c.sight.ensures.moved setting past event valid shown) taken outcome

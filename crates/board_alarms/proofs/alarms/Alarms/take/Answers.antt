@@ -4,18 +4,18 @@ use Rattle.settle_core.specs.Settler.{SettlerState}
 use Rattle.board_looks.specs.declared.look.Told.{Told}
 use Rattle.board_events.specs.History.{reading_at}
 use Rattle.board_alarms.specs.Clock.{clock_of, counts_of, lever_at, lever_said, presses_of, runs_said}
-use Rattle.board_alarms.specs.Hearing.{EventHeard, agrees, away_of, shown_at, with_event}
+use Rattle.board_alarms.specs.Hearing.{AreMoved, EventHeard, agrees, away_of, moves, shown_at, with_event}
 use Rattle.board_alarms.specs.Plies.{HearsPlies}
 use Rattle.board_alarms.specs.Inside.{Grows, ShowsLast}
 use Rattle.board_alarms.specs.Items.{events_of}
 use Rattle.board_alarms.specs.Keeping.{KeepsCourse}
 use Rattle.board_alarms.proofs.MaskLemmas.{shows_last}
-use Rattle.board_alarms.proofs.PlyLemmas.{grows, stays}
+use Rattle.board_alarms.proofs.PlyLemmas.{grows}
 use Rattle.board_alarms.proofs.TakeLemmas.{shown_is}
 use Rattle.board_alarms.proofs.alarms.Alarms.take.Goals as goal
 
 pub returns : goal.returns
-returns c = λ setting items h shown taken outcome.
+returns c = λ setting items h shown moved taken outcome.
     let past = events_of items in
     let event = c.args.event.now in
     let settled = taken.settler in
@@ -30,9 +30,9 @@ returns c = λ setting items h shown taken outcome.
     let start_is : c.settler-settler.result.now.start ≡ setting.start = ap (λ (s : SettlerState). s.start) same ∙ settled.start_is in
     let score_last = c.args.session.now.settler.last in
     let L : SettlerState → Type 0 = λ s. ShowsLast c.args.sight s.last c.args.picture.now in
-    let P : SettlerState → Type 0 = λ s. s.score.plies ≡ old in
+    let M : SettlerState → Type 0 = λ s. AreMoved (moves c.args.sight) old s.score.plies in
     let G : SettlerState → Type 0 = λ s. Grows old s.score.plies in
-    let plies = c.in_ok-tell_plies.ensures setting.start old _ h.course start_is (subst G (sym same) grown) (λ none. subst P (sym same) (stays setting past event h.score score c.args.sight c.args.picture.now h.valid h.folds settled.folds shown none))
+    let plies = c.in_ok-tell_plies.ensures setting.start old _ h.course start_is (subst G (sym same) grown) (subst M (sym same) (moved h.score score h.folds settled.folds))
     (subst L (sym same) (shows_last c.args.sight score_last c.args.self.now.shown c.args.picture.now (shown_is setting past event sees c.args.self.now.shown shown h.shown ∙ sym settled.last))) picture.2 in
     let result = c.in_ok-tell_result.ensures _ plies.4 in
     let heard : EventHeard = record {

@@ -14,7 +14,6 @@ returns c = λ start old keeps same grows.
     let reached_is = c.position-position.ensures.reached ∙ ap (λ (p : Parts). reached p (moves_of plies)) same in
     record {
       counted = size;
-      last_is = c.last_of.ensures;
       side = c.is_black.ensures ∙ ap (λ (p : Parts). is_black p.side) reached_is;
       keeps = c.positions_after-positions.ensures start old plies keeps (c.picture-picture.ensures.shown ∙ ap picture reached_is) size grows;
     }

@@ -1,17 +1,25 @@
-use Rattle.std.proofs.Common.{◌≡◌, List, Option, sym, subst}
+use Rattle.std.proofs.Common.{◌≡◌, Bool, List, sym, subst}
 use Rattle.settle_core.specs.declared.plies.Ply.{Ply}
-use Rattle.board_endings.specs.declared.course.Course.{Course}
-use Rattle.board_endings.specs.Keeping.{IsNext, KeepsCourse}
+use Rattle.board_alarms.specs.Hearing.{AreMoved}
+use Rattle.board_endings.specs.Keeping.{KeepsCourse}
 use Rattle.board_endings.proofs.course.Course.go_on.Goals as goal
 
-pub returns-in-None-clause-keeps : goal.returns-in-None-clause-keeps
-returns-in-None-clause-keeps c = λ start old keeps same grows.
-    let N : Option Course → Type 0 = λ next. IsNext start old c.args.settler.now.score.plies next in
-    let stays : c.args.settler.now.score.plies ≡ old = subst N c.in-None.is (c.next-next.ensures start old keeps same grows) in
+pub returns-then-not-moves-clause-keeps : goal.returns-then-not-moves-clause-keeps
+returns-then-not-moves-clause-keeps c = λ start old keeps same moved.
+    let plies = c.args.settler.now.score.plies in
+    let M : Bool → Type 0 = λ b. AreMoved b old plies in
+    let stay : plies ≡ old = subst M c.if-not-moves.true moved in
     let K : List Ply → Type 0 = λ plies. KeepsCourse c.args.self.now start plies in
-    subst K (sym stays) keeps
+    subst K (sym stay) keeps
 
-pub returns-in-Some-clause-keeps : goal.returns-in-Some-clause-keeps
-returns-in-Some-clause-keeps c = λ start old keeps same grows.
-    let N : Option Course → Type 0 = λ next. IsNext start old c.args.settler.now.score.plies next in
-    (subst N c.in-Some.is (c.next-next.ensures start old keeps same grows)).1
+pub returns-then-not-moves-clause-tells : goal.returns-then-not-moves-clause-tells
+returns-then-not-moves-clause-tells c = λ start old keeps same moved.
+    let M : Bool → Type 0 = λ b. AreMoved b old c.args.settler.now.score.plies in
+    subst M c.if-not-moves.true moved
+
+pub returns-clause-tells : goal.returns-clause-tells
+returns-clause-tells c = λ start old keeps same moved.
+    let M : Bool → Type 0 = λ b. AreMoved b old c.args.settler.now.score.plies in (
+      subst M c.if-not-moves.false moved,
+      c.move_to-played.ensures start old c.args.settler.now.score.plies keeps (c.after-next.ensures start old keeps same),
+    )

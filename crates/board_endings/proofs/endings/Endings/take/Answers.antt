@@ -6,28 +6,30 @@ use Rattle.settle_core.specs.Folding.{moves_of}
 use Rattle.settle_core.specs.Settling.{reached}
 use Rattle.chess_rules.specs.Picture.{picture}
 use Rattle.chess_rules.specs.declared.parts.Parts.{Parts}
+use Rattle.board_alarms.specs.Hearing.{AreMoved, is_another}
 use Rattle.board_endings.specs.Items.{events_of}
-use Rattle.board_endings.specs.Keeping.{Grows, KeepsCourse}
+use Rattle.board_endings.specs.Keeping.{KeepsCourse}
 use Rattle.board_endings.specs.Moves.{TellsMove}
 use Rattle.board_endings.specs.Telling.{TellsEvent, TellsPicture, with_picture}
-use Rattle.board_endings.proofs.CourseLemmas.{grows, last_is_new}
+use Rattle.board_endings.proofs.CourseLemmas.{last_is_new}
 use Rattle.board_endings.proofs.endings.Endings.take.Goals as goal
 
 pub returns : goal.returns
-returns c = λ setting items event h shown taken outcome.
+returns c = λ setting items event h shown becomes taken outcome.
     let past = events_of items in
     let start = setting.start in
     let added = c.args.when.is_added in
     let old = h.score.plies in
     let score = c.args.session.now.settler.score in
     let settled = taken.settler in
-    let grown = grows setting past event h.score score h.valid h.folds settled.folds in
-    let K : SettlerState → Type 0 = λ s. s.start ≡ start → Grows old s.score.plies → KeepsCourse c.go_on-moved.new.self start s.score.plies in
-    let M : SettlerState → Type 0 = λ s. s.start ≡ start → Grows old s.score.plies → TellsMove start added old s.score.plies c.go_on-moved.result in
-    let course = subst K c.settler-settler.ensures.same (c.go_on-moved.ensures.keeps start old h.course) settled.start_is grown in
-    let moved = subst M c.settler-settler.ensures.same (c.go_on-moved.ensures.tells start old h.course) settled.start_is grown in
+    let R : Bool → Type 0 = λ b. AreMoved b old score.plies in
+    let becoming = subst R (sym c.moves.ensures) (becomes h.score score h.folds settled.folds) in
+    let K : SettlerState → Type 0 = λ s. s.start ≡ start → AreMoved c.moves.result old s.score.plies → KeepsCourse c.go_on-moved.new.self start s.score.plies in
+    let M : SettlerState → Type 0 = λ s. s.start ≡ start → AreMoved c.moves.result old s.score.plies → TellsMove start added old s.score.plies c.go_on-moved.result in
+    let course = subst K c.settler-settler.ensures.same (c.go_on-moved.ensures.keeps start old h.course) settled.start_is becoming in
+    let moved = subst M c.settler-settler.ensures.same (c.go_on-moved.ensures.tells start old h.course) settled.start_is becoming in
     let told = c.told_of-told.result in
-    let another : c.args.is_another ≡ true = c.if-not-is_another.false in
+    let another : is_another c.args.sight ≡ true = sym c.is_another.ensures ∙ c.if-not-is_another.false in
     let new = sym shown.another_is ∙ another in
     let mask = c.differs-differs.result in
     let D : SettlerState → Type 0 = λ s. (seen : List ℕ) → s.last ≡ Some seen → IsDiff mask (picture (position_of s)) seen in

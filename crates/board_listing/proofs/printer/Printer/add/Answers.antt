@@ -28,13 +28,13 @@ returns-in-Events-clause-ok c =
 pub returns-in-Watched-clause-ok : goal.returns-in-Watched-clause-ok
 returns-in-Watched-clause-ok c =
     let x : Timed = record { offset = c.args.offset; event = c.args.event.now } in
-    watch_adds c.add-in-Watched.result c.args.self.now c.in-Watched.watcher c.add-in-Watched.new.self x c.args.lines.now.items c.add-in-Watched.new.lines.items c.in-Watched.is c.add-in-Watched.ensures.ok
+    watch_adds c.watch.result c.args.self.now c.in-Watched.watcher c.watch.new.watcher x c.args.lines.now.items c.watch.new.lines.items c.in-Watched.is c.watch.ensures.ok
 
 pub add-requires-clause-followed : goal.add-requires-clause-followed
 add-requires-clause-followed c = game_begun c.args.self.now c.in-Game.follower c.in-Game.is c.requires.begun
 
-pub add-requires-in-Watched-clause-watched : goal.add-requires-in-Watched-clause-watched
-add-requires-in-Watched-clause-watched c = watch_begun c.args.self.now c.in-Watched.watcher c.in-Watched.is c.requires.begun
+pub watch-requires-clause-watched : goal.watch-requires-clause-watched
+watch-requires-clause-watched c = watch_begun c.args.self.now c.in-Watched.watcher c.in-Watched.is c.requires.begun
 
 pub returns-in-Game-clause-memory : goal.returns-in-Game-clause-memory
 returns-in-Game-clause-memory c =
@@ -44,7 +44,7 @@ returns-in-Game-clause-memory c =
 pub returns-in-Watched-clause-memory : goal.returns-in-Watched-clause-memory
 returns-in-Watched-clause-memory c =
     let x : Timed = record { offset = c.args.offset; event = c.args.event.now } in
-    watch_refuses c.add-in-Watched.result c.args.self.now c.in-Watched.watcher x c.in-Watched.is c.add-in-Watched.ensures.memory
+    watch_refuses c.watch.result c.args.self.now c.in-Watched.watcher x c.in-Watched.is c.watch.ensures.memory
 
 pub returns-in-Picture-clause-ok : goal.returns-in-Picture-clause-ok
 returns-in-Picture-clause-ok c =

@@ -1,5 +1,7 @@
-use Rattle.std.proofs.Common.{◌∷◌, ◌∙◌, sym}
+use Rattle.std.proofs.Common.{◌∷◌, ◌∙◌, sym, subst}
 use Rattle.dgt_frame.specs.Streams.{Timed}
+use Rattle.board_events.specs.declared.session.Taken.{Taken}
+use Rattle.board_events.specs.Session.{TellsTaken}
 use Rattle.board_listing.proofs.RangeLemmas.{in_range}
 use Rattle.board_listing.proofs.DrawingLemmas.{reading_kept}
 use Rattle.board_listing.proofs.WatchedLemmas.{may_tell_taken, watched}
@@ -33,6 +35,11 @@ returns-clause-ok c setting past h =
     c.reading-old.result c.reading.result h c.requires.frame stands (c.in-Ok.ensures.tells setting past h.followed.stands)
     (record { fault = told.fault; none = told.none; same = told.same; told = told.told; session_is = told.session; rotated_is = told.rotated })
     (c.reading-old.ensures setting past h.followed.stands) (c.reading.ensures setting (c.args.event.now ∷ past) (rw told.session stands)) c.add_new_reading.ensures
+
+pub returns-clause-tells : goal.returns-clause-tells
+returns-clause-tells c setting past watched =
+    let T : Taken → Type 0 = λ t. TellsTaken setting past c.args.event.now t in
+    subst T (sym c.copy-told.ensures) (c.in-Ok.ensures.tells setting past watched.followed.stands)
 
 pub take_ref-requires : goal.take_ref-requires
 take_ref-requires c = in_range c.args.event.now c.requires.frame
