@@ -596,6 +596,20 @@ export class Recorder {
     return done;
   }
 
+  /**
+   * The game stays over, and ends with a result that somebody has given in the place of the kings': its capture has these bytes behind
+   * its last ply, and then a dump of how the board stood at its earlier end.
+   */
+  async endsAnew(cut, put, stood) {
+    const bytes = this.capture.bytes();
+    const { end } = this.game;
+    const typedTo = cut + put.length;
+    const overTo = typedTo + stood.length + Math.max(0, this.overTo - end);
+    const content = joined(bytes.slice(0, cut), put, stood, bytes.slice(end));
+    const timesOf = (game, capture) => this.times.upTo(cut, game, capture, put.length);
+    await this.renew(content, true, { end: typedTo, typedTo, overTo }, timesOf);
+  }
+
   closeGame(end, reason) {
     this.game = { ...this.game, end, looks: this.alarms.looks.open };
     this.keepGame();
