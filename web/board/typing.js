@@ -8,7 +8,7 @@ import { shortOfLook } from '../game/looks.js';
 import { optionsOf } from '../game/options.js';
 import { shortOf } from '../game/report.js';
 import { Asked, HELP, Refused, readWords, refusal } from '../game/typed.js';
-import { isStillShown, question, reached, readBack, refuseBack, refuseNothing, settled, wordsOfBack } from '../game/way_back.js';
+import { isStillShown, question, reached, readBack, refuseBack, refuseNothing, settled, wordsOfBack, wordsOfGoingOn } from '../game/way_back.js';
 import { DISK_FULL } from './state.js';
 
 const TRIES = 4; // calls for one line, if the board sends something while each of them runs; the last one lets it wait
@@ -251,8 +251,9 @@ export class Typing {
     const { plies, result } = recorder.course;
     const { stays } = said;
     if (to === '*' && recorder.isOver && recorder.wentOn) {
+      const { movesSince } = recorder;
       await recorder.goOn();
-      return `${recorder.game.name} goes on, without the result`;
+      return wordsOfGoingOn(recorder.game.name, movesSince);
     }
     const staysOver = recorder.isOver && to !== '*' && isStillShown(said);
     if (recorder.isOver && stays > plies.length) throw refuseBack({ kind: 'nearest', rest: reached(plies) }, to, plies);
@@ -262,7 +263,8 @@ export class Typing {
     if (asks && asks !== asked) throw new Asked(asks);
     const { looks } = recorder.alarms;
     const left = looks.without(settled(plies, stays));
-    const done = wordsOfBack(plies, stays, result);
+    const since = to === '*' && recorder.isAltered ? recorder.movesSince : [];
+    const done = wordsOfBack(plies, stays, result, since);
     if (staysOver) await recorder.endWith(stays, left.open);
     else await recorder.renew(said.put, true, { end: null, typedTo: said.put.length, looks: left.open, goneBack: recorder.goneBack + 1 });
     const gone = looks.open.filter((look) => !left.open.includes(look)).map(shortOfLook);
