@@ -45,8 +45,8 @@ class SpectatorBoard:
         """Of the game, or of its forfeit."""
         return score_of(self.shot.forfeit) or self.shot.result
 
-    def text(self, offset: float, before: Optional[SpectatorBoard]) -> bytes:
-        """The JSON text; `kept` counts the moves and positions that are left out because the page has them."""
+    def text(self, offset: float, before: Optional[SpectatorBoard], folder: str = "/") -> bytes:
+        """The JSON text; `kept` counts the moves and positions that are left out because the page has them. Its PGN is in this folder."""
         shot, had = self.shot, before.shot if before else None
         moves = same_front(had.moves, shot.moves) if had else 0
         positions = same_front(had.positions, shot.positions) if had else 0
@@ -64,7 +64,7 @@ class SpectatorBoard:
             "clocks": (clocks.white, clocks.black),
             "runs": clocks.runs,
             "at": round(clocks.at + self.delay + offset, 1) if clocks.runs else None,
-            "pgn": pgn_path(self.number),
+            "pgn": pgn_path(self.number, folder),
             **sheet_of(self.pgn),
             "moves": [{"san": ply.san, "clock": ply.clock} for ply in shot.moves[moves:]],
             "positions": shot.positions[positions:],

@@ -312,7 +312,7 @@ def play(asked: Asked, program: Program, signals: Signals) -> Outcome:
             keep_pages(files, where)
     except Refused as refused:  # the boards are recorded anyway
         games.say(refused.lines[0])
-    arbiter = ArbiterView(shown, games.boards, games.trouble)
+    arbiter = ArbiterView(shown, games.boards, games.trouble, given.round or "")
     arbiter.is_unpublished = lambda: bool(games.outputs.alarms)
     pages.trouble = games.trouble
     pages.show(Title(shown, given.round or "", late), arbiter, games.broadcast)

@@ -30,6 +30,7 @@ LOOK = 1.0  # seconds between two checks
 AGAIN = 5.0  # seconds until it is tried again after an error
 RENEWED = 30.0  # seconds after which a state that hasn't changed is written again: a page that finds it older says so
 STATE = "state.json"
+HERE = ""  # the folder of what it names
 ROUND_FOLDER = re.compile(r"round([0-9]{0,3})")
 GAME = re.compile(r"round[0-9]{0,3}/[0-9]{2,}\.pgn")  # the file of one board
 POLICY = "default-src 'self'; img-src 'self' data:; base-uri 'none'; form-action 'none'"
@@ -55,9 +56,9 @@ def _policy() -> str:
 
 
 def state_text(title: Title, boards: Sequence[SpectatorBoard], offset: float) -> bytes:
-    """A round in JSON."""
+    """A round in JSON. The games are beside it."""
     said = RoundView(title.event, said=(*title.said, *said_of_matches(boards)))
-    return round_text(said.values, [board.text(offset, None) for board in boards])
+    return round_text(said.values, [board.text(offset, None, HERE) for board in boards])
 
 
 def round_texts(folder: str, title: Title, boards: Sequence[SpectatorBoard], offset: float) -> Texts:

@@ -117,8 +117,8 @@ class Game(Protocol):
 class ArbiterView:
     """What the arbiter's page shows. `trouble` gets errors that should never happen."""
 
-    def __init__(self, event: str, games: Callable[[], Iterable[Game]], trouble: Callable[[str], None]) -> None:
-        self._event, self._games, self._trouble = event, games, trouble
+    def __init__(self, event: str, games: Callable[[], Iterable[Game]], trouble: Callable[[str], None], round_: str = "") -> None:
+        self._event, self._games, self._trouble, self._round = event, games, trouble, round_
         self._views: Dict[int, BoardView] = {}
         self.is_unpublished: Callable[[], bool] = lambda: False
 
@@ -126,8 +126,8 @@ class ArbiterView:
         """All boards as they are now."""
         boards = [self._of(game) for game in self._games()]
         self._views = {board.number: board for board in boards}
-        said = (("notice", NOT_PUBLISHED),) if self.is_unpublished() else ()
-        return RoundView(self._event, tuple(boards), said)
+        said = (("round", self._round), ("notice", NOT_PUBLISHED if self.is_unpublished() else ""))
+        return RoundView(self._event, tuple(boards), tuple((name, value) for name, value in said if value))
 
     def _of(self, game: Game) -> BoardView:
         """A game as it is shown; its last view, if an error prevents a new one."""

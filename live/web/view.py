@@ -99,9 +99,9 @@ def sheet_of(pgn: bytes, tags: Mapping[str, str] = NOTHING) -> Dict[str, str]:
     return {name: "" if value in UNKNOWN else value for name, value in found.items()}
 
 
-def pgn_path(number: int) -> str:
+def pgn_path(number: int, folder: str = "/") -> str:
     """The path of a board's PGN."""
-    return f"/{number:02}.pgn"
+    return f"{folder}{number:02}.pgn"
 
 
 def board_text(board: BoardView, offset: float, before: Optional[BoardView] = None) -> bytes:

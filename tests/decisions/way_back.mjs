@@ -1,7 +1,7 @@
 /** The way back: what is asked and told. The program finds the ply and makes the capture anew. */
 import { Course } from "/web/game/course.js";
 import { Looks, OVER } from "/web/game/looks.js";
-import { isAltered, question, readBack, refuseBack, refuseNothing, settled, wentOn as hasGoneOn, wordsOfBack } from "/web/game/way_back.js";
+import { isAltered, question, readBack, refuseBack, refuseNothing, settled, wentOn as hasGoneOn, wordsOfBack, wordsOfGoingOn } from "/web/game/way_back.js";
 
 const moveOf = ([number, san, clock]) => ({ kind: "move", number, san, clock, corrects: false });
 const read = (status, said) => readBack({ status, errors: new TextEncoder().encode(`${said}\n`), output: new Uint8Array(2) });
@@ -21,6 +21,11 @@ export function plies(counts, cases) {
     const stays = count === 0 || to === "*" ? count : game.length;
     counts.same(to, counts.refused(to, "Refused", () => refuseNothing(game.slice(0, count), stays, "*", to)), expected);
   }
+  const corrected = "back to 6. Nf3; no ply is taken off; the result 1-0 is gone; moved on the board since then: 6... Qxe4+";
+  counts.same("a correction since then", wordsOfBack(game.slice(0, 11), 11, "1-0", game.slice(11)), corrected);
+  counts.same("it goes on", wordsOfGoingOn("board 1", []), "board 1 goes on, without the result");
+  const goesOn = "board 1 goes on, without the result, and with the moves made since: 5... Qd4 6. Nf3 Qxe4+";
+  counts.same("it goes on with moves", wordsOfGoingOn("board 1", game.slice(9)), goesOn);
   counts.same("a result goes", refuseNothing(game, 12, "1-0", "*"), undefined);
   counts.same("a ply goes", refuseNothing(game, 11, "*", ""), undefined);
 }

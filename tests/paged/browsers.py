@@ -101,6 +101,12 @@ def followed(site: Site, page: Page) -> None:
     page.says("that is read out", "document.getElementById('said').textContent", "Board 1: WRONG: e2 a7")
     page.reads("and linked", "#alarms", "Look at board 1")
     page.says("and in the title", "document.title", f"(!) {NAME}")
+    page.tab.look(390, 844)
+    site.show(a_board(1, 3, alarm=True, state="LOOK after 138... Qxg4+ and 1 more; in hand g4 h5 g6, WRONG"))
+    page.says("a state that is longer than its card", "document.querySelector('.alarm .state').textContent.startsWith('LOOK after 138')", True)
+    page.says("the whole diagram is on its card", "(([card, diagram]) => diagram.right <= card.right && diagram.width > 150)"
+              "(['', '.diagram'].map((part) => document.querySelector(`.tile[href='#1'] ${part}`.trim()).getBoundingClientRect()))", True)  # fmt: skip
+    page.tab.look(1280, 720)
     site.show(a_board(1, 2))
     page.follows("taken back", tile + ".last", "1... e5")
     page.says("no alarm", "document.querySelectorAll('.alarm .tile').length", 0)

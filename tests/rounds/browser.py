@@ -31,18 +31,19 @@ def on_the_page(ply: int) -> str:
 
 def in_a_browser(folder: pathlib.Path) -> None:
     """A game is played: diagram, clock and last move follow before the next move, and the page asks for nothing more; keys step
-    through it; nobody else is asked."""
+    through it; nobody else is asked. The page is named by event and round."""
     if lacking := outside.lacks("chromium"):
         raise Skipped(lacking)
     hall = Hall(folder, 2, clocks=(0,))
     port = free_port()
-    live = hall.record("--event", "Club", "--arbiter-page", str(port))
+    live = hall.record("--event", "Club", "--round", "3", "--arbiter-page", str(port))
     hall.begun(live)
     tab = Shared.tab()
     try:
         tab.look(1280, 720)
         tab.open(f"http://127.0.0.1:{port}/")
         until_value(tab, "document.getElementById('line').textContent", "Live")
+        same([tab.value(f"document.{what}") for what in ("querySelector('h1').textContent", "title")], ["Club, round 3"] * 2)
         times: List[float] = []
         asked = len(tab.requests())
         for ply in range(len(SHOWN)):

@@ -83,7 +83,7 @@ def is_whole(www: pathlib.Path) -> None:
         if path.suffix == ".pgn":
             assert all(game.startswith(b"[Event ") and game.endswith(b"*\n\n") for game in games_of(content)), content
         elif path.name == "state.json":
-            named = [board["pgn"][1:] for board in json.loads(content)["boards"]]
+            named = [board["pgn"] for board in json.loads(content)["boards"]]
         elif path.suffix == ".html":
             assert content.endswith(b"</html>\n"), content
             named = [name for name in re.findall('(?:href|src)="([^"#:]+)', content.decode()) if name != LIST]

@@ -244,6 +244,7 @@ export class Attending {
       const { number, mark, entry, answer } = this.pending.shift();
       for (const line of answer.report) this.lines.push(line);
       this.known = Math.max(this.known, mark);
+      if (answer.end) this.hears.endsSoon(answer.end);
       const isToHear = answer.report.length > 0 && entry.word !== KEPT; // its capture comes with the next answer
       if (isToHear || !entry || entry.word === BEGIN) this.hear();
       if (answer.end) this.hears.ends(answer.end);

@@ -2,7 +2,7 @@
 // that attends its board gives its PGN.
 
 import { joined, lastDump, same } from '../device/protocol.js';
-import { Alarms, acknowledged, lookAfterEnd, lookCorrected } from '../game/alarms.js';
+import { Alarms, ISNT_OVER, acknowledged, lookAfterEnd, lookCorrected } from '../game/alarms.js';
 import { countingForfeit } from '../game/forfeits.js';
 import { textOfLook } from '../game/looks.js';
 import { dayOf } from '../game/names.js';
@@ -29,14 +29,16 @@ const SAID = [Kind.WRONG, Kind.NO_START]; // states that are reported as lines t
 const UNSEEN = ['UNPLUGGED', 'SILENT', 'WAITS']; // states in which the board may have shown nothing
 
 const RESULT_STANDS = 'ends in 10 seconds, unless the result changes';
+const TYPED_STANDS = 'ends in 10 seconds; if the result was given by mistake, press No result';
+const GOES_ON = 'If it goes on, press No result';
 // Why a game is over, as the program says it.
 const [CORRECTED, UNFINISHED] = ['CORRECTED', 'UNFINISHED'];
 const WHY = {
   STOOD: 'it has a result',
-  'PLAYS-ON': 'another move was made after its result',
-  [CORRECTED]: 'its last move was corrected after its result',
+  'PLAYS-ON': `another move was made after its result. ${GOES_ON}`,
+  [CORRECTED]: `its last move was corrected after its result. ${GOES_ON}`,
   'SET-UP': 'it has a result',
-  [UNFINISHED]: 'the pieces are at the start again',
+  [UNFINISHED]: 'the pieces are at the start again. Give its result beside the next game',
 };
 // The same, as the page does: it keeps no more, or somebody wants another game.
 const Reason = {
@@ -116,6 +118,11 @@ export class Recorder {
     return this.game.end !== null;
   }
 
+  /** Whether its capture has no room for anything more. */
+  get isFull() {
+    return this.capture.size >= LARGEST - (this.options.recover ? ROOM : 0);
+  }
+
   /** How often it has gone back. */
   get goneBack() {
     return this.game.goneBack || 0;
@@ -147,6 +154,7 @@ export class Recorder {
     this.all = this.isOver ? newCourse(this.options) : this.course; // of all that came: more than the game's, if that is over
     this.alarms = new Alarms(this.game.looks);
     this.nextAt = null; // where the start was shown first after the game's end
+    this.endsAt = Infinity; // how many bytes are the game's, once the program has said so
     this.attending.begin();
     this.wantText();
   }
@@ -172,18 +180,18 @@ export class Recorder {
     this.course.take(line);
     if (this.all !== this.course) this.all.take(line);
     this.course.news.length = 0; // it is reported below
-    if (isOld) return;
+    if (isOld || offset >= this.endsAt) return;
     if (event.kind === 'recovered') {
       this.hears.says(`${event.text}: look whether these moves were played`);
     } else if (event.kind === 'move' || event.kind === 'result') {
-      this.hearChange(event);
+      this.hearChange(event, offset);
     }
   }
 
-  hearChange(change) {
+  hearChange(change, offset) {
     this.hears.says(shownOf(change), change.kind === 'move');
     this.wantText();
-    if (change.kind === 'result' && change.outcome !== '*') this.hears.says(RESULT_STANDS);
+    if (change.kind === 'result' && change.outcome !== '*') this.hears.says(offset < this.typedTo ? TYPED_STANDS : RESULT_STANDS);
   }
 
   /** A line about what came after the end of the game. */
@@ -197,6 +205,17 @@ export class Recorder {
   /** Whether the game, which is over, goes on with what came since as it is, if it shall go on. */
   get wentOn() {
     return this.isOver && this.nextAt === null && wentOn(this.course, this.all);
+  }
+
+  /** Whether there is something to look at since moves were made after the game's end. */
+  get isPlayedOn() {
+    return this.isOver && (this.game.played || 0) > 0 && this.alarms.hasPlayed;
+  }
+
+  /** The moves that were made since the end of a game that is over; the first one may correct its last move. */
+  get movesSince() {
+    const { plies } = this.course;
+    return this.all.plies.slice(this.isAltered ? plies.length - 1 : plies.length);
   }
 
   /** Whether the game is over, and its last move is another one since then. */
@@ -403,9 +422,9 @@ export class Recorder {
     for (const look of this.alarms.raise(raised, this.course)) this.tellLook(look);
   }
 
-  tellLook(look) {
+  tellLook(look, otherwise = '') {
     if (!look) return;
-    this.hears.says(`${textOfLook(look)}. Look at it, and press OK`);
+    this.hears.says(`${textOfLook(look)}. Look at it, and press OK${otherwise}`);
     this.looksChanged();
   }
 
@@ -546,13 +565,23 @@ export class Recorder {
     }
   }
 
+  /** The report has lines of the answer with which the game is over. What they say behind its end is no move of it. */
+  endsSoon({ over, begins }) {
+    if (over && begins === null && !this.isOver) this.endsAt = this.endOf(over);
+  }
+
+  /** How many bytes are the game's, if it is over so. */
+  endOf({ why, bytes }) {
+    return why === UNFINISHED ? bytes : Math.max(bytes, this.typedTo);
+  }
+
   /**
    * The game is over, the program says: so many bytes are the game's, and what came behind them was no part of it. A result that
    * somebody has typed is in the middle of the bytes that were added for it; they stay together.
    */
   isOverSo({ why, bytes, isSure }) {
     const { plies, settledAt } = this.course;
-    const end = why === UNFINISHED ? bytes : Math.max(bytes, this.typedTo);
+    const end = this.endOf({ why, bytes });
     this.alarms.end(end);
     if (why === UNFINISHED) this.tellSetUp(plies.filter((_, at) => settledAt[at] >= bytes), isSure);
     if (why === CORRECTED) this.tellLook(this.alarms.add(lookCorrected(reached(plies))));
@@ -570,7 +599,7 @@ export class Recorder {
     const { plies, result } = this.course;
     if (this.played <= (this.game.played || 0)) return;
     this.game = { ...this.game, played: this.played };
-    this.tellLook(this.alarms.add(lookAfterEnd(reached(plies), this.played, result)));
+    this.tellLook(this.alarms.add(lookAfterEnd(reached(plies), this.played, result)), `; ${ISNT_OVER}`);
   }
 
   /** The game is not over any more. */
@@ -594,6 +623,20 @@ export class Recorder {
     this.times.isNotOver();
     this.attending.tellNow(OVER, end);
     return done;
+  }
+
+  /**
+   * The game stays over, and ends with a result that somebody has given in the place of the kings': its capture has these bytes behind
+   * its last ply, and then a dump of how the board stood at its earlier end.
+   */
+  async endsAnew(cut, put, stood) {
+    const bytes = this.capture.bytes();
+    const { end } = this.game;
+    const typedTo = cut + put.length;
+    const overTo = typedTo + stood.length + Math.max(0, this.overTo - end);
+    const content = joined(bytes.slice(0, cut), put, stood, bytes.slice(end));
+    const timesOf = (game, capture) => this.times.upTo(cut, game, capture, put.length);
+    await this.renew(content, true, { end: typedTo, typedTo, overTo }, timesOf);
   }
 
   closeGame(end, reason) {

@@ -1,18 +1,21 @@
 // What somebody types for a board that is recorded, or whose game is over. The program decides what it means; here its
 // answers come into the capture.
 
-import { joined } from '../device/protocol.js';
+import { joined, lastDump } from '../device/protocol.js';
 import { meaning, readAnswer, refuse, whoseMove } from '../game/answers.js';
 import { BOTH, resultOf, whyPlayed, wordsOfForfeit } from '../game/forfeits.js';
 import { shortOfLook } from '../game/looks.js';
+import { optionsOf } from '../game/options.js';
 import { shortOf } from '../game/report.js';
 import { Asked, HELP, Refused, readWords, refusal } from '../game/typed.js';
-import { isStillShown, question, reached, readBack, refuseBack, refuseNothing, settled, wordsOfBack } from '../game/way_back.js';
+import { isStillShown, question, reached, readBack, refuseBack, refuseNothing, settled, wordsOfBack, wordsOfGoingOn } from '../game/way_back.js';
 import { DISK_FULL } from './state.js';
 
 const TRIES = 4; // calls for one line, if the board sends something while each of them runs; the last one lets it wait
 const REOPENS = Symbol('a result is to be taken off');
+const INSTEAD = Symbol('the line may be a result in the place of another one');
 const AGAIN = Symbol('the board has sent something meanwhile');
+const NO_PLIES = '0';
 const ENDING = 'the game has just ended, or begins anew with the pieces at the start. Nothing was done: look, and type it again';
 const PLAYED_AFTER_ALL = 'the game isn\'t forfeited any more';
 const STAYS_OVER = 'The board still shows it, so the game stays over';
@@ -23,6 +26,12 @@ const UNKEPT = '. The browser can\'t keep it yet: don\'t reload this page, and m
 function unkept({ trouble, why }) {
   if (trouble === DISK_FULL) return 'the disk is full, and nothing can be changed. Make room, and type it again';
   return `the browser can't keep what the board sends (${why}), and nothing can be changed. Is there room on the disk? Type it again`;
+}
+
+/** The result that a line is; empty if it is something else. */
+async function resultIn(calls, text) {
+  const { kind, words } = readAnswer('add', await calls.add(optionsOf(), new Uint8Array(0), text));
+  return kind === 'result' ? words[0] : '';
 }
 
 export class Typing {
@@ -160,6 +169,7 @@ export class Typing {
       const { plies, result } = recorder.course;
       const { put } = said;
       if (said.kind === 'reopen') return REOPENS;
+      if (said.kind === 'board' && result !== '*') return INSTEAD;
       const played = plies.map(({ san }) => san);
       if (!put) throw refuse(said, text, whoseMove(recorder.options.fen, played, text, Number(said.words[0])));
       const asks = said.kind === 'result' && !isForfeit ? recorder.askWhichGame(said.words[0]) : '';
@@ -178,7 +188,42 @@ export class Typing {
       const gone = said.kind === 'moves' && result !== '*' ? `; the result ${result} is gone: add it again` : '';
       return `added by hand: ${meaning(said, text, plies.map(shortOf))}${gone}`;
     });
+    if (done === INSTEAD) return this.replace(asked, text, isForfeit);
     return done === REOPENS ? this.takeOff('*') : done;
+  }
+
+  /**
+   * Gives a result in the place of that of the kings, which is taken off first: the capture has them in the centre. Refused while they
+   * still stand there. A game that is over stays over.
+   */
+  async replace(asked, text, isForfeit) {
+    const { recorder } = this;
+    const outcome = await resultIn(recorder.calls, text);
+    if (!outcome) throw refuse({ kind: 'board', words: [] }, text, '');
+    if (recorder.isOver) return this.replaceAfter(outcome);
+    const asks = recorder.askWhichGame(outcome);
+    if (asks && asks !== asked) throw new Asked(asks);
+    recorder.hears.says(await this.takeOff('*'));
+    return this.addUnless(asks, text, isForfeit);
+  }
+
+  /** Gives this result to a game that is over: it ends with its last ply then. What came after its end stays there. */
+  async replaceAfter(outcome) {
+    const { calls, options } = this.recorder;
+    const { plies, settledAt, result } = this.recorder.course;
+    const cut = plies.length > 0 ? settledAt[plies.length - 1] + 1 : 0;
+    const decide = async ({ capture, size, end }) => {
+      const shown = readBack(await calls.back(options, capture.bytes(size), String(plies.length)));
+      const added = readAnswer('add', await calls.add(options, capture.bytes(cut), outcome));
+      const stood = readBack(await calls.back(options, capture.bytes(end), NO_PLIES)).put;
+      return { shown, added, stood };
+    };
+    return this.decided(decide, async ({ shown, added, stood }) => {
+      if (shown.kind === 'signed') throw refuseBack(shown, outcome, plies);
+      if (!added.put || !stood) throw refuse({ kind: 'board', words: [] }, outcome, '');
+      await this.recorder.endsAnew(cut, added.put, lastDump(stood));
+      return `added by hand: ${meaning(added, outcome, plies.map(shortOf))}; the result ${result} is gone. ${KEPT}`;
+    });
   }
 
   /** Takes plies off as far as `to` says, or with `*` a result. */
@@ -206,8 +251,9 @@ export class Typing {
     const { plies, result } = recorder.course;
     const { stays } = said;
     if (to === '*' && recorder.isOver && recorder.wentOn) {
+      const { movesSince } = recorder;
       await recorder.goOn();
-      return `${recorder.game.name} goes on, without the result`;
+      return wordsOfGoingOn(recorder.game.name, movesSince);
     }
     const staysOver = recorder.isOver && to !== '*' && isStillShown(said);
     if (recorder.isOver && stays > plies.length) throw refuseBack({ kind: 'nearest', rest: reached(plies) }, to, plies);
@@ -217,7 +263,8 @@ export class Typing {
     if (asks && asks !== asked) throw new Asked(asks);
     const { looks } = recorder.alarms;
     const left = looks.without(settled(plies, stays));
-    const done = wordsOfBack(plies, stays, result);
+    const since = to === '*' && recorder.isAltered ? recorder.movesSince : [];
+    const done = wordsOfBack(plies, stays, result, since);
     if (staysOver) await recorder.endWith(stays, left.open);
     else await recorder.renew(said.put, true, { end: null, typedTo: said.put.length, looks: left.open, goneBack: recorder.goneBack + 1 });
     const gone = looks.open.filter((look) => !left.open.includes(look)).map(shortOfLook);

@@ -35,9 +35,17 @@ export function mendOf({ kind, disk }) {
   return MENDS[kind] || '';
 }
 
+const GOES_ON = 'If the game goes on, press No result.';
+
+/** What somebody may do about a game that is over; empty if a mate or stalemate on the board has ended it. */
+export function mendOfOver({ result, isEndedByMove }) {
+  if (result === '*') return `The game has no result: press 1–0, ½–½ or 0–1. ${GOES_ON}`;
+  return isEndedByMove ? '' : GOES_ON;
+}
+
 /** A game that isn't recorded now: words alone, since nobody knows when that began. */
-export function resting(words, looks = '') {
-  return { state: looks ? `${looks}; ${words}` : words, since: null, alarm: Boolean(looks), differing: [], mend: '' };
+export function resting(words, looks = '', mend = '') {
+  return { state: looks ? `${looks}; ${words}` : words, since: null, alarm: Boolean(looks), differing: [], mend };
 }
 
 /** A board's number, its game and its state, as a card shows them. Each move is shown with its position. */

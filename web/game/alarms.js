@@ -52,6 +52,8 @@ export function lookAfterEnd(last, count, result) {
   return lookAt(`after ${last}`, `${count} moves were made, and ${over}`, OVER);
 }
 
+export const ISNT_OVER = "if the game isn't over, press No result: it goes on with these moves"; // beside such an alarm
+
 /** This ply corrects the last one of a game after its result, with which the game is over. */
 export function lookCorrected(ply) {
   return lookAt(`at ${ply}`, 'it corrects the last move after its result: compare with the score sheets');
@@ -105,6 +107,11 @@ export class Alarms {
   /** The game has this many bytes. What came after them was a set-up, and alarms about it are dropped. */
   end(size) {
     this.looks = new Looks(this.looks.open.filter((look) => (this.since.get(look.what) || 0) < size));
+  }
+
+  /** Whether one is about moves that were made in a game that is over. */
+  get hasPlayed() {
+    return this.looks.open.some(({ about }) => about === OVER);
   }
 
   /** Acknowledges the alarms. Returns what they were about. */

@@ -8,6 +8,7 @@ export class Course {
     this.settledAt = []; // the offset of the last line about each ply
     this.fens = []; // of the start and after each ply, as far as they are reported
     this.result = '*';
+    this.resultAt = -1; // the offset of the last line about it
     this.recovered = []; // the pairs that were recovered
     this.placement = ''; // what the board shows
     this.clock = null; // what the clocks show, as far as it is reported
@@ -31,10 +32,16 @@ export class Course {
     }
   }
 
+  /** Whether the last move has ended the game, by mate or stalemate: the result came with it. */
+  get isEndedByMove() {
+    return this.result !== '*' && this.plies.length > 0 && this.resultAt === this.settledAt[this.plies.length - 1];
+  }
+
   takeChange(change, offset) {
     this.news.push(change);
     if (change.kind === 'result') {
       this.result = change.outcome;
+      this.resultAt = offset;
       return;
     }
     if (change.corrects && this.plies.length > 0) {

@@ -88,13 +88,23 @@ export function reached(plies) {
   return plies.length > 0 ? shortOf(plies[plies.length - 1]) : 'the start';
 }
 
-/** What was done: `back to 14. Bxf6; taken off: 14... Qd7 15. Rd1`. The result is the earlier one. */
-export function wordsOfBack(plies, stays, result) {
+/**
+ * What was done: `back to 14. Bxf6; taken off: 14... Qd7 15. Rd1`. The result is the earlier one. `since` are moves on the board since
+ * then, which the game doesn't take over.
+ */
+export function wordsOfBack(plies, stays, result, since = []) {
   const gone = plies.slice(stays);
   const parts = [`back to ${reached(plies.slice(0, stays))}`];
   parts.push(gone.length > 0 ? `taken off: ${movesOf(gone)}` : 'no ply is taken off');
   if (result !== '*') parts.push(`the result ${result} is gone`);
+  if (since.length > 0) parts.push(`moved on the board since then: ${movesOf(since)}`);
   return parts.join('; ');
+}
+
+/** A game with this name goes on, with these moves that were made while it was over. */
+export function wordsOfGoingOn(name, since) {
+  const moves = since.length > 0 ? `, and with the moves made since: ${movesOf(since)}` : '';
+  return `${name} goes on, without the result${moves}`;
 }
 
 /**

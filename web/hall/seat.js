@@ -1,9 +1,10 @@
 // A board's place on the page: its recorder under a guard. An error ends only the recorder, and it is begun again.
 
 import { Recorder } from '../board/recorder.js';
-import { resting, standing, viewOf } from '../board/view.js';
+import { mendOfOver, resting, standing, viewOf } from '../board/view.js';
 import { joined } from '../device/protocol.js';
 import { lockedDevice, systemOf } from '../device/systems.js';
+import { ISNT_OVER } from '../game/alarms.js';
 import { dayOf } from '../game/names.js';
 import { forfeitOf, isUnplayed, wordsOfForfeit } from '../game/forfeits.js';
 import { optionsOf } from '../game/options.js';
@@ -191,8 +192,9 @@ export class Seat {
 
   /** What somebody must look at, in full; the hint of the state; and whether its device isn't there. */
   get asks() {
-    const { alarms, state, cable, isOver, isStopped } = this.recorder;
-    return { looks: alarms.looks.all, hint: state.hint, lacksDevice: !cable.isOpen && !isOver && !isStopped };
+    const { alarms, state, cable, isOver, isPlayedOn, isStopped } = this.recorder;
+    const otherwise = isPlayedOn ? ISNT_OVER : '';
+    return { looks: alarms.looks.all, otherwise, hint: state.hint, lacksDevice: !cable.isOpen && !isOver && !isStopped };
   }
 
   /** The game before the one that is on, if it has no result; else null. */
@@ -273,8 +275,9 @@ export class Seat {
     }
     const looks = recorder.alarms.looks.short;
     const over = recorder.awaited ? 'over: set up the pieces for the next game' : 'over';
+    const mend = recorder.awaited || recorder.isFull || recorder.isPlayedOn ? '' : mendOfOver(recorder.course);
     if (recorder.forfeit && !recorder.capture.trouble) return resting(wordsOfForfeit(recorder.forfeit), looks);
-    if (recorder.isOver && !recorder.capture.trouble) return resting(over, looks);
+    if (recorder.isOver && !recorder.capture.trouble) return resting(over, looks, mend);
     if (recorder.isStopped) return resting('stopped', looks);
     return standing(recorder.state, now);
   }

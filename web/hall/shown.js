@@ -18,7 +18,7 @@ export class Shown {
     this.isReady = true;
     this.hasBefore = false;
     this.isStopped = false;
-    this.asks = { looks: '', hint: '', lacksDevice: false };
+    this.asks = { looks: '', otherwise: '', hint: '', lacksDevice: false };
     this.finished = [];
     this.unended = null;
   }

@@ -12,6 +12,8 @@ import { save } from './saving.js';
 
 const CHECKS = [['rotated', 'rotated', true, false], ['black-first', 'first', 'black', null], ['recover', 'recover', true, null]];
 
+const sentence = (words) => words[0].toUpperCase() + words.slice(1);
+
 export class Panel {
   constructor(hall, messages) {
     this.hall = hall;
@@ -138,13 +140,13 @@ export class Panel {
 
   /** What somebody must do, with the button for it. */
   showAsked(seat) {
-    const { looks, hint } = seat.asks;
+    const { looks, otherwise, hint } = seat.asks;
     const isTurned = hint.startsWith(TURNED_ROUND);
     at('asks').hidden = !looks && !isTurned;
     at('turned').hidden = !isTurned;
     at('ok').hidden = !looks;
     const turned = "White's pieces stand where Black's should. Is the board turned round?";
-    say(at('ask'), [looks, isTurned ? turned : ''].filter((part) => part).join('. '));
+    say(at('ask'), [looks, otherwise && sentence(otherwise), isTurned ? turned : ''].filter((part) => part).join('. '));
   }
 
   chooseDevice() {

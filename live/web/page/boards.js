@@ -127,9 +127,10 @@ export class Boards {
     this.size();
   }
 
-  /** The name of the round. */
+  /** Event and round. */
   get name() {
-    return this.stream.event || UNNAMED;
+    const { event, said } = this.stream;
+    return said.round ? `${event || UNNAMED}, round ${said.round}` : event || UNNAMED;
   }
 
   /** What a screen reader reads out: the moves of the large board, and the results of all. */

@@ -99,7 +99,8 @@ export class Files {
     this.header = header;
     for (const board of boards) {
       const text = JSON.stringify(board);
-      if (this.texts.get(board.number) !== text) this.hear('board', { ...board, pgn: board.pgn.slice(1) });
+      // an earlier version has written `/01.pgn`
+      if (this.texts.get(board.number) !== text) this.hear('board', { ...board, pgn: board.pgn.replace(/^\//, '') });
       this.texts.set(board.number, text);
     }
   }

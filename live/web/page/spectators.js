@@ -223,12 +223,6 @@ class Spectators extends Boards {
     return how === 'live' && late ? `${late} late` : LINES[how];
   }
 
-  /** Event and round. */
-  get name() {
-    const { round } = this.stream.said;
-    return round ? `${super.name}, round ${round}` : super.name;
-  }
-
   titled() {
     this.showLine();
     this.listMatches();
