@@ -53,6 +53,11 @@ def add(program: Program, options: Options, sent: bytes, line: str) -> Said:
     return _asked(program, options, sent, "add", f"--line={line}")
 
 
+def result_typed(program: Program, line: str) -> str:
+    """The result that a line is; empty if it is something else. Raises OSError if it fails."""
+    return add(program, Options(), b"", line).outcome
+
+
 def go_back(program: Program, options: Options, sent: bytes, to: str) -> Said:
     """What it answers if the game of these bytes is to go back so far. Raises OSError if it fails."""
     return _asked(program, options, sent, "back", f"--to={to}")
