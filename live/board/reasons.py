@@ -37,10 +37,11 @@ class Rules:
         return self.series or reason in PLAYED_ON or (self.listens and reason is not Reason.LIMIT)
 
 
-def told(reason: Reason, result: str, reopens: str, is_alone: bool) -> str:
-    """Why a game is over, and what to do then. `result` and `reopens` are what to type. Nothing comes after a game that is alone."""
+def told(reason: Reason, result: str, goes_on: str, reopens: str, is_alone: bool) -> str:
+    """Why a game is over, and what to do then. `result`, `goes_on` and `reopens` are what to type, the first two also once nobody listens
+    any more. Nothing comes after a game that is alone."""
     if reason is Reason.SET_UP:
-        return f"{reason.value}. Type its result, as {result}"
+        return f"{reason.value}. Type its result, as {result}; if the game goes on, {goes_on}"
     if reason in PLAYED_ON:
         return f"{reason.value}. If it goes on, type {reopens}{'; else q ends the recording' if is_alone else ''}"
     return str(reason.value)

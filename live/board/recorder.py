@@ -135,7 +135,8 @@ class Recorder:
         if self._reason and before:
             name, series, screen = self.game.paths.name, self._plan.rules.series, self._screen
             is_alone = not series and not self._plan.board
-            screen.say(f"{name} is over: {told(self._reason, screen.result_of(name, series), screen.reopens(), is_alone)}")
+            types = screen.result_of(name, series), screen.goes_on(name, series), screen.reopens()
+            screen.say(f"{name} is over: {told(self._reason, *types, is_alone)}")
         self._closing = False
         is_last = self._ending or (unwritten and not self._plan.rules.series)
         if is_last or not before:

@@ -149,6 +149,9 @@ class RowScreen(Screen):
     def result_of(self, name: str, in_series: bool) -> str:
         return f"{self._number} 1-0"
 
+    def goes_on(self, name: str, in_series: bool) -> str:
+        return f"type {self.reopens()}"
+
     def other_device(self) -> str:
         return "Write it in its column device, save the table, and type r"
 

@@ -98,6 +98,10 @@ class Screen:
         """What to type for the result of a game that is over without one."""
         return f"1-0 {name}" if in_series else f"dgt_live --add 1-0 {name}"
 
+    def goes_on(self, name: str, in_series: bool) -> str:
+        """What to do if a game goes on that is over without a result."""
+        return f'{"Ctrl-C, and then " if in_series else ""}dgt_live --add "{REOPENS}" {name}'
+
     def other_device(self) -> str:
         """What to do if the device that isn't there is the wrong one."""
         return "Ctrl-C, and see dgt_live --devices"
