@@ -25,7 +25,7 @@ from live.game.reading import game_of, read_game
 from live.game.reply import Asked, Refused
 from live.game.report import Move, Picture, line_of
 from live.game.times import OVER, REOPENED
-from live.game.way_back import ALL, NO_RESULT, PLIES, SIGNED, STILL_SHOWN, Way, nothing_goes, refuse, stays_of, way_of
+from live.game.way_back import ALL, NO_RESULT, PLIES, SIGNED, STILL_SHOWN, Way, nothing_goes, played_since, refuse, stays_of, way_of
 
 NO_LINKS = (errno.EPERM, errno.EOPNOTSUPP, errno.EMLINK)  # a file system without hard links
 
@@ -141,7 +141,8 @@ def reopen(game: Game, listens: bool = False) -> str:
         return unforfeited(game.paths, course.plies)
     said = _said(game, game.capture.bytes(), str(total) if had == NO_RESULT else ALL)
     if said.put and said.words[-1] == NO_RESULT != had:
-        return f"{goes_on}, without the result" + _open_again(game)
+        more = _open_again(game)
+        return f"{goes_on}, without the result{played_since(_course(game).plies[total:])}{more}"
     way = Way(course.plies, total, had, said.put) if said.put else None
     if way is None and said.kind in STILL_SHOWN and not listens:
         way = _cut(game, course, total)
