@@ -5,6 +5,8 @@ from __future__ import annotations
 import enum
 from dataclasses import dataclass
 
+from live.game.course import Course
+
 
 class Reason(enum.Enum):
     """Why a game is over."""
@@ -45,3 +47,13 @@ def told(reason: Reason, result: str, goes_on: str, reopens: str, is_alone: bool
     if reason in PLAYED_ON:
         return f"{reason.value}. If it goes on, type {reopens}{'; else q ends the recording' if is_alone else ''}"
     return str(reason.value)
+
+
+def told_of_before(name: str, course: Course) -> str:
+    """What to do with a game that was over before this call began."""
+    if course.is_given:
+        goes_on = f'To go on with it all the same: dgt_live --add "*" {name}'
+    else:
+        last = course.plies[-2].short if len(course.plies) > 1 else "0"
+        goes_on = f'If its last move was another one: dgt_live --back "{last}" {name}'
+    return f"for another game choose another name. {goes_on}"

@@ -66,6 +66,7 @@ class Recording(AttendedGame):
         self.course = opened.old.course
         self._old = opened.old.size  # bytes from before this call
         self.end: Optional[int] = None  # how many bytes are the game's, if not all are
+        self.was_over = False  # whether the game was over before this call
         self._typed = ""  # the result that an arbiter has typed
         self._faults: List[str] = []
         self._is_reopened = False  # by an arbiter, and the program doesn't know it yet
@@ -96,6 +97,8 @@ class Recording(AttendedGame):
         if opened.old.lines:
             self._tell_old()
         self.attend(self.game.options.of_live(), with_times=True, known=opened.old.lines)
+        if opened.old.lines:
+            self.attending.then(lambda: self._hear_result(self.course.result))
         if self._old == front_of(self.game.paths, self.game.capture) != 0:  # nothing has come since plies were taken off
             self.attending.tell(BACK)
             self.attending.tell(REOPENED)
@@ -123,7 +126,6 @@ class Recording(AttendedGame):
         self.course.news.clear()
         for event in self.course.standing():
             self._stands(event)
-        self._hear_result(self.course.result)
         self.standing.show()
 
     # What the board sends.
@@ -294,12 +296,14 @@ class Recording(AttendedGame):
         return seen
 
     def _hear_result(self, result: str) -> None:
-        if result == "*" or self._is_over:
+        if result == "*" or self._is_over or self.end is not None:  # the game was over before
             return
         if result == self._typed:
             how = f"; if the result was typed by mistake, type {self._screen.reopens()}"
+        elif self.course.is_given:
+            how = f"; if the game goes on, put the kings where they belong, and type {self._screen.reopens()}"
         else:
-            how = ", unless the result changes"
+            how = ", unless the last move is corrected"
         self._screen.say(f"ends in {STANDS} seconds{how}")
 
     def says(self, text: str) -> None:
@@ -381,6 +385,7 @@ class Recording(AttendedGame):
         if is_known and over.size <= front_of(self.game.paths, self.game.capture):  # its times don't tell that an arbiter has reopened it
             self.attending.tell(REOPENED)
             return
+        self.was_over = is_known
         is_typed = self._typed == over.result and self._by_hand.start < over.size <= self._by_hand.stop
         self.end = self._by_hand.stop if is_typed else over.size  # with the picture that stands behind the sign of a result
         if is_known:

@@ -229,7 +229,7 @@ def typed_before_a_restart(folder: pathlib.Path) -> None:
     until(lambda: b" added " in bytes_of(f"{live.name}.times"), "the line of what was typed")
     kill(live)
     again = go_on(board, live)
-    until_line(again, "ends in 10 seconds, unless the result changes")
+    until_line(again, "ends in 10 seconds, unless the last move is corrected")
     until_line(again, f"{live.name} is over: it has a result")
     same(ended(again), 0)
 
