@@ -299,7 +299,7 @@ class Recording(AttendedGame):
         if result == "*" or self._is_over or self.end is not None:  # the game was over before
             return
         if result == self._typed:
-            how = f"; if the result was typed by mistake, type {self._screen.reopens()}"
+            how = self._screen.mistyped()
         elif self.course.is_given:
             how = f"; if the game goes on, put the kings where they belong, and type {self._screen.reopens()}"
         else:

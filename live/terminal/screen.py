@@ -90,6 +90,10 @@ class Screen:
         """What to type if a result was typed for the wrong board."""
         return REOPENS
 
+    def mistyped(self) -> str:
+        """What to do if the result that was just given was typed by mistake."""
+        return f"; if the result was typed by mistake, type {self.reopens()}"
+
     def begins(self) -> str:
         """What to type if a game begins only now."""
         return f"{BACK} 0"
