@@ -67,6 +67,7 @@ class Recording(AttendedGame):
         self._old = opened.old.size  # bytes from before this call
         self.end: Optional[int] = None  # how many bytes are the game's, if not all are
         self.was_over = False  # whether the game was over before this call
+        self._is_watched = False  # whether its board is watched once it is over
         self._typed = ""  # the result that an arbiter has typed
         self._faults: List[str] = []
         self._is_reopened = False  # by an arbiter, and the program doesn't know it yet
@@ -436,6 +437,7 @@ class Recording(AttendedGame):
         """Hears the last lines, makes the text a last time, and reports what can't be written, and why; nothing if all is. All lines of
         a game that is over were heard; if its board `is_attended` after that, there is nothing to wait for."""
         self._is_over, self._done = True, done
+        self._is_watched = is_attended and not self._rules.series  # then the alarms are said once that ends
         if is_attended:
             self._all_is_heard()
         else:
@@ -468,7 +470,7 @@ class Recording(AttendedGame):
         if course.recovered:
             pairs = "; ".join(pair.replace("recovered ", "") for pair in course.recovered)
             self._screen.say(f"recovered in {pgn}, look whether they were played: {pairs}")
-        if self.looks.open:
+        if self.looks.open and not self._is_watched:
             self._screen.say(f"in {pgn}: {self.looks.all}")
         if self._typed not in ("", course.result):
             self._screen.say(f"LOOK at {pgn}: its result should be {self._typed}, and isn't")
