@@ -45,7 +45,8 @@ def told(reason: Reason, result: str, goes_on: str, reopens: str, is_alone: bool
     if reason is Reason.SET_UP:
         return f"{reason.value}. Type its result, as {result}; if the game goes on, {goes_on}"
     if reason in PLAYED_ON:
-        return f"{reason.value}. If it goes on, type {reopens}{'; else q ends the recording' if is_alone else ''}"
+        last = f". Was it the last move? Type {reopens}, then the result" if reason is Reason.PLAYS_ON else ""
+        return f"{reason.value}. If it goes on, type {reopens}{'; else q ends the recording' if is_alone else ''}{last}"
     return str(reason.value)
 
 

@@ -142,7 +142,8 @@ def result_by_mistake(folder: pathlib.Path) -> None:
     live.type("1-0")
     until_game(live.name, "1. e4 e5 1-0")
     board.play("g1f3")
-    until_line(live, f"{live.name} is over: another move was made after its result. If it goes on, type *; else q ends the recording\n")
+    until_line(live, f"{live.name} is over: another move was made after its result. If it goes on, type *; else q ends the recording. "
+               "Was it the last move? Type *, then the result\n")
     board.play("b8c6")
     until_line(live, "LOOK after 1... e5: 2 moves were made, and the game is over: 1-0. Look at it, and type ok")
     same(movetext(live.name), "1. e4 e5 1-0")
