@@ -76,10 +76,12 @@ def _refusal(game: Game, course: Course, said: Said, line: str) -> Refused:
     return answers.refuse(said, line, whose_move(game.options.fen, played, line, int(said.words[0])))
 
 
-def add_before(obeying: Obeying, paths: Paths, text: str) -> Steps[Answer]:
-    """Adds to the game before this one."""
+def add_before(obeying: Obeying, paths: Paths, text: str, opens: bool) -> Steps[Answer]:
+    """Adds to the game before this one. What `opens` that game leaves it as one that nobody records."""
     program = obeying.games.game.program
     status, answer = yield from obeying.beside(functools.partial(add_by_name, program, paths, text, 0))
+    if status == DONE and opens:
+        answer += f". Nobody records it now: to go on with it, Ctrl-C, and then dgt_live {obeying.plan.device} {paths.name}"
     if status == DONE:
         obeying.screen.say(answer.replace("added to", "added by hand to", 1))
     return status, answer
