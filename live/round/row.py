@@ -74,6 +74,9 @@ class HearsRow(Protocol):
     def say(self, text: str) -> None:
         """A line for the screen."""
 
+    def say_of_table(self, text: str) -> None:
+        """A line about the table, which the round's log has too."""
+
 
 class RowScreen(Screen):
     """Reports about one board, with its number: as lines of a pipe, or below the table."""
@@ -309,7 +312,7 @@ class Row:
         before, self.pairing = self.pairing, pairing
         self._wants_result = True
         if before.result == self.board.forfeit != "" and not pairing.result:
-            self._hears.say(f"{self.number}: its line has no forfeit any more: if it is played, type {self.number} {REOPENS}")
+            self._hears.say_of_table(f"{self.number}: its line has no forfeit any more: if it is played, type {self.number} {REOPENS}")
         if same_but_for_result(before, pairing):
             self._loop.after(0, self._apply_result)
             if not self.board.is_recorded and not self.board.is_over:
@@ -332,7 +335,8 @@ class Row:
         wanted = self.pairing.result
         if wanted and wanted not in (self.board.forfeit, self.board.result):
             if self.board.result != "*":
-                self._hears.say(f"{self.number}: its line has {wanted}, and the game ended {self.board.result}: it stays so. To change it, type {self.number} {wanted}")
+                stays = f"its line has {wanted}, and the game ended {self.board.result}: it stays so"
+                self._hears.say_of_table(f"{self.number}: {stays}. To change it, type {self.number} {wanted}")
             else:
                 self.add(wanted, lambda answer: self._hears.say(f"{self.number}: {answer[1]}"), of_table=True)
 
