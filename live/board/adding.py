@@ -8,8 +8,9 @@ from typing import Tuple
 from live.board.game_over import Listening
 from live.board.obeying import JUST_ENDED, Obeying
 from live.board.recording import Recording
+from live.board.taking_off import take_result_off
 from live.game import answers
-from live.game.answers import ILLEGAL, LONG, Said, meaning, whose_move
+from live.game.answers import BOARD, ILLEGAL, LONG, Said, meaning, whose_move
 from live.game.changing import add_and_make, add_by_name
 from live.game.course import Course
 from live.game.files import Paths
@@ -30,6 +31,14 @@ def add(obeying: Obeying, line: str, sure: bool) -> Steps[Answer]:
         return (yield from _add_last(obeying, line))
     said = yield from obeying.asked(ADDED, functools.partial(_said_of, games.game, line))
     now, had = obeying.recorded(ADDED), games.course.result
+    if said.kind == BOARD and had != NO_RESULT:
+        outcome = yield from obeying.beside(functools.partial(answers.result_typed, games.game.program, line))
+        if outcome and games.before and not sure:
+            yield from _be_sure(obeying, outcome, games.before)
+        if outcome:
+            yield from take_result_off(obeying)
+            said = yield from obeying.asked(ADDED, functools.partial(_said_of, games.game, line))
+            now = obeying.recorded(ADDED)
     if said.outcome and games.before and not sure:
         yield from _be_sure(obeying, said.outcome, games.before)
     if not said.put or not games.game.capture.has_room(len(said.put)):
@@ -40,7 +49,7 @@ def add(obeying: Obeying, line: str, sure: bool) -> Steps[Answer]:
         raise Refused(JUST_ENDED)
     forget_question(games.game.paths)
     what = meaning(said, line, [ply.short for ply in games.course.plies])
-    if not said.outcome and had != "*":
+    if not said.outcome and had != NO_RESULT:
         what += f"; the result {had} is gone: add it again"
     obeying.screen.say(f"added by hand: {what}")
     return DONE, f"added to {games.game.paths.name}: {what}"
@@ -67,10 +76,12 @@ def _refusal(game: Game, course: Course, said: Said, line: str) -> Refused:
     return answers.refuse(said, line, whose_move(game.options.fen, played, line, int(said.words[0])))
 
 
-def add_before(obeying: Obeying, paths: Paths, text: str) -> Steps[Answer]:
-    """Adds to the game before this one."""
+def add_before(obeying: Obeying, paths: Paths, text: str, opens: bool) -> Steps[Answer]:
+    """Adds to the game before this one. What `opens` that game leaves it as one that nobody records."""
     program = obeying.games.game.program
     status, answer = yield from obeying.beside(functools.partial(add_by_name, program, paths, text, 0))
+    if status == DONE and opens:
+        answer += f". Nobody records it now: to go on with it, Ctrl-C, and then dgt_live {obeying.plan.device} {paths.name}"
     if status == DONE:
         obeying.screen.say(answer.replace("added to", "added by hand to", 1))
     return status, answer
@@ -97,4 +108,4 @@ def _said_of(game: Game, line: str, sent: bytes) -> Said:
 
 def _added(game: Game, line: str) -> Tuple[str, Course]:
     """What was added to a game that is over, and its course then."""
-    return add_and_make(game, line), game_of(game.program, game.options, game.capture.bytes(0, end_mark(game.paths)))
+    return add_and_make(game, line, listens=True), game_of(game.program, game.options, game.capture.bytes(0, end_mark(game.paths)))

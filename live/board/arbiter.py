@@ -62,7 +62,7 @@ class Arbiter:
         if isinstance(typed, Acknowledged):
             return self._games.acknowledge(before)
         if before:
-            return (yield from adding.add_before(self._obeying, before, text))
+            return (yield from adding.add_before(self._obeying, before, text, isinstance(typed, (Reopened, Back))))
         if isinstance(typed, Forfeit):
             return (yield from forfeited.forfeit(self._obeying, typed))
         return (yield from self._plays_on(typed, sure))

@@ -258,7 +258,7 @@ class Cable:
         """The line has gone away, or wasn't there."""
         self._unplugged, self._silent, self._unplugged_at = True, False, self._guard.now()
         self._unsure.clear()
-        if not self._once and self._hears.standing:  # a game that is over ends without it
+        if not self._once and self._hears.standing and self.name:  # a game that is over ends without it; one that isn't played needs none
             self._screen.say(self._gone())
         if self._hears.standing:
             self._hears.standing.unplugged(self._unplugged_at, self._connection.is_server)
@@ -278,7 +278,7 @@ class Cable:
             what = "plug it in again; the recording then goes on"
         else:
             what = f"plug it in. Is it another device? {screen.other_device()}"
-        return f"{self.name or 'its board'} isn't there{f' ({printable(why)})' if why else ''}: {what}"
+        return f"{self.name} isn't there{f' ({printable(why)})' if why else ''}: {what}"
 
     def _gone_for_good(self) -> str:
         """Why it isn't there, if it isn't waited for; and what to do if it never was."""

@@ -45,6 +45,11 @@ class Plan:
         return numbered(self.name, last_number(self.name)) if self.rules.series else Paths(self.name)
 
     @property
+    def is_alone(self) -> bool:
+        """Whether it is one game, on the only board."""
+        return not self.rules.series and not self.board
+
+    @property
     def before(self) -> Optional[Paths]:
         """The files of the game before that one, if this is a series and they are there."""
         before = numbered(self.name, last_number(self.name) - 1) if self.rules.series else None

@@ -5,6 +5,8 @@ from __future__ import annotations
 import enum
 from dataclasses import dataclass
 
+from live.game.course import Course
+
 
 class Reason(enum.Enum):
     """Why a game is over."""
@@ -37,10 +39,22 @@ class Rules:
         return self.series or reason in PLAYED_ON or (self.listens and reason is not Reason.LIMIT)
 
 
-def told(reason: Reason, result: str, reopens: str, is_alone: bool) -> str:
-    """Why a game is over, and what to do then. `result` and `reopens` are what to type. Nothing comes after a game that is alone."""
+def told(reason: Reason, result: str, goes_on: str, reopens: str, is_alone: bool) -> str:
+    """Why a game is over, and what to do then. `result`, `goes_on` and `reopens` are what to type, the first two also once nobody listens
+    any more. Nothing comes after a game that is alone."""
     if reason is Reason.SET_UP:
-        return f"{reason.value}. Type its result, as {result}"
+        return f"{reason.value}. Type its result, as {result}; if the game goes on, {goes_on}"
     if reason in PLAYED_ON:
-        return f"{reason.value}. If it goes on, type {reopens}{'; else q ends the recording' if is_alone else ''}"
+        last = f". Was it the last move? Type {reopens}, then the result" if reason is Reason.PLAYS_ON else ""
+        return f"{reason.value}. If it goes on, type {reopens}{'; else q ends the recording' if is_alone else ''}{last}"
     return str(reason.value)
+
+
+def told_of_before(name: str, course: Course) -> str:
+    """What to do with a game that was over before this call began."""
+    if course.is_given:
+        goes_on = f'To go on with it all the same: dgt_live --add "*" {name}'
+    else:
+        last = course.plies[-2].short if len(course.plies) > 1 else "0"
+        goes_on = f'If its last move was another one: dgt_live --back "{last}" {name}'
+    return f"for another game choose another name. {goes_on}"

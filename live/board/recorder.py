@@ -14,7 +14,7 @@ from live.board.cable import Cable
 from live.board.disk import unwritten_of
 from live.board.on_the_way import LENDS, OnTheWay
 from live.board.plan import HearsRecorder, Plan, numbered
-from live.board.reasons import Reason, told
+from live.board.reasons import Reason, told, told_of_before
 from live.board.recording import Recording
 from live.board.standing import Standing
 from live.board.whose import another, back, may_take
@@ -133,9 +133,10 @@ class Recorder:
         assert self.now
         before = self.now if isinstance(self.now, Recording) else None
         if self._reason and before:
-            name, series, screen = self.game.paths.name, self._plan.rules.series, self._screen
-            is_alone = not series and not self._plan.board
-            screen.say(f"{name} is over: {told(self._reason, screen.result_of(name, series), screen.reopens(), is_alone)}")
+            name, series, screen, is_alone = self.game.paths.name, self._plan.rules.series, self._screen, self._plan.is_alone
+            types = screen.result_of(name, series), screen.goes_on(name, series), screen.reopens()
+            more = [told_of_before(name, self.course)] if is_alone and before.was_over else []
+            screen.say(f"{name} is over: {told(self._reason, *types, is_alone)}", *more)
         self._closing = False
         is_last = self._ending or (unwritten and not self._plan.rules.series)
         if is_last or not before:

@@ -66,6 +66,8 @@ class Recording(AttendedGame):
         self.course = opened.old.course
         self._old = opened.old.size  # bytes from before this call
         self.end: Optional[int] = None  # how many bytes are the game's, if not all are
+        self.was_over = False  # whether the game was over before this call
+        self._is_watched = False  # whether its board is watched once it is over
         self._typed = ""  # the result that an arbiter has typed
         self._faults: List[str] = []
         self._is_reopened = False  # by an arbiter, and the program doesn't know it yet
@@ -96,6 +98,8 @@ class Recording(AttendedGame):
         if opened.old.lines:
             self._tell_old()
         self.attend(self.game.options.of_live(), with_times=True, known=opened.old.lines)
+        if opened.old.lines:
+            self.attending.then(lambda: self._hear_result(self.course.result))
         if self._old == front_of(self.game.paths, self.game.capture) != 0:  # nothing has come since plies were taken off
             self.attending.tell(BACK)
             self.attending.tell(REOPENED)
@@ -123,7 +127,6 @@ class Recording(AttendedGame):
         self.course.news.clear()
         for event in self.course.standing():
             self._stands(event)
-        self._hear_result(self.course.result)
         self.standing.show()
 
     # What the board sends.
@@ -294,12 +297,14 @@ class Recording(AttendedGame):
         return seen
 
     def _hear_result(self, result: str) -> None:
-        if result == "*" or self._is_over:
+        if result == "*" or self._is_over or self.end is not None:  # the game was over before
             return
         if result == self._typed:
-            how = f"; if the result was typed by mistake, type {self._screen.reopens()}"
+            how = self._screen.mistyped()
+        elif self.course.is_given:
+            how = f"; if the game goes on, put the kings where they belong, and type {self._screen.reopens()}"
         else:
-            how = ", unless the result changes"
+            how = ", unless the last move is corrected"
         self._screen.say(f"ends in {STANDS} seconds{how}")
 
     def says(self, text: str) -> None:
@@ -381,6 +386,7 @@ class Recording(AttendedGame):
         if is_known and over.size <= front_of(self.game.paths, self.game.capture):  # its times don't tell that an arbiter has reopened it
             self.attending.tell(REOPENED)
             return
+        self.was_over = is_known
         is_typed = self._typed == over.result and self._by_hand.start < over.size <= self._by_hand.stop
         self.end = self._by_hand.stop if is_typed else over.size  # with the picture that stands behind the sign of a result
         if is_known:
@@ -431,6 +437,7 @@ class Recording(AttendedGame):
         """Hears the last lines, makes the text a last time, and reports what can't be written, and why; nothing if all is. All lines of
         a game that is over were heard; if its board `is_attended` after that, there is nothing to wait for."""
         self._is_over, self._done = True, done
+        self._is_watched = is_attended and not self._rules.series  # then the alarms are said once that ends
         if is_attended:
             self._all_is_heard()
         else:
@@ -463,7 +470,7 @@ class Recording(AttendedGame):
         if course.recovered:
             pairs = "; ".join(pair.replace("recovered ", "") for pair in course.recovered)
             self._screen.say(f"recovered in {pgn}, look whether they were played: {pairs}")
-        if self.looks.open:
+        if self.looks.open and not self._is_watched:
             self._screen.say(f"in {pgn}: {self.looks.all}")
         if self._typed not in ("", course.result):
             self._screen.say(f"LOOK at {pgn}: its result should be {self._typed}, and isn't")

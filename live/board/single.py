@@ -159,6 +159,8 @@ class Single:
         if text in QUITS and not self.board.is_recorded:
             self.end()
             return
+        if not text.strip():
+            return
         self.board.typed(text, functools.partial(self._answered, self.board.is_recorded))
 
     def _answered(self, is_recorded: bool, answer: Answer) -> None:

@@ -14,11 +14,23 @@ from live.loop import Loop
 from live.refused import REFUSED, Refused
 
 LOOK, SOON = 0.5, 0.05  # seconds
+STAYS = 10.0  # seconds for which all that was shown stays on the page
+MINUTE = 60.0
 
 
 def clock_in(seconds: float) -> str:
     """The time of day after this many seconds: the next full minute."""
     return time.strftime("%H:%M", time.localtime(time.time() + seconds + 59))
+
+
+def until_clock_in(seconds: float, wall: float) -> float:
+    """For how many seconds that minute hasn't begun, by this clock on the wall."""
+    return (wall + seconds + 59) // MINUTE * MINUTE - wall
+
+
+def stays_for(shown_at: float, told: float, now: float) -> float:
+    """For how many seconds the page stays: at least ten since all was shown, and until the minute that was told has begun."""
+    return max(shown_at + STAYS, told) - now
 
 
 def hold(paths: Paths) -> Optional[int]:
@@ -41,6 +53,8 @@ class Leaving:
     def __init__(self, loop: Loop, broadcast: Broadcast, says: Callable[[str], None]) -> None:
         self._loop, self._broadcast, self._says = loop, broadcast, says
         self._waits = self._was_asked = self._is_over = False
+        self._told = 0.0  # when the minute begins that was printed
+        self._shown_at: Optional[float] = None  # when spectators have seen all
         self.ends = False  # wait only for the command's last run
 
     def over(self) -> None:
@@ -60,7 +74,7 @@ class Leaving:
             self._finish()
         elif left is not None and not self.ends:
             if left:  # else it is shown in a moment
-                self._says(f"spectators see the last moves at {clock_in(left)}: it goes on until then")
+                self._says(f"{self._last_moves(left)}: it goes on until then")
             self._wait()
 
     def asked(self) -> None:
@@ -72,8 +86,7 @@ class Leaving:
             self._finish()
         else:
             self._was_asked = True
-            when = f"spectators see the last moves at {clock_in(left)}"
-            self._says(f"{when}: leave it running until then. To end it now, Ctrl-C again")
+            self._says(f"{self._last_moves(left)}: leave it running until then. To end it now, Ctrl-C again")
             self._wait()
 
     def goes_on(self) -> None:
@@ -85,18 +98,29 @@ class Leaving:
         self._broadcast.look()
         return self._broadcast.hidden_for
 
+    def _last_moves(self, left: float) -> str:
+        """When spectators see the last moves, which are hidden for so many seconds."""
+        self._told = self._loop.now() + until_clock_in(left, time.time())
+        return f"spectators see the last moves at {clock_in(left)}"
+
     def _wait(self) -> None:
         if not self._waits:
-            self._waits = True
+            self._waits, self._shown_at = True, None
             self._look()
 
     def _look(self) -> None:
         if not self._waits or self.ends:
             return
-        if self._broadcast.hidden_for is None and self._broadcast.is_out:
+        now = self._loop.now()
+        if self._broadcast.hidden_for is not None or not self._broadcast.is_out:
+            self._shown_at = None
+        elif self._shown_at is None:
+            self._shown_at = now
+            self._says(f"spectators have seen all moves: it ends in {stays_for(now, self._told, now):.0f} seconds")
+        elif stays_for(self._shown_at, self._told, now) <= 0:
             self._finish()
-        else:
-            self._loop.after(LOOK, self._look)
+            return
+        self._loop.after(LOOK, self._look)
 
     def _finish(self) -> None:
         if not self.ends:

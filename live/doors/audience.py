@@ -9,6 +9,7 @@ from typing import Sequence, Tuple
 from live.board.single import QUITS, Single
 from live.broadcast.broadcast import Broadcast
 from live.broadcast.going_out import HOLD, GoingOut, delay_of, keep_delay, minutes
+from live.broadcast.kept_out import keep_out, kept_out, told_of_kept
 from live.broadcast.leaving import Leaving, clock_in, hold
 from live.broadcast.unseen import is_unseen
 from live.doors.calls import Call
@@ -42,6 +43,9 @@ class Audience:
         self._pages = TwoPages(loop, where, are_kept)
         self._to_keep = None if are_kept else call.pages
         self._delay = delay_of(paths, None, [paths]) if call.delay is None else call.delay
+        kept = kept_out(paths)
+        self._told_of_kept = told_of_kept(kept, call.hold, bool(call.publish))
+        self._hold = next((seconds for seconds in (call.hold, kept.hold) if seconds is not None), HOLD)
         self._late = minutes(self._delay) if self._delay else ""
         self._event = os.path.basename(call.name)
         self._title = Title(given.event or self._event, given.round or "", self._late)
@@ -50,7 +54,7 @@ class Audience:
         """From now on the game of this board is shown. The call ends when spectators have seen it."""
         call, paths, delay = self._call, self._paths, self._delay
         goes_out = delay or call.publish or self._given.tags or kept_tags(paths) or os.path.lexists(paths.broadcast)
-        place, out = paths.broadcast if goes_out else None, GoingOut(delay, call.publish, hold=HOLD if call.hold is None else call.hold)
+        place, out = paths.broadcast if goes_out else None, GoingOut(delay, call.publish, hold=self._hold)
         self._broadcast = broadcast = Broadcast(
             self._loop, self._program, out, place, lambda: [single] if single.is_open else [], lambda game: paths, single
         )
@@ -61,6 +65,7 @@ class Audience:
             if call.delay is not None:  # not sooner: a call that is refused keeps none
                 keep_delay(paths, call.delay, [paths])
             try:
+                keep_out(paths, call.hold, bool(call.publish))
                 if self._to_keep:
                     keep_pages(paths, self._to_keep)
             except Refused as refused:  # it is recorded anyway
@@ -91,7 +96,7 @@ class Audience:
         if self._late:
             stays = " as before; --delay 0 ends that" if self._call.delay is None else ""
             greeting.append(f"spectators see the game {self._late} late{stays}")
-        return tuple(greeting)
+        return (*greeting, *self._told_of_kept)
 
     def hears(self, text: str) -> bool:
         """Whether a typed line still counts: while the last text is being published, only lines that end the call do."""

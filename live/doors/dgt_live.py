@@ -62,7 +62,7 @@ PRINTED = 2.0  # seconds that a slow terminal has for the last lines
 def record(call: Call, program: Program, signals: Signals) -> Outcome:
     """Records a game, or a series of them. A call that is refused before there is a game leaves no file."""
     paths = Paths(call.name)
-    made = [path for path in (paths.delay, paths.pages, paths.log, paths.options) if not os.path.lexists(path)]
+    made = [path for path in (paths.delay, paths.out, paths.pages, paths.log, paths.options) if not os.path.lexists(path)]
     try:
         return record_in(call, program, signals)
     except Refused:

@@ -10,6 +10,8 @@ from typing import Dict, List, Optional, Sequence, Tuple
 
 from live.broadcast.broadcast import Broadcast
 from live.broadcast.going_out import HOLD, GoingOut, delay_of, in_home, minutes, read_command, read_delay, read_hold
+from live.broadcast.kept_out import keep_out, kept_out
+from live.broadcast.kept_out import told_of_kept as told_of_kept_out
 from live.broadcast.named_output import OPTION as OUTPUT
 from live.broadcast.named_output import (
     Output, held, left_in, name_in, read_outputs, refuse_games_in_site, refuse_links, refuse_shared_sites, refuse_unknown, removed, told_of,
@@ -65,12 +67,12 @@ While it records, type
   3 Nf3 Nc6   moves that board 3 has missed; 3 back takes one off, 3 * a result
   3, 3 ok     the state of board 3; you have looked at its LOOK
   r, q        read FILE again (HUP does so too); end (Ctrl-C asks nothing)
-OPTION, kept: --event, --place (--site), --date, --round TEXT; --tag NAME=VALUE
+OPTION, kept but *: --event, --place, --site, --date, --round; --tag NAME=VALUE
   --page [ADDRESS:]PORT     a page for spectators, as --page 8000
   --page-host NAME, --arbiter-page [ADDRESS:]PORT   its names; the arbiter's
-  --embed https://SITE, --web FOLDER   who may frame it; a site of files
-  --delay MINUTES, --publish COMMAND   how late it goes out, and by what
-  --output 'NAME = MINUTES, COMMAND'   a further output; for more, once more
+  --embed https://SITE, --web FOLDER *   who may frame it; a site of files
+  --delay MINUTES, --publish COMMAND *   how late it goes out, and by what
+  --output 'NAME = MINUTES, COMMAND' *   a further output; for more, once more
   --hold, --encoding, --matches, --recover, --strict, --version: man
 """
 
@@ -87,7 +89,7 @@ class Asked:
     delay: Optional[float] = None  # seconds; None leaves it as it was
     publish: Tuple[str, ...] = ()  # a command
     web: str = ""  # the folder of the static site
-    hold: float = HOLD  # seconds for which a last ply must stand before it goes out
+    hold: Optional[float] = None  # seconds for which a last ply must stand before it goes out; None leaves it as it was
     outputs: Tuple[Output, ...] = ()  # beside the first one
     moved: Tuple[Tuple[str, str], ...] = ()  # the folder of a site in a tournament's, and the one that its path alone names
     known: Tuple[str, ...] = ()  # the names of outputs that the tournament's settings have
@@ -167,7 +169,7 @@ def each_read(arguments: Sequence[str]) -> Asked:
         None if delay is None else read_delay(delay),
         () if publish is None else read_command(publish),
         web,
-        HOLD if hold is None else read_hold(hold),
+        None if hold is None else read_hold(hold),
         read_outputs(outputs),
         encoding=known_encoding(encoding) if encoding else "",
         no_matches=no_matches,
@@ -292,20 +294,23 @@ def play(asked: Asked, program: Program, signals: Signals) -> Outcome:
     pages = TwoPages(loop, where, are_kept)
     delay = delay_of(files, asked.delay, [Paths(str(folder / pairing.file_name)) for pairing in read.boards])
     late = minutes(delay) if delay else ""
+    kept_before = kept_out(files)
+    hold = next((seconds for seconds in (asked.hold, kept_before.hold) if seconds is not None), HOLD)
     shown = given.written("--event") or file.stem
     event = "" if given.event == UNKNOWN else given.written("--event")
     title = ", ".join(filter(None, (event, given.round and f"round {given.round}"))) or file.stem
     told_of_removed = [removed(folder, output) for output in asked.outputs if not output.out]
     told_of_named = [*filter(None, told_of_removed), *told_of(folder, asked.outputs, left_in(folder))]
-    games = Round(loop, source, read, title, replace(hall, out=GoingOut(delay, asked.publish, hold=asked.hold), outputs=held(asked.outputs, asked.hold)))
+    games = Round(loop, source, read, title, replace(hall, out=GoingOut(delay, asked.publish, hold=hold), outputs=held(asked.outputs, hold)))
     for line in filter(None, (told_of_place, told, *asked.told)):
         games.say(line)
     if late:
         stays = " as before; --delay 0 ends that" if asked.delay is None else ""
         games.say(f"spectators see the round {late} late{stays}")
-    for line in told_of_named:
+    for line in (*told_of_kept_out(kept_before, asked.hold, bool(asked.publish)), *told_of_named):
         games.say(line)
     try:
+        keep_out(files, asked.hold, bool(asked.publish))
         if given.only(TAGS) != kept:
             keep_options(files, given.only(TAGS))
         if not are_kept and (where.any or where.ends):

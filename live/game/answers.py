@@ -9,7 +9,7 @@ from typing import List, Optional, Sequence, Tuple
 from live.device.protocol import DUMP_BEGINS, DUMP_ID, SIZES
 from live.game.options import RECOVER, Options
 from live.game.program import Program, ending_of
-from live.game.reply import Refused
+from live.game.reply import OK, Refused
 from live.game.typed import WAYS
 
 SLOWEST = 60.0  # seconds that a call may take
@@ -18,7 +18,8 @@ MOVES, RESULT = "moves", "result"  # the kinds of what is added
 NOTHING, MIXED, ILLEGAL, MEANT, UNKNOWN, ENDED, BOARD, LONG = "nothing", "mixed", "illegal", "meant", "unknown", "ended", "board", "long"
 NO_PLIES = "0"
 A_RESULT = "the result "  # and the result that is added
-NUMBERED = re.compile(r"\d+\s+[A-Za-z*]", re.ASCII)  # a line that begins as in a round
+NUMBERED = re.compile(r"\d+\s+([A-Za-z*]|[01½][-–—−:/.]|[+-][+-])", re.ASCII)  # a line that begins as in a round
+OK_NUMBERED = re.compile(r"ok\s+(\d+)", re.ASCII | re.IGNORECASE)
 NUMBER = re.compile(r"\d+\.+", re.ASCII)  # of a move
 
 NOTHING_ADDED = "Nothing was added"
@@ -51,6 +52,11 @@ class Said:
 def add(program: Program, options: Options, sent: bytes, line: str) -> Said:
     """What the program answers to a line that is typed to the game of these bytes. Raises OSError if it fails."""
     return _asked(program, options, sent, "add", f"--line={line}")
+
+
+def result_typed(program: Program, line: str) -> str:
+    """The result that a line is; empty if it is something else. Raises OSError if it fails."""
+    return add(program, Options(), b"", line).outcome
 
 
 def go_back(program: Program, options: Options, sent: bytes, to: str) -> Said:
@@ -103,6 +109,9 @@ def refuse(said: Said, line: str, place: str) -> Refused:
     """Why a line adds nothing. `place` says who is to move, where a move isn't legal."""
     if NUMBERED.match(line.strip()) and said.kind in (UNKNOWN, MIXED):
         return Refused(f"leave out the number in front. {WAYS}")
+    ok = OK_NUMBERED.fullmatch(line.strip())
+    if ok:
+        return Refused(f"{OK} stands alone. In a round type the board's number in front, as {ok[1]} {OK}")
     if said.kind in SENTENCES:
         return Refused(SENTENCES[said.kind])
     if said.kind == ILLEGAL:

@@ -4,15 +4,16 @@ from __future__ import annotations
 
 import os
 from dataclasses import replace
+from typing import Tuple
 from live.game import answers
 from live.game.alarms import acknowledge
-from live.game.answers import ILLEGAL, Said, meaning, whose_move
+from live.game.answers import BOARD, ILLEGAL, Said, meaning, whose_move
 from live.game.files import Paths, not_written, open_game
 from live.game.forfeiting import drop_forfeit, keep_forfeit
 from live.game.forfeits import NO_RESULT, Forfeit, read_typed, refuse_played
 from live.game.game import Game, end_mark, forget_question, keep_options, kept_options, mark_end, result_in
 from live.game.log import log_once
-from live.game.made_anew import go_back_closed, made_of, reopen
+from live.game.made_anew import go_back_closed, made_of, reopen, replace_result
 from live.game.making_pgn import Text, told_of_result
 from live.game.naming import is_naming, read_names, told_of_names
 from live.game.opening import checked
@@ -26,13 +27,17 @@ from live.game.typed import WAYS, Acknowledged, Back, Nothing, Quit, Reopened
 from live.refused import DONE, FAILED
 
 
-def add_to_closed(game: Game, line: str) -> Said:
-    """Adds to a game that nobody records now, after its last byte; what came after that byte stays after it. Returns what was
-    added. Refused if nothing was; OSError if a file can't be written."""
+def add_to_closed(game: Game, line: str, listens: bool = False) -> Tuple[Said, str]:
+    """Adds to a game that nobody records now, after its last byte; what came after that byte stays after it. A typed result takes the
+    place of that of the kings. Returns what was added, and more of the message. Refused if nothing was; OSError if a file can't be
+    written."""
     mark = end_mark(game.paths)
     end = game.capture.size if mark is None else mark
     sent = game.capture.bytes(0, end)
     said = answers.add(game.program, game.options, sent, line)
+    replaced = replace_result(game, line, listens) if said.kind == BOARD else None
+    if replaced:
+        return replaced[0], f". {replaced[1]}"
     if not said.put:
         played = game_of(game.program, game.options, sent).plies if said.kind == ILLEGAL else []
         place = whose_move(game.options.fen, [ply.san for ply in played], line, int(said.words[0])) if said.kind == ILLEGAL else ""
@@ -52,17 +57,17 @@ def add_to_closed(game: Game, line: str) -> Said:
     if mark is not None or said.outcome:
         mark_end(game.paths, game.capture, end + len(said.put))
         game.times.note(OVER, end + len(said.put))
-    return said
+    return said, ""
 
 
-def add_and_make(game: Game, line: str) -> str:
+def add_and_make(game: Game, line: str, listens: bool = False) -> str:
     """Adds to a game that nobody records now, and makes its text. Returns in words what was added."""
     before = result_in(game.paths)
-    said = add_to_closed(game, line)
+    said, more = add_to_closed(game, line, listens)
     made = made_of(game, Text(game).make(end_mark(game.paths)))
     gone = "" if said.outcome else "".join(f"; {told}" for told in told_of_result(before, result_in(game.paths)))
     plies = game_of(game.program, game.options, game.capture.bytes(0, end_mark(game.paths))).plies if said.outcome else []
-    return meaning(said, line, [ply.short for ply in plies]) + gone + made
+    return meaning(said, line, [ply.short for ply in plies]) + gone + more + made
 
 
 def add_by_name(program: Program, paths: Paths, text: str, patience: float) -> Answer:

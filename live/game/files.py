@@ -72,6 +72,11 @@ class Paths:
         return self._with("delay")
 
     @functools.cached_property
+    def out(self) -> str:
+        """How else it goes out."""
+        return self._with("out")
+
+    @functools.cached_property
     def pages(self) -> str:
         """Where it is shown to browsers."""
         return self._with("pages")

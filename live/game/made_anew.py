@@ -8,7 +8,8 @@ from __future__ import annotations
 
 import errno
 import os
-from typing import Optional, Sequence
+from dataclasses import replace
+from typing import Optional, Sequence, Tuple
 
 from live.game import answers
 from live.game.alarms import keep_looks, kept_looks
@@ -24,7 +25,7 @@ from live.game.reading import game_of, read_game
 from live.game.reply import Asked, Refused
 from live.game.report import Move, Picture, line_of
 from live.game.times import OVER, REOPENED
-from live.game.way_back import ALL, NO_RESULT, PLIES, STILL_SHOWN, Way, nothing_goes, refuse, stays_of, way_of
+from live.game.way_back import ALL, NO_RESULT, PLIES, SIGNED, STILL_SHOWN, Way, nothing_goes, played_since, refuse, stays_of, way_of
 
 NO_LINKS = (errno.EPERM, errno.EOPNOTSUPP, errno.EMLINK)  # a file system without hard links
 
@@ -50,34 +51,36 @@ def keep_before(capture: Capture, paths: Paths) -> str:
         return kept
 
 
-def put_way(game: Game, way: Way, is_over: bool = False) -> str:
-    """Makes the new game the current one; it goes on from where its end was marked, unless it stays over. Returns which alarms it
-    has ended, and where the old capture is. Raises OSError if a file can't be written."""
+def put_way(game: Game, way: Way, end: Optional[int] = None) -> str:
+    """Makes the new game the current one; it goes on from where its end was marked, unless it stays over with so many bytes. Returns
+    which alarms it has ended, and where the old capture is. Raises OSError if a file can't be written."""
     kept = keep_before(game.capture, game.paths)
     forget_question(game.paths)
     game.times.set_aside(kept)
     try:
-        _renew(game, way, is_over)
+        _renew(game, way, end)
     except Exception:
         game.times.come_back(kept)
         raise
     game.times.begin()
-    if is_over:
-        game.times.note(OVER, len(way.content))
+    if end is not None:
+        game.times.note(OVER, end)
     return f"{_settle(game.paths, way)}What the board had sent is kept in {kept}"
 
 
-def _renew(game: Game, way: Way, is_over: bool) -> None:
+def _renew(game: Game, way: Way, end: Optional[int]) -> None:
     keep_front(game.paths, way.content)
-    mark = end_mark(game.paths)
+    mark, capture = end_mark(game.paths), game.capture
     if mark is not None:
         # First what came after the end is removed; then the mark is moved, to allow the longer capture: each step leaves a
         # whole game.
-        game.capture.renew(game.capture.bytes(0, mark))
-        mark_end(game.paths, game.capture, max(mark, len(way.content)))
-    game.capture.renew(way.content)
-    if mark is not None and is_over:
-        mark_end(game.paths, game.capture, len(way.content))
+        capture.renew(capture.bytes(0, mark))
+        mark_end(game.paths, capture, max(mark, len(way.content) if end is None else end))
+    capture.renew(way.content[:end])
+    if end is not None:
+        mark_end(game.paths, capture, end)
+        if end < len(way.content):
+            capture.renew(way.content)
     elif mark is not None:
         unmark_end(game.paths)
 
@@ -125,7 +128,7 @@ def go_back_closed(game: Game, to: str, listens: bool = False, may_stay: bool = 
         raise refuse(said, to, course.plies)
     ask_first(game.paths, way)
     more = ". The game stays over" if is_over else ""
-    return _put_closed(game, way, is_over) + (". The game begins with the moves made since the start" if anew else more)
+    return _put_closed(game, way, len(way.content) if is_over else None) + (". The game begins with the moves made since the start" if anew else more)
 
 
 def reopen(game: Game, listens: bool = False) -> str:
@@ -138,7 +141,8 @@ def reopen(game: Game, listens: bool = False) -> str:
         return unforfeited(game.paths, course.plies)
     said = _said(game, game.capture.bytes(), str(total) if had == NO_RESULT else ALL)
     if said.put and said.words[-1] == NO_RESULT != had:
-        return f"{goes_on}, without the result" + _open_again(game)
+        more = _open_again(game)
+        return f"{goes_on}, without the result{played_since(_course(game).plies[total:])}{more}"
     way = Way(course.plies, total, had, said.put) if said.put else None
     if way is None and said.kind in STILL_SHOWN and not listens:
         way = _cut(game, course, total)
@@ -147,6 +151,29 @@ def reopen(game: Game, listens: bool = False) -> str:
     if mark is None or had == NO_RESULT or not said.put:
         return f"{goes_on}: {_put_closed(game, way)}"
     return f"{goes_on}, without the result. {_put_closed(game, way, says=False)}"
+
+
+def replace_result(game: Game, line: str, listens: bool) -> Optional[Tuple[Said, str]]:
+    """Puts a typed result in the place of the one that the kings gave to a game that is over: it ends with its last ply then. Returns
+    what was added, and where the old capture is; None if the line is no result, or the game has none. Refused while the kings stand
+    in the centre of a board that is watched."""
+    mark, course = end_mark(game.paths), _course(game)
+    if course.result == NO_RESULT or not answers.result_typed(game.program, line):
+        return None
+    if listens:
+        shown = _said(game, game.capture.bytes(), ALL)
+        if shown.kind == SIGNED:
+            raise refuse(shown, ALL, course.plies)
+    way = _cut(game, course, len(course.plies))
+    said = answers.add(game.program, game.options, way.content, line) if way else None
+    if way is None or said is None or not said.put:
+        return None
+    game_bytes, later = way.content + said.put, b""
+    if mark is not None:  # what the board has shown since stays after the end
+        later = answers.dump_at_end(game.program, game.options, game.capture.bytes(0, mark)) + game.capture.bytes(mark)
+    text = Text(game)
+    text.look(mark)
+    return said, put_way(game, replace(way, content=game_bytes + later), len(game_bytes))
 
 
 def unforfeited(paths: Paths, plies: Sequence[Move]) -> str:
@@ -200,10 +227,10 @@ def _open_again(game: Game) -> str:
     return made_of(game, text.make(None))
 
 
-def _put_closed(game: Game, way: Way, is_over: bool = False, says: bool = True) -> str:
+def _put_closed(game: Game, way: Way, end: Optional[int] = None, says: bool = True) -> str:
     text = Text(game)
     text.look(end_mark(game.paths))
-    kept = put_way(game, way, is_over)
+    kept = put_way(game, way, end)
     return (f"{way.words}. {kept}" if says else kept) + made_of(game, text.make(None))
 
 

@@ -114,6 +114,11 @@ def nothing_goes(way: Way, to: str) -> Refused:
     return Refused(f"the game ends with {reached(way.plies)} already" if way.plies else "the game has no move")
 
 
+def played_since(plies: Sequence[Move]) -> str:
+    """More of the message that a game goes on: the plies that were made after its result."""
+    return f"; played since: {moves_of(plies)}" if plies else ""
+
+
 def moves_of(plies: Sequence[Move]) -> str:
     """`14... Qd7 15. Rd1 Rae8`."""
     words = []

@@ -34,5 +34,5 @@ def chosen_folder(file: pathlib.Path, games: Iterable[str]) -> Tuple[pathlib.Pat
 def _has_begun(folder: pathlib.Path, games: Iterable[str]) -> bool:
     """Whether a round has begun in this folder: it has files of its own there, or a game of this name."""
     of_round = Paths(str(folder / ROUND))
-    own = (of_round.pgn, of_round.log, of_round.options, of_round.delay, of_round.pages)
+    own = (of_round.pgn, of_round.log, of_round.options, of_round.delay, of_round.out, of_round.pages)
     return any(map(os.path.lexists, (*own, *(Paths(str(folder / name)).capture for name in games))))

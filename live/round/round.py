@@ -29,6 +29,7 @@ from live.game.typed import HELPS, refuse_no_text
 from live.guard import traced
 from live.loop import Loop
 from live.refused import DONE, FAILED, REFUSED, Refused
+from live.refused import printable as whole_printable
 from live.round.display import Display
 from live.round.encodings import is_question
 from live.round.joining import not_plugged_in, with_some
@@ -155,21 +156,21 @@ class Round:
         try:
             read = self._source.read()
         except OSError as error:
-            return self.say(f"refused: {self._file} can't be read ({text_of(error)}): nothing is changed")
+            return self.say_of_table(f"refused: {self._file} can't be read ({text_of(error)}): nothing is changed")
         except Refused as refused:
             return self._refuses_file(refused.lines)
         if not read.boards:
-            return self.say(f"refused: {self._file} has no line that is right: nothing is changed")
+            return self.say_of_table(f"refused: {self._file} has no line that is right: nothing is changed")
         self._take(read)
         self._look_for_boards()
-        return self.say(f"{self._file} is read again: {counted(len(self._right), 'board')}{lines_are_wrong(len(self._wrong))}")
+        return self.say_of_table(f"{self._file} is read again: {counted(len(self._right), 'board')}{lines_are_wrong(len(self._wrong))}")
 
     def _refuses_file(self, lines: Sequence[str]) -> None:
         """Says why the file isn't taken; a question has a line for each answer."""
         if not is_question(lines):
-            return self.say(f"refused: {self._file}: {' '.join(lines)}: nothing is changed")
+            return self.say_of_table(f"refused: {self._file}: {' '.join(lines)}: nothing is changed")
         for line in (f"refused: {self._file}: {lines[0]}", *lines[1:]):
-            self.say(line)
+            self.say_of_table(line)
         how = "tournament.txt is read again at r" if self._source.in_tournament else "for the option end with q, and start again"
         self.say(f"nothing is changed; {how}")
 
@@ -200,21 +201,21 @@ class Round:
 
     def _take(self, read: Pairings) -> None:
         for remark in read.remarks:
-            self.say(remark)
+            self.say_of_table(remark)
         had = {number: row.pairing.device for number, row in self.rows.items()}
         boards, self._wrong = without_twice(with_forfeited(read, self._hall), had)
         self._absent = {pairing.board: pairing for pairing in read.absent}
         self._right = {pairing.board for pairing in boards}
         for wrong in self._wrong:
-            self.say(f"line {wrong.line} of {wrong.file or self._file.name} is wrong: {self._why(wrong)}")
+            self.say_of_table(f"line {wrong.line} of {wrong.file or self._file.name} is wrong: {self._why(wrong)}")
         named = {pairing.board for pairing in boards} | {wrong.board for wrong in self._wrong}
         for number in sorted(set(self.rows) - {number for number in named if number}):
             # A line whose number can't be read may be this board's.
             if None in named:
-                self.say(f"{number}: no line names it, but one line has no board number: it goes on")
+                self.say_of_table(f"{number}: no line names it, but one line has no board number: it goes on")
             else:
                 pgn = self.rows[number].board.paths.pgn
-                self.say(f"{number}: no line names it any more: it ends, and its game stays in {pgn}")
+                self.say_of_table(f"{number}: no line names it any more: it ends, and its game stays in {pgn}")
                 self.rows.pop(number).end(self.changed)
         for pairing in boards:
             if pairing.board in self.rows:
@@ -231,6 +232,11 @@ class Round:
         """A line for the screen."""
         self._display.say(text)
         self.changed()
+
+    def say_of_table(self, text: str) -> None:
+        """A line about the table, which the round's log has too."""
+        self.say(text)
+        self._log.write(logged_at(time.time()), whole_printable(text))
 
     def views(self) -> List[RowView]:
         """The rows, then the lines that belong to none."""

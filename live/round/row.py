@@ -74,6 +74,9 @@ class HearsRow(Protocol):
     def say(self, text: str) -> None:
         """A line for the screen."""
 
+    def say_of_table(self, text: str) -> None:
+        """A line about the table, which the round's log has too."""
+
 
 class RowScreen(Screen):
     """Reports about one board, with its number: as lines of a pipe, or below the table."""
@@ -84,6 +87,7 @@ class RowScreen(Screen):
         self.on_change = functools.partial(hears.changed, number)
         self._has_table = terminal is None
         self._held: Optional[List[Tuple[str, ...]]] = None  # what is said while a typed line is obeyed
+        self._of_table = False  # whether that line is a result of the table
 
     def say(self, text: str, *more: str) -> None:
         for line in (text, *more):
@@ -99,13 +103,13 @@ class RowScreen(Screen):
         if self._has_table and not any(part in text for part in UNSAID):
             self._hears.say(f"{self._number}: {' '.join([text, *more])}")
 
-    def obeys(self) -> None:
-        """A typed line is obeyed from now on: what is said meanwhile is held back."""
-        self._held = []
+    def obeys(self, of_table: bool) -> None:
+        """A line that was typed, or is of the table, is obeyed from now on: what is said meanwhile is held back."""
+        self._held, self._of_table = [], of_table
 
     def answers(self, answer: Answer) -> None:
         """It is answered. Of what was said meanwhile, only what the answer doesn't have is shown."""
-        held, self._held = self._held, None
+        held, self._held, self._of_table = self._held, None, False
         for text, *more in held or ():
             if text in answer[1] or text.startswith(ANSWERED):
                 continue
@@ -143,11 +147,17 @@ class RowScreen(Screen):
     def reopens(self) -> str:
         return f"{self._number} {super().reopens()}"
 
+    def mistyped(self) -> str:
+        return "" if self._of_table else super().mistyped()
+
     def begins(self) -> str:
         return f"{self._number} {super().begins()}"
 
     def result_of(self, name: str, in_series: bool) -> str:
         return f"{self._number} 1-0"
+
+    def goes_on(self, name: str, in_series: bool) -> str:
+        return f"type {self.reopens()}"
 
     def other_device(self) -> str:
         return "Write it in its column device, save the table, and type r"
@@ -302,15 +312,20 @@ class Row:
         before, self.pairing = self.pairing, pairing
         self._wants_result = True
         if before.result == self.board.forfeit != "" and not pairing.result:
-            self._hears.say(f"{self.number}: its line has no forfeit any more: if it is played, type {self.number} {REOPENS}")
+            self._hears.say_of_table(f"{self.number}: its line has no forfeit any more: if it is played, type {self.number} {REOPENS}")
         if same_but_for_result(before, pairing):
             self._loop.after(0, self._apply_result)
             if not self.board.is_recorded and not self.board.is_over:
                 self.board.begin()
         elif self.board.is_begun:
-            self.board.end(self.board.begin)
+            self._wants_result = False  # until it is recorded again
+            self.board.end(self._begin_anew)
         else:
             self.board.try_at_once()
+
+    def _begin_anew(self) -> None:
+        self._wants_result = True
+        self.board.begin()
 
     def _apply_result(self) -> None:
         """Adds the line's result if the game has none."""
@@ -320,12 +335,13 @@ class Row:
         wanted = self.pairing.result
         if wanted and wanted not in (self.board.forfeit, self.board.result):
             if self.board.result != "*":
-                self._hears.say(f"{self.number}: its line has {wanted}, and the game ended {self.board.result}: it stays so")
+                stays = f"its line has {wanted}, and the game ended {self.board.result}: it stays so"
+                self._hears.say_of_table(f"{self.number}: {stays}. To change it, type {self.number} {wanted}")
             else:
-                self.add(wanted, lambda answer: self._hears.say(f"{self.number}: {answer[1]}"))
+                self.add(wanted, lambda answer: self._hears.say(f"{self.number}: {answer[1]}"), of_table=True)
 
-    def add(self, text: str, answered: Callable[[Answer], None]) -> None:
-        """Adds a result or moves that were typed, and passes on the answer."""
+    def add(self, text: str, answered: Callable[[Answer], None], of_table: bool = False) -> None:
+        """Adds a result or moves that were typed, or a result of the table, and passes on the answer."""
 
         def answers(answer: Answer) -> None:
             self._screen.answers(answer)
@@ -334,7 +350,7 @@ class Row:
         if is_naming(text):
             answered(refusal(text, Refused(REFUSED, IN_A_TABLE)))
         else:
-            self.board.add(text, answers, self._screen.obeys)
+            self.board.add(text, answers, functools.partial(self._screen.obeys, of_table))
 
     # What others see.
 

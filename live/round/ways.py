@@ -6,12 +6,12 @@ import re
 from typing import Sequence
 
 from live.game import answers
-from live.game.answers import A_RESULT, ILLEGAL, MEANT, MOVES, RESULT, UNKNOWN, Said, moves_in
+from live.game.answers import A_RESULT, ILLEGAL, MEANT, MOVES, OK_NUMBERED, RESULT, UNKNOWN, Said, moves_in
 from live.game.forfeits import typed_forfeit
 from live.game.naming import IN_A_TABLE, is_naming
 from live.game.options import Options
 from live.game.program import Program
-from live.game.reply import REOPENS, Answer
+from live.game.reply import OK, REOPENS, Answer
 from live.game.reply import Refused as NotDone
 from live.game.typed import ABSENT, ALL_WAYS, Acknowledged, Back, Reopened, read_words, with_more
 from live.refused import DONE
@@ -39,7 +39,7 @@ def example(numbers: Sequence[int]) -> int:
 def all_ways(numbers: Sequence[int]) -> str:
     """What can be typed."""
     number = example(numbers)
-    here = f"{number} 1-0, {number} Nf3 Nc6, {number} back, {number} help"
+    here = ", ".join(f"{number} {what}" for what in ("1-0", "+-", "*", "Nf3 Nc6", "back", "ok", "help"))
     return f"type {here}, {number} (the state of board {number}), r (read the table again) or q (end)"
 
 
@@ -47,6 +47,9 @@ def ways(text: str, numbers: Sequence[int], said: Said = Said(UNKNOWN)) -> str:
     """What to type instead of a text that doesn't begin with a board's number, given what the program says of it."""
     if is_naming(text):
         return IN_A_TABLE
+    ok = OK_NUMBERED.fullmatch(text.strip())
+    if ok:
+        return f"type the board's number first, as {ok[1]} {OK}"
     number = example(numbers)
     line = " ".join(text.split())
     if said.kind == RESULT:

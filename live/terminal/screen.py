@@ -90,6 +90,10 @@ class Screen:
         """What to type if a result was typed for the wrong board."""
         return REOPENS
 
+    def mistyped(self) -> str:
+        """What to do if the result that was just given was typed by mistake."""
+        return f"; if the result was typed by mistake, type {self.reopens()}"
+
     def begins(self) -> str:
         """What to type if a game begins only now."""
         return f"{BACK} 0"
@@ -97,6 +101,10 @@ class Screen:
     def result_of(self, name: str, in_series: bool) -> str:
         """What to type for the result of a game that is over without one."""
         return f"1-0 {name}" if in_series else f"dgt_live --add 1-0 {name}"
+
+    def goes_on(self, name: str, in_series: bool) -> str:
+        """What to do if a game goes on that is over without a result."""
+        return f'{"Ctrl-C, and then " if in_series else ""}dgt_live --add "{REOPENS}" {name}'
 
     def other_device(self) -> str:
         """What to do if the device that isn't there is the wrong one."""

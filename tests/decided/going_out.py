@@ -11,6 +11,7 @@ import time
 from typing import Callable, List, Optional, Tuple
 
 from live.broadcast.broadcast import OneGame
+from live.broadcast.kept_out import UNPUBLISHED, KeptOut, read_kept, told_of_kept, with_given, written
 from live.broadcast.going_out import GoingOut, delay_of, read_command, read_delay
 from live.broadcast.publishing import Plan, last_line, run
 from live.broadcast.running import Clocks, Running, seconds_of, side_between
@@ -448,5 +449,24 @@ def for_spectators() -> None:
     ))  # fmt: skip
 
 
+def kept_beside_the_delay() -> None:
+    """The seconds of --hold are kept, and of a command only that there was one."""
+    for hold, command, text in ((None, False, ""), (20.0, False, "--hold 20\n"), (0.5, True, "--hold 0.5\n--publish\n"), (None, True, "--publish\n")):
+        same(f"written {text}", (written(KeptOut(hold, command)), read_kept(text)), (text, KeptOut(hold, command)))
+    same("a later one", with_given(KeptOut(20.0, True), 0.0, False), KeptOut(0.0, True))
+    same("none", with_given(KeptOut(20.0), None, True), KeptOut(20.0, True))
+    before = "a last move goes out once it has stood for 20 seconds, as before; --hold 2 ends that"
+    for kept, hold, command, told in (
+        (KeptOut(), None, False, []),
+        (KeptOut(20.0), None, False, [before]),
+        (KeptOut(20.0), 5.0, False, []),
+        (KeptOut(0.0), None, False, ["each move goes out at once, as before; --hold 2 ends that"]),
+        (KeptOut(2.0), None, False, []),
+        (KeptOut(20.0, True), None, True, [before]),
+        (KeptOut(None, True), None, False, [UNPUBLISHED]),
+    ):
+        same(f"{kept} {hold} {command}", told_of_kept(kept, hold, command), told)
+
+
 TABLES = [shown_when, game_goes_by, restarts, hidden_or_not, kept_delays, clocks_run, runs_of_a_command,
-          one_run_at_a_time, scripts_of_the_docs, for_spectators]  # fmt: skip
+          one_run_at_a_time, scripts_of_the_docs, for_spectators, kept_beside_the_delay]  # fmt: skip

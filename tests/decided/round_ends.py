@@ -2,6 +2,7 @@
 
 from typing import List, Optional, Tuple
 
+from live.broadcast.leaving import stays_for, until_clock_in
 from live.game.reply import Answer
 from live.game.typed import ALL_WAYS
 from live.refused import DONE, REFUSED
@@ -26,6 +27,10 @@ ASKED: List[Tuple[int, bool, Optional[Question], float, Optional[Question]]] = [
     (0, True, Question(100.0, 2, True), 9000.0, None),
     (2, True, Question(100.0, 2), 130.0, Question(130.0, hidden=True)),  # nothing was hidden when it was asked
 ]
+# For how many seconds moves are hidden, the time of day in seconds, and how long it is until the minute that is printed.
+PRINTED = [(5.0, 100.0, 20.0), (0.0, 120.0, 0.0), (1.0, 119.0, 1.0), (2.0, 119.0, 61.0), (900.0, 0.0, 900.0)]
+# When all was shown, when the printed minute begins, the time, and for how long the page stays.
+STAYED = [(100.0, 0.0, 100.0, 10.0), (100.0, 0.0, 110.0, 0.0), (100.0, 140.0, 100.0, 40.0), (100.0, 105.0, 104.0, 6.0)]
 TOLD = [
     (Question(0.0, 1), "1 game is still being played. To end the round all the same, type q again within a minute"),
     (Question(0.0, 4), "4 games are still being played. To end the round all the same, type q again within a minute"),
@@ -54,10 +59,18 @@ def questions() -> None:
         same(f"{asked}", told(asked, "15:20"), text)
 
 
+def leaving() -> None:
+    """A call of one board stays for ten seconds after all was shown, and until the minute that it has printed."""
+    for left, wall, expected in PRINTED:
+        same(f"{left} {wall}", until_clock_in(left, wall), expected)
+    for shown_at, told_at, now, expected in STAYED:
+        same(f"{shown_at} {told_at} {now}", stays_for(shown_at, told_at, now), expected)
+
+
 def answers() -> None:
     """An answer has the number of its board; one to a result says how to take it off."""
     for given, text in ANSWERS:
         same(str(given), told_of_answer(2, given), text)
 
 
-TABLES = [questions, answers]
+TABLES = [questions, answers, leaving]

@@ -300,6 +300,10 @@ def in_a_series(folder: pathlib.Path) -> None:
     answered(live, f"back 2. Nf3 {folder}/round-1", "back to 2. Nf3; taken off: 2... Nc6; the result 0-1 is gone")
     answered(live, f"1/2-1/2 {folder}/round-1", "added by hand to")
     until_game(folder / "round-1", "1. e4 e5 2. Nf3 1/2-1/2")
+    nobody = f"Nobody records it now: to go on with it, Ctrl-C, and then dgt_live {board.device} {folder}/round-1"
+    answered(live, f"* {folder}/round-1", nobody)
+    until_game(folder / "round-1", "1. e4 e5 2. Nf3 *")
+    answered(live, f"1/2-1/2 {folder}/round-1", "added by hand to")
     board.play("d7d5")
     until_game(folder / "round-2", "1. d4 d5 *")
     same(stop(live), 0)

@@ -20,6 +20,7 @@ from rounds.hall import plain
 LAST = "spectators see the last moves at "
 WAITS, AGAIN = "it goes on until then", "To end it now, Ctrl-C again"
 REST = "spectators get what they haven't seen of it"
+SEEN = "spectators have seen all moves: it ends in "
 LEFT = "spectators haven't seen all moves. Start it again to show them, the last ones at "
 WON = RUY_TEXT.replace("*", "1-0")
 DRAWN = RUY_TEXT.replace("*", "1/2-1/2")
@@ -70,6 +71,15 @@ class Game:
         until(lambda: self.shown == [text] * 2, f"{text}, shown; there is {self.shown}", 0.02)
 
 
+def last_shown(game: Game, live: Live, seconds: float) -> None:
+    """The last moves are shown then; the call stays ten seconds, and until the minute that it had printed, and then it ends."""
+    game.clock.be(seconds)
+    until_line(live, SEEN)
+    same(holds_within(lambda: not live.runs, 1.0), False)
+    game.clock.be(seconds + 70)
+    same(ended(live), 0)
+
+
 def text_of(content: bytes) -> str:
     """The movetext, without clocks."""
     return plain(" ".join((content.split(b"\n\n") + [b""])[1].decode().split()))
@@ -95,8 +105,7 @@ def rest_is_shown(folder: pathlib.Path) -> None:
     until_line(live, LAST, 2)
     game.clock.be(1510)
     game.until_shown(WON)
-    game.clock.be(2420)
-    same(ended(live), 0)
+    last_shown(game, live, 2420)
     same((game.shown, text_of(bytes_of(f"{game.name}.pgn"))), ([DRAWN] * 2, DRAWN))
     same((AGAIN in live.lines(), LEFT in live.lines()), (False, False))
     refuses(game.record(), 1, "is over: choose another name")
@@ -128,8 +137,7 @@ def rest_after_a_kill(folder: pathlib.Path) -> None:
     live = game.record(delay="")
     until_line(live, WAITS)
     same(game.shown, [RUY_TEXT] * 2)
-    game.clock.be(1360)
-    same(ended(live), 0)
+    last_shown(game, live, 1360)
     same(game.shown, [WON] * 2)
     refuses(game.record(delay=""), 1, "is over: choose another name")
 
@@ -154,8 +162,7 @@ def after_a_start_of_the_computer(folder: pathlib.Path) -> None:
         game.clock.be(seconds)
         game.until_shown(shown)
         same((holds_within(lambda: game.shown != [shown] * 2, 1.0), seconds), (False, seconds))
-    game.clock.be(6000)
-    same(ended(live), 0)
+    last_shown(game, live, 6000)
     same(game.shown, [WON] * 2)
 
 
@@ -236,8 +243,7 @@ def goes_on_meanwhile(folder: pathlib.Path) -> None:
     same(live.runs, True)
     live.type("0-1")
     until_line(live, WAITS, 2)
-    game.clock.be(2000)
-    same(ended(live), 0)
+    last_shown(game, live, 2000)
     same(game.shown, ["1. e4 e5 2. Nf3 Nc6 3. Bb5 a6 0-1"] * 2)
 
 
@@ -286,8 +292,7 @@ def times_lost(folder: pathlib.Path) -> None:
     until_line(live, REST)
     until_line(live, WAITS)
     same(game.shown, ["*", "*"])
-    game.clock.be(910)
-    same(ended(live), 0)
+    last_shown(game, live, 910)
     same(game.shown, [WON] * 2)
 
 

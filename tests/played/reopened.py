@@ -38,7 +38,7 @@ def set_up_and_back(folder: pathlib.Path) -> None:
         until(lambda: len(sans(live)) == number + 1, move)
     rest(1.5)
     board.set_up([])
-    until_line(live, f"{SET_UP}. Type its result, as dgt_live --add 1-0 {live.name}\n")
+    until_line(live, f"{SET_UP}. Type its result, as dgt_live --add 1-0 {live.name}; if the game goes on, dgt_live --add \"*\" {live.name}\n")
     same(ended(live), 0)
     until_game(live.name, "1. e4 e5 2. Nf3 *")
     same(call("--back", "0", live.name).stderr, "dgt_live: takes off 3 plies, from 1. e4: type it again\n")

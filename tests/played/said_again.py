@@ -19,8 +19,8 @@ from play_board import BLACK, KING
 from played import TOP
 from played.back import answered
 from played.hidden import QUEUED
-from played.late import AGAIN, DRAWN, WAITS, WON, Game, text_of
-from played.stage import RUY_TEXT, begun, ended, kill, program, rest, run, same, stop, until, until_dumped, until_line
+from played.late import AGAIN, DRAWN, WAITS, WON, Game, last_shown, text_of
+from played.stage import RUY_TEXT, begun, kill, program, rest, run, same, stop, until, until_dumped, until_line
 
 
 def said_at_each_place(folder: pathlib.Path) -> None:
@@ -192,8 +192,8 @@ def result_put_right(folder: pathlib.Path) -> None:
     until_line(live, WAITS)
     rest(1)
     same([text.rpartition(" ")[0] for text in game.shown], [RUY_TEXT.rpartition(" ")[0]] * 2)
-    game.clock.be(2120)
-    same((ended(live), game.shown), (0, [DRAWN] * 2))
+    last_shown(game, live, 2120)
+    same(game.shown, [DRAWN] * 2)
 
 
 CASES = [said_at_each_place, forfeited_since_then, back_and_killed, series_killed, clocks_run_again, result_put_right]

@@ -262,6 +262,7 @@ def kings_in_the_centre(folder: pathlib.Path) -> None:
     says(live, 1, "LOOK after 1... e5; over 1/2-1/2; ")
     same(hall.text(1), "1. e4 e5 1/2-1/2")
     live.type("1 *")
+    until_line(live, "goes on, without the result; played since: 2. Nf3 Nc6")
     hall.until_text(1, "1. e4 e5 2. Nf3 Nc6 *")
     live.type("1 ok")
     says(live, 1, "agrees; ")

@@ -42,7 +42,7 @@ def set_up_and_back(folder: pathlib.Path) -> None:
     for board in hall.boards:
         board.set_up([])
     for number in (1, 2, 3):
-        until_line(live, f"{number:>3}  {hall.name(number)} is over: the pieces are at the start again. Type its result, as {number} 1-0")
+        until_line(live, f"{number:>3}  {hall.name(number)} is over: the pieces are at the start again. Type its result, as {number} 1-0; if the game goes on, type {number} *")
         says(live, number, "over, no result; ")
     live.type("1 back 0")
     until_line(live, "1: takes off 3 plies, from 1. e4: type it again")

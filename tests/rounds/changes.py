@@ -9,7 +9,7 @@ from played.recovered import PAIR, hurried
 from played.stage import bytes_of, movetext, refuses, run, same, stop, until, until_line
 from rounds.alarms import says
 from rounds.delayed import stuck_program, words_of
-from rounds.hall import Hall, games_of, text
+from rounds.hall import Hall, agrees, games_of, quits, text
 
 
 def another_round(folder: pathlib.Path) -> None:
@@ -376,3 +376,29 @@ def read_while_opened(folder: pathlib.Path) -> None:
     hall.boards[0].play("e2e4")
     until(lambda: movetext(hall.games / "other") == "1. e4 *", "the move in the game of the new line")
     same(stop(live), 0)
+
+
+def result_and_device(folder: pathlib.Path) -> None:
+    """A line gets a result and another device at once: the result is given once that board is recorded. Another result later changes
+    nothing, and a line says what to type."""
+    hall = Hall(folder, 2)
+
+    def line(board: str, result: str) -> None:
+        hall.file.write_text(f"board,device,white,black,result\n1,{folder}/{board},White 1,Black 1,{result}\n")
+
+    line("board1", "")
+    live = hall.record(typed=True)
+    until(lambda: agrees(live, 1), "that board 1 agrees")
+    hall.play(0, 2, [0])
+    hall.boards[1].play("e2e4", "e7e5")
+    line("board2", "1-0")
+    live.type("r")
+    hall.until_text(1, "1. e4 e5 1-0")
+    until_line(live, "1: added to ")
+    same((live.says("Type it again"), live.says("typed by mistake")), (False, False))
+    line("board2", "0-1")
+    live.type("r")
+    until_line(live, "1: its line has 0-1, and the game ended 1-0: it stays so. To change it, type 1 0-1")
+    live.type("1 0-1")
+    hall.until_text(1, "1. e4 e5 0-1")
+    quits(live)

@@ -5,8 +5,10 @@ import pathlib
 import time
 from typing import List, Tuple
 
+from played import words
 from played.ports import free_port
-from played.stage import bytes_of, ended, same, stop, until, until_line
+from played.recorder import Live
+from played.stage import bytes_of, ended, refuses, same, stop, until, until_line
 from rounds.delayed import hidden_texts
 from rounds.going_out import Clock
 from rounds.hall import Hall, quits
@@ -138,4 +140,32 @@ def of_another_board(folder: pathlib.Path) -> None:
     quits(live)
 
 
-CASES = [asked_before_the_end, seen_by_spectators, unfinished_slide, of_another_board]
+def way_out_is_kept(folder: pathlib.Path) -> None:
+    """How long a last move must stand is kept, and that a command carried the games away: without it a line says that it doesn't."""
+    hall = Hall(folder, 1)
+    live = hall.record("--hold", "20", "--publish", "true token", typed=True)
+    hall.begun(live)
+    quits(live)
+    same(bytes_of(hall.games / "round.out"), b"--hold 20\n--publish\n")
+    live = hall.record(typed=True)
+    until_line(live, "a last move goes out once it has stood for 20 seconds, as before; --hold 2 ends that")
+    until_line(live, "nothing is published: the command isn't kept, as a password may be in it. To publish, end this, and start again")
+    hall.begun(live)
+    hall.play(0, 1)
+    same(b"1. e4" in bytes_of(hall.games / "broadcast.pgn"), False)
+    quits(live)
+    live = hall.record("--hold", "0", "--publish", "true token", typed=True)
+    hall.begun(live)
+    hall.play(1, 2)
+    until(lambda: b"1. e4 e5" in bytes_of(hall.games / "broadcast.pgn"), "what goes out at once", 0.02)
+    same((live.says("as before"), live.says("nothing is published")), (False, False))
+    quits(live)
+    board = Live(hall.boards[0].device, hall.games / "01", "--page", str(free_port()), typed=True)
+    until_line(board, "each move goes out at once, as before; --hold 2 ends that")
+    until_line(board, words.AGREES)
+    same(stop(board), 0)
+    (hall.games / "round.out").write_text("--hold much\n")
+    refuses(hall.record(), 1, "has no number of seconds: remove it, and give --hold and --publish again")
+
+
+CASES = [way_out_is_kept, asked_before_the_end, seen_by_spectators, unfinished_slide, of_another_board]

@@ -390,6 +390,9 @@ def a_wrong_line(folder: pathlib.Path) -> None:
     live.type("r")
     until(lambda: re.search("2 boards, no alarm(?!,)", live.lines()[seen:]), "that no line is wrong any more")
     quits(live)
+    log = bytes_of(hall.games / "round.log").decode()
+    wrong, right = "; board 2 goes on as it was begun\n", "is read again: 2 boards\n"
+    same(([log.count(part) for part in (wrong, right)], log), ([1, 1], log))
 
 
 def fetch(port: int, path: str) -> bytes:
