@@ -15,7 +15,6 @@ Two numbers may be given: how many boards there are, and how often each dump of 
 
 from __future__ import annotations
 
-import collections
 import http.server
 import os
 import pathlib
@@ -24,7 +23,7 @@ import statistics
 import sys
 import threading
 import time
-from typing import Counter, Dict, List, Sequence, Tuple, cast
+from typing import Dict, List, Sequence, Tuple, cast
 
 TOP = pathlib.Path(__file__).resolve().parent.parent
 sys.dont_write_bytecode = True
@@ -161,10 +160,10 @@ def last_move(pgn: str) -> str:
     return f"{(len(sans) + 1) // 2}.{'' if len(sans) % 2 else '..'} {sans[-1]}" if sans else ""
 
 
-def taken(browser: Browser, tab: Tab) -> Counter[str]:
+def taken(browser: Browser, tab: Tab) -> Dict[str, float]:
     """The seconds of the processor that were taken so far: by the threads of the page's process, by other processes, and by what its
     main thread has done."""
-    found: Counter[str] = collections.Counter()
+    found: Dict[str, float] = dict.fromkeys((MAIN, WORKER, OTHERS, ELSE, *DONE.values()), 0.0)
     tick = os.sysconf("SC_CLK_TCK")
     for process in processes(browser.process.pid):
         is_page = b"--type=renderer" in pathlib.Path(f"/proc/{process}/cmdline").read_bytes()
@@ -234,9 +233,9 @@ def play(browser: Browser, url: str, count: int, dumps: int, chatters: bool) -> 
     print(f"{count} boards with an hour of play, {dumps} dumps a second, {len(played)} moves in {PLAYED:.0f} s{beside}:")
     told("to the line on the screen", lines)
     told("to the text on the disk", texts)
-    threads = ", ".join(f"{what} {used.get(what, 0.0):.0f}" for what in (MAIN, WORKER, OTHERS, ELSE))
+    threads = ", ".join(f"{what} {used[what]:.0f}" for what in (MAIN, WORKER, OTHERS, ELSE))
     print(f"    processor time, ms a second: {threads}")
-    print(f"    of its main thread: {', '.join(f'{what} {used.get(what, 0.0):.0f}' for what in DONE.values())}")
+    print(f"    of its main thread: {', '.join(f'{what} {used[what]:.0f}' for what in DONE.values())}")
     tab.close()
 
 

@@ -49,8 +49,8 @@ def moves_after_the_result(folder: pathlib.Path) -> None:
         look = "LOOK after 2... Nc6: 2 moves were made, and the game is over: 0-1"
         stage.until_text(page, "#ask", f"{look}. If the game isn't over, press No result: it goes on with these moves")
         stage.until_text(page, "#mend", "")
-        told = f"{look}. Look at it, and press OK; if the game isn't over, press No result: it goes on with these moves"
-        same(said(page, OTHER), [told])
+        raised = f"{look}. Look at it, and press OK; if the game isn't over, press No result: it goes on with these moves"
+        same(said(page, OTHER), [raised])
         page.click("[data-says='*']")
         goes_on = "board 1 goes on, without the result, and with the moves made since: 3. Bb5 a6"
         stage.until_text(page, "#answer", goes_on)
@@ -58,7 +58,7 @@ def moves_after_the_result(folder: pathlib.Path) -> None:
         stage.until_text(page, "#ask", look)
         page.click("#ok")
         until_agrees(stage, page)
-        same(said(page, told), [goes_on, "acknowledged: " + look])
+        same(said(page, raised), [goes_on, "acknowledged: " + look])
         game, capture = stage.saved(page, "#save-game"), stage.saved(page, "#save-capture")
         same((movetext_of(game), game), ("1. e4 e5 2. Nf3 Nc6 3. Bb5 a6 *", of_record(game, capture)))
 
