@@ -387,8 +387,7 @@ class Recording(AttendedGame):
             self.attending.tell(REOPENED)
             return
         self.was_over = is_known
-        is_typed = self._typed == over.result and self._by_hand.start < over.size <= self._by_hand.stop
-        self.end = self._by_hand.stop if is_typed else over.size  # with the picture that stands behind the sign of a result
+        self.end = over.size
         if is_known:
             self._dropped += self.course.end(self.end, over.result)
 

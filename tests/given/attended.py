@@ -268,6 +268,17 @@ def signed(more: bytes) -> List[bytes]:
     return [kept(SIGNED_TIMES + more, SIGNED_BYTES), b"0 begin 201\n"]
 
 
+
+def added(at: int, put: bytes) -> bytes:
+    return b"%d added %d\n%s" % (at, len(put), put)
+
+
+TYPED = [*SIGNED[:3], added(3100, BLACK_WINS + KINGS_PAWN)]
+# Pieces were put off the board, and the start stands there when he types. It ends the game at once.
+TYPED_LATE = [*SIGNED[:3], heard(2100, HALF), added(3100, BLACK_WINS + INITIAL)]
+TYPED_BYTES = INITIAL + KINGS_PAWN + BLACK_WINS + KINGS_PAWN
+TYPED_BEFORE = [kept(HEADING + b"0 begin 0\n100 heard 67\n1100 heard 67\n3100 added 134\n", TYPED_BYTES), b"0 begin 268\n"]
+
 # What a host tells; in which answer what is said of the end.
 ENDS = [
     ("the kings", [*SIGNED, b"13099 wake\n", b"13100 wake\n", b"13200 wake\n"], [(5, b"over STOOD 0-1 201 sure")]),
@@ -309,6 +320,13 @@ ENDS = [
     ("noted too soon", [*signed(b"13099 over 201\n"), b"9999 wake\n", b"10000 wake\n"], [(4, b"over STOOD 0-1 201 sure")]),
     ("reopened in a call before", [*signed(b"13100 over 201\n14000 reopened\n"), b"60000 wake\n"], []),
     ("two calls before", signed(b"13100 over 201\n0 begin 201\n0 away 35000\n"), [(2, b"over STOOD 0-1 201 sure")]),
+    # An arbiter adds a result: the kings' sign, and behind it what the board shows. The game ends with all of that.
+    ("an arbiter adds it", [*TYPED, b"13099 wake\n", b"13100 wake\n"], [(5, b"over STOOD 0-1 268 sure")]),
+    ("a move after that", [*TYPED, heard(5000, BOTH_PAWNS)], [(4, b"over PLAYS-ON 0-1 268 sure")]),
+    ("the start after that", [*TYPED, heard(5000, INITIAL)], [(4, b"over SET-UP 0-1 268 sure")]),
+    ("the start stands there when he adds it", TYPED_LATE, [(4, b"over SET-UP 0-1 335 sure")]),
+    ("he added it in a call before", [*TYPED_BEFORE, b"9999 wake\n", b"10000 wake\n"], [(4, b"over STOOD 0-1 268 sure")]),
+    ("and nothing says who added it", [*captured(TYPED_BYTES), b"9999 wake\n", b"10000 wake\n"], [(3, b"over STOOD 0-1 201 sure")]),
 ]
 
 # ---- what is no entry

@@ -567,25 +567,16 @@ export class Recorder {
 
   /** The report has lines of the answer with which the game is over. What they say behind its end is no move of it. */
   endsSoon({ over, begins }) {
-    if (over && begins === null && !this.isOver) this.endsAt = this.endOf(over);
+    if (over && begins === null && !this.isOver) this.endsAt = over.bytes;
   }
 
-  /** How many bytes are the game's, if it is over so. */
-  endOf({ why, bytes }) {
-    return why === UNFINISHED ? bytes : Math.max(bytes, this.typedTo);
-  }
-
-  /**
-   * The game is over, the program says: so many bytes are the game's, and what came behind them was no part of it. A result that
-   * somebody has typed is in the middle of the bytes that were added for it; they stay together.
-   */
+  /** The game is over, the program says: so many bytes are the game's, and what came behind them was no part of it. */
   isOverSo({ why, bytes, isSure }) {
     const { plies, settledAt } = this.course;
-    const end = this.endOf({ why, bytes });
-    this.alarms.end(end);
+    this.alarms.end(bytes);
     if (why === UNFINISHED) this.tellSetUp(plies.filter((_, at) => settledAt[at] >= bytes), isSure);
     if (why === CORRECTED) this.tellLook(this.alarms.add(lookCorrected(reached(plies))));
-    this.closeGame(end, WHY[why] || why);
+    this.closeGame(bytes, WHY[why] || why);
   }
 
   /** Pieces were set up before anybody gave a result. These plies were part of that. */

@@ -8,7 +8,7 @@ use Rattle.board_events.specs.Settings.{Setting}
 use Rattle.pair_frames.specs.PutIn.{ShowsWhole, put_in, time_put_in}
 use Rattle.recovery.specs.Weaving.{TellsRecovered}
 use Rattle.recovery.specs.Inside.Passing.{Adds as AddsPair, added}
-use Rattle.board_alarms.specs.declared.event_heard.When.{When}
+use Rattle.board_game.specs.declared.chunk.Chunk.{Chunk}
 use Rattle.board_game.specs.declared.following.Following.{Following}
 use Rattle.board_game.specs.declared.telling.Teller.{Teller}
 use Rattle.board_game.specs.History.{Finds, Item, Pair, Sent, events_of, with_events, with_found}
@@ -26,11 +26,11 @@ some_events [] back event e = cc
 some_events (x ∷ front) back event e = cc
 
 -- what is told of an event
-abbrev pub TellsWith : Following → Setting → Bool → List Event → List Item → List ℕ → When → Timed → List ℕ → List ℕ → Type 0
+abbrev pub TellsWith : Following → Setting → Bool → List Event → List Item → List ℕ → Chunk → Timed → List ℕ → List ℕ → Type 0
 TellsWith following setting recovers past items text time x lines lines' = (found : Option Recovery) × (more : List ℕ) × Finds setting recovers past x.event found
     × (lines' ≡ lines ++ more) × HasFollowed following setting recovers (x.event ∷ past) (with_found setting past time x found items) (text ++ more)
 
-none_by : ShowsOnce → (following : Following) (setting : Setting) (recovers : Bool) (past : List Event) (items : List Item) (text more : List ℕ) (time : When) (x : Timed)
+none_by : ShowsOnce → (following : Following) (setting : Setting) (recovers : Bool) (past : List Event) (items : List Item) (text more : List ℕ) (time : Chunk) (x : Timed)
     (frames line lines lines' : List ℕ) (found : Option Recovery) → Finds setting recovers past x.event found
     → HasKept following.keeper setting recovers (x.event ∷ past) (added setting past x.event found (events_of items)) → AddsPair setting (x.event ∷ past) x.offset found frames line
     → frames ≡ [] → lines' ≡ (lines ++ more) ++ line → HasTold following.teller setting (Sent time x ∷ items) (text ++ more)
@@ -44,7 +44,7 @@ none_by once following setting recovers past items text more time x frames line 
     absurd (some_events (time_put_in setting.first entry.reading r.reading) _ _ (no_events once events (subst W none adds.0)))
 
 -- Nothing is put in.
-pub tells_none : ShowsOnce → (following : Following) (setting : Setting) (recovers : Bool) (past : List Event) (items : List Item) (text more : List ℕ) (time : When) (offset : ℕ) (event : Event)
+pub tells_none : ShowsOnce → (following : Following) (setting : Setting) (recovers : Bool) (past : List Event) (items : List Item) (text more : List ℕ) (time : Chunk) (offset : ℕ) (event : Event)
     (frames line lines lines' : List ℕ) → KeepsEvent following.keeper setting recovers past (events_of items) offset event frames line
     → frames ≡ [] → lines' ≡ (lines ++ more) ++ line → HasTold following.teller setting (Sent time (record { offset = offset; event = event }) ∷ items) (text ++ more)
     → TellsWith following setting recovers past items text time (record { offset = offset; event = event }) lines lines'
@@ -52,16 +52,16 @@ tells_none once following setting recovers past items text more time offset even
     none_by once following setting recovers past items text more time (record { offset = offset; event = event }) frames line lines lines' k.found k.finds k.keeps k.adds none lines_are told
 
 -- what tells frames that are put in
-abbrev pub PutsIn : Teller → Teller → When → ℕ → List ℕ → List ℕ → List ℕ → Type 0
+abbrev pub PutsIn : Teller → Teller → Chunk → ℕ → List ℕ → List ℕ → List ℕ → Type 0
 PutsIn old new time offset frames lines lines' = (setting : Setting) (items : List Item) (text : List ℕ) (events : List Event) → HasTold old setting items text
     → ShowsWhole frames events → (more : List ℕ) × (lines' ≡ lines ++ more) × HasTold new setting (with_events time offset events items) (text ++ more)
 
 -- what notes a pair
-abbrev pub NotesPair : Teller → Teller → When → Type 0
+abbrev pub NotesPair : Teller → Teller → Chunk → Type 0
 NotesPair old new time = (setting : Setting) (items : List Item) (text line : List ℕ) (offset : ℕ) (r : Recovery) → HasTold old setting items text
     → TellsRecovered offset r line → HasTold new setting (Pair time offset r ∷ items) (text ++ line)
 
-put_by : (following : Following) (teller mid : Teller) (setting : Setting) (recovers : Bool) (past : List Event) (items : List Item) (text more : List ℕ) (time : When) (x : Timed)
+put_by : (following : Following) (teller mid : Teller) (setting : Setting) (recovers : Bool) (past : List Event) (items : List Item) (text more : List ℕ) (time : Chunk) (x : Timed)
     (frames line lines told_lines pair_lines lines' : List ℕ) (found : Option Recovery) → Finds setting recovers past x.event found
     → HasKept following.keeper setting recovers (x.event ∷ past) (added setting past x.event found (events_of items)) → AddsPair setting (x.event ∷ past) x.offset found frames line
     → (frames ≡ [] → ⊥) → told_lines ≡ lines ++ more → HasTold teller setting (Sent time x ∷ items) (text ++ more) → pair_lines ≡ told_lines ++ line
@@ -87,7 +87,7 @@ put_by following teller mid setting recovers past items text more time x frames 
     )
 
 -- A pair is put in.
-pub tells_put : (following : Following) (teller mid : Teller) (setting : Setting) (recovers : Bool) (past : List Event) (items : List Item) (text more : List ℕ) (time : When) (offset : ℕ) (event : Event)
+pub tells_put : (following : Following) (teller mid : Teller) (setting : Setting) (recovers : Bool) (past : List Event) (items : List Item) (text more : List ℕ) (time : Chunk) (offset : ℕ) (event : Event)
     (frames line lines told_lines pair_lines lines' : List ℕ) → KeepsEvent following.keeper setting recovers past (events_of items) offset event frames line
     → (frames ≡ [] → ⊥) → told_lines ≡ lines ++ more → HasTold teller setting (Sent time (record { offset = offset; event = event }) ∷ items) (text ++ more)
     → pair_lines ≡ told_lines ++ line → NotesPair teller mid time → PutsIn mid following.teller time offset frames pair_lines lines'

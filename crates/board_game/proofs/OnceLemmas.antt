@@ -19,7 +19,7 @@ use Rattle.board_events.specs.History.{picture_of}
 use Rattle.board_events.specs.Session.{entries_in}
 use Rattle.board_events.specs.Settings.{Setting}
 use Rattle.board_events.proofs.GameLemmas.{one_result}
-use Rattle.board_alarms.specs.declared.event_heard.When.{When}
+use Rattle.board_game.specs.declared.chunk.Chunk.{Chunk}
 use Rattle.board_listing.specs.GameText.{HasResult, reached_by}
 use Rattle.board_standing.specs.declared.heard.Event.{Event as Told}
 use Rattle.board_standing.specs.declared.heard.Heard.{Heard}
@@ -27,7 +27,7 @@ use Rattle.board_standing.specs.declared.heard.Heard.TheVariants.{Shows, Repeats
 use Rattle.board_standing.specs.declared.heard.Picture.{Picture}
 use Rattle.recovery.proofs.WovenLemmas.{recovers_same}
 use Rattle.board_game.specs.Hearing.{Changes, Compares, Hears, HearsEvent, HearsPicture, HearsResult, IsMask, IsNew, heard_of, with_heard}
-use Rattle.board_game.specs.History.{Adds, Bytes, Came, Finds, Item, Makes, News, Noted, Pair, Sent, bytes_of, events_of, with_found}
+use Rattle.board_game.specs.History.{Adds, Bytes, Came, Finds, Item, Makes, News, Noted, Pair, Sent, bytes_of, chunk_of, events_of, with_found}
 use Rattle.board_alarms.specs.Hearing.{AreOpen}
 use Rattle.board_alarms.specs.Laws.{OpensOnce as AlarmsOpenOnce}
 use Rattle.board_game.specs.Alarming.{alarm_items}
@@ -172,8 +172,8 @@ items_heard setting [] a b valid g h = g ∙ sym h
 items_heard setting (Sent time x ∷ items) a b valid g h =
     let earlier = items_heard setting items g.0 h.0 valid g.3 h.3 in
     let both = event_once setting (events_of items) x.event g.1 g.2 h.1 h.2 valid g.4 h.4 in
-    g.5 ∙ ap (λ (s : Option Heard). with_heard time.at g.2 (with_heard time.at s g.0)) both.0 ∙ ap (λ (e : Option Heard). with_heard time.at e (with_heard time.at h.1 g.0)) both.1
-    ∙ ap (λ (l : List Told). with_heard time.at h.2 (with_heard time.at h.1 l)) earlier ∙ sym h.5
+    g.5 ∙ ap (λ (s : Option Heard). with_heard time.when.at g.2 (with_heard time.when.at s g.0)) both.0 ∙ ap (λ (e : Option Heard). with_heard time.when.at e (with_heard time.when.at h.1 g.0)) both.1
+    ∙ ap (λ (l : List Told). with_heard time.when.at h.2 (with_heard time.when.at h.1 l)) earlier ∙ sym h.5
 items_heard setting (Pair time offset r ∷ items) a b valid g h = items_heard setting items a b valid g h
 items_heard setting (Noted time note ∷ items) a b valid g h =
     g.2 ∙ ap (λ (l : List Told). with_heard time (heard_of note) l) (items_heard setting items g.0 h.0 valid g.1 h.1) ∙ sym h.2
@@ -185,7 +185,7 @@ finds_same : RecoversOnce → (setting : Setting) (recovers : Bool) (past : List
 finds_same once setting false past event f g valid h k = h ∙ sym k
 finds_same once setting true past event f g valid h k = recovers_same once setting past event f g valid h k
 
-adds_same : RecoversOnce → (setting : Setting) (recovers : Bool) (time : When) (past : List Event) (more : List Timed) (before others a b : List Item) → Valid setting.start
+adds_same : RecoversOnce → (setting : Setting) (recovers : Bool) (time : Chunk) (past : List Event) (more : List Timed) (before others a b : List Item) → Valid setting.start
     → before ≡ others → Adds setting recovers time past more before a → Adds setting recovers time past more others b → a ≡ b
 adds_same once setting recovers time past [] before others a b valid same g h = g ∙ same ∙ sym h
 adds_same once setting recovers time past (x ∷ more) before others a b valid same g h =
@@ -203,9 +203,10 @@ makes_once shows once setting recovers (Bytes time bytes ∷ past) a b valid g h
     let all = same_shown shows (bytes_of past ++ bytes) (g.1 ++ reverse g.2) (h.1 ++ reverse h.2) g.5 h.5 in
     let turned : reverse g.2 ≡ reverse h.2 = append_cancel_left h.1 (reverse g.2) (reverse h.2) (ap (λ (es : List Timed). es ++ reverse g.2) (sym events) ∙ all) in
     let more : g.2 ≡ h.2 = sym (reverse-reverse g.2) ∙ ap (λ (es : List Timed). reverse es) turned ∙ reverse-reverse h.2 in
-    let A : List Timed → Type 0 = λ es. Adds setting recovers time (past_of es) g.2 g.0 a in
-    let B : List Timed → Type 0 = λ es. Adds setting recovers time (past_of h.1) es g.0 a in
-    adds_same once setting recovers time (past_of h.1) h.2 g.0 h.0 a b valid before (subst B more (subst A events g.6)) h.6
+    let chunk : Chunk = chunk_of time (bytes_of past ++ bytes) in
+    let A : List Timed → Type 0 = λ es. Adds setting recovers chunk (past_of es) g.2 g.0 a in
+    let B : List Timed → Type 0 = λ es. Adds setting recovers chunk (past_of h.1) es g.0 a in
+    adds_same once setting recovers chunk (past_of h.1) h.2 g.0 h.0 a b valid before (subst B more (subst A events g.6)) h.6
 makes_once shows once setting recovers (News time note ∷ past) a b valid g h =
     g.2 ∙ ap (λ (items : List Item). Noted time note ∷ items) (makes_once shows once setting recovers past g.0 h.0 valid g.1 h.1) ∙ sym h.2
 

@@ -5,12 +5,12 @@ use Rattle.dgt_frame.specs.declared.events.Event.{Event}
 use Rattle.dgt_frame.specs.Streams.{Shows, Timed}
 use Rattle.board_events.specs.Commands.{past_of}
 use Rattle.board_events.specs.Settings.{Setting}
-use Rattle.board_alarms.specs.declared.event_heard.When.{When}
+use Rattle.board_game.specs.declared.chunk.Chunk.{Chunk}
 use Rattle.board_listing.specs.GivenGame.{GameLine, text_of}
 use Rattle.board_listing.specs.WatchLines.{position_words}
 use Rattle.board_listing.specs.WatchText.{Watches, WatchesEvent, line_with}
 use Rattle.board_listing.proofs.LineLemmas.{text_append}
-use Rattle.board_game.specs.History.{Adds, AreShown, Bytes, Came, Item, Makes, News, Sent, bytes_of, events_of, with_found}
+use Rattle.board_game.specs.History.{Adds, AreShown, Bytes, Came, Item, Makes, News, Sent, bytes_of, chunk_of, events_of, with_found}
 use Rattle.board_game.specs.Laws.{ReportsAsWatch}
 use Rattle.board_game.specs.Report.{Reports, first_line}
 
@@ -35,7 +35,7 @@ plain_first setting text is = record {
   text_is = is;
 }
 
-plain_more : (setting : Setting) (time : When) (x : Timed) (items : List Item) (timed : List Timed) (before text : List ℕ) (lines : List GameLine) → Plain setting items timed before
+plain_more : (setting : Setting) (time : Chunk) (x : Timed) (items : List Item) (timed : List Timed) (before text : List ℕ) (lines : List GameLine) → Plain setting items timed before
     → WatchesEvent setting (events_of items) x lines → text ≡ before ++ text_of lines → Plain setting (Sent time x ∷ items) (x ∷ timed) text
 plain_more setting time x items timed before text lines p watches is = record {
   events_are = ap (λ (es : List Event). x.event ∷ es) p.events_are;
@@ -44,7 +44,7 @@ plain_more setting time x items timed before text lines p watches is = record {
   text_is = is ∙ ap (λ (t : List ℕ). t ++ text_of lines) p.text_is ∙ sym (text_append lines p.lines);
 }
 
-adds_plain : (setting : Setting) (time : When) (past : List Event) (more : List Timed) (before items : List Item) (timed : List Timed)
+adds_plain : (setting : Setting) (time : Chunk) (past : List Event) (more : List Timed) (before items : List Item) (timed : List Timed)
     → ((text : List ℕ) → Reports setting before text → Plain setting before timed text) → Adds setting false time past more before items
     → (text : List ℕ) → Reports setting items text → Plain setting items (more ++ timed) text
 adds_plain setting time past [] before items timed plain is text reports =
@@ -74,7 +74,7 @@ makes_plain once setting (Bytes time bytes ∷ past) items events shown makes te
     let turned : reverse events ≡ more ++ reverse es =
     ap (λ (xs : List Timed). reverse xs) same ∙ reverse-append es (reverse more) ∙ ap (λ (xs : List Timed). xs ++ reverse es) (reverse-reverse more) in
     let P : List Timed → Type 0 = λ xs. Plain setting items xs text in
-    subst P (sym turned) (adds_plain setting time (past_of es) more makes.0 items (reverse es)
+    subst P (sym turned) (adds_plain setting (chunk_of time (bytes_of past ++ bytes)) (past_of es) more makes.0 items (reverse es)
     (λ t r. makes_plain once setting past makes.0 es makes.4 makes.3 t r) makes.6 text reports)
 makes_plain once setting (News time note ∷ past) items events shown makes text reports =
     let R : List Item → Type 0 = λ is. Reports setting is text in

@@ -12,7 +12,6 @@ use Rattle.square_runs.specs.Shown.{Shown, since_when}
 use Rattle.board_events.specs.Commands.{past_of}
 use Rattle.board_events.specs.Entries.{entry_at}
 use Rattle.board_events.specs.Settings.{Setting}
-use Rattle.board_alarms.specs.declared.event_heard.When.{When}
 use Rattle.board_alarms.specs.Hearing.{AreOpen}
 use Rattle.board_alarms.specs.declared.news.News.TheVariants.{PutsIn}
 use Rattle.board_alarms.specs.Items.{Item as AlarmItem, Noted as Notes, Sent as Comes}
@@ -34,12 +33,13 @@ use Rattle.board_standing.specs.declared.state.Hint.TheVariants.{TurnedRound, Ot
 use Rattle.board_standing.specs.declared.state.Kind.{Kind}
 use Rattle.board_standing.specs.declared.state.Kind.TheVariants.{Waits, Agrees, Ended, InHand, Wrong, NoStart, SettingUp, Silent, Unplugged}
 use Rattle.pair_frames.specs.PutIn.{put_in}
+use Rattle.board_game.specs.declared.chunk.Chunk.{Chunk}
 use Rattle.board_game.specs.declared.note.Note.{Note}
 use Rattle.board_game.specs.declared.note.Note.TheVariants.{Line, Looked, PutsBack, Reopens as IsReopened, Passes, Resumes, Suspects}
 use Rattle.board_game.specs.Alarming.{AlarmsAre, alarm_items, news_of, of_line, with_news}
-use Rattle.board_game.specs.Ending.{IsEndDueOf, IsEndOf, end_items, end_news, end_of_line, with_end_news}
+use Rattle.board_game.specs.Ending.{IsEndDueOf, IsEndOf, bytes_with, end_items, end_news, end_of_line, with_end_news}
 use Rattle.board_game.specs.Hearing.{Hears, HearsEvent, HearsPicture, HearsResult, IsHeard, heard_of, with_heard}
-use Rattle.board_game.specs.History.{Adds, AreShown, Bytes, Came, Item, Makes, News, Noted, Pair, Sent, bytes_of, events_of, with_events, with_found}
+use Rattle.board_game.specs.History.{Adds, AreShown, Bytes, Came, Item, Makes, News, Noted, Pair, Sent, bytes_of, chunk_of, events_of, with_events, with_found}
 use Rattle.board_game.specs.Silences.{ReadAlike, SilenceIsForgotten, but_silence, is_silence, tells_silence}
 use Rattle.board_game.proofs.OnceLemmas.{items_heard, makes_once}
 use Rattle.board_game.proofs.PlainLemmas.{ShowsOnce}
@@ -62,17 +62,17 @@ quiet_events (Sent time x ∷ items) = ap (λ (es : List Event). x.event ∷ es)
 quiet_events (Pair time offset r ∷ items) = quiet_events items
 quiet_events (Noted at note ∷ items) = noted_events (tells_silence note) at note (quiet items) ∙ quiet_events items
 
-quiet_with_events : (time : When) (offset : ℕ) (events : List Event) (items : List Item) → quiet (with_events time offset events items) ≡ with_events time offset events (quiet items)
+quiet_with_events : (time : Chunk) (offset : ℕ) (events : List Event) (items : List Item) → quiet (with_events time offset events items) ≡ with_events time offset events (quiet items)
 quiet_with_events time offset [] items = refl
 quiet_with_events time offset (event ∷ events) items = quiet_with_events time offset events (Sent time (record { offset = offset; event = event }) ∷ items)
 
-quiet_with_found : (setting : Setting) (past : List Event) (time : When) (x : Timed) (found : Option Recovery) (items : List Item)
+quiet_with_found : (setting : Setting) (past : List Event) (time : Chunk) (x : Timed) (found : Option Recovery) (items : List Item)
     → quiet (with_found setting past time x found items) ≡ with_found setting past time x found (quiet items)
 quiet_with_found setting past time x None items = refl
 quiet_with_found setting past time x (Some r) items = quiet_with_events time x.offset
     (put_in setting.first setting.rotated (entry_at setting.first setting.rotated (x.event ∷ past)) r) (Pair time x.offset r ∷ Sent time x ∷ items)
 
-adds_quiet : (setting : Setting) (recovers : Bool) (time : When) (past : List Event) (more : List Timed) (before items : List Item)
+adds_quiet : (setting : Setting) (recovers : Bool) (time : Chunk) (past : List Event) (more : List Timed) (before items : List Item)
     → Adds setting recovers time past more before items → Adds setting recovers time past more (quiet before) (quiet items)
 adds_quiet setting recovers time past [] before items adds = ap (λ (is : List Item). quiet is) adds
 adds_quiet setting recovers time past (x ∷ more) before items adds =
@@ -105,7 +105,8 @@ makes_quiet setting recovers (Bytes time bytes ∷ past) items m =
     let same = sym (quiet_bytes past) in
     let S : List ℕ → Type 0 = λ bs. AreShown bs m.1 in
     let T : List ℕ → Type 0 = λ bs. AreShown (bs ++ bytes) (m.1 ++ reverse m.2) in
-    (quiet m.0, m.1, m.2, makes_quiet setting recovers past m.0 m.3, subst S same m.4, subst T same m.5, adds_quiet setting recovers time (past_of m.1) m.2 m.0 items m.6)
+    let C : List ℕ → Type 0 = λ bs. Adds setting recovers (chunk_of time (bs ++ bytes)) (past_of m.1) m.2 (quiet m.0) (quiet items) in
+    (quiet m.0, m.1, m.2, makes_quiet setting recovers past m.0 m.3, subst S same m.4, subst T same m.5, subst C same (adds_quiet setting recovers (chunk_of time (bytes_of past ++ bytes)) (past_of m.1) m.2 m.0 items m.6))
 makes_quiet setting recovers (News at note ∷ past) items m =
     let M : List Item → Type 0 = λ is. Makes setting recovers (but_silence (News at note ∷ past)) is in
     subst M (sym (ap (λ (is : List Item). quiet is) m.2))
@@ -172,8 +173,8 @@ hears_quiet setting (Sent time x ∷ items) heard h =
       h.2,
       hears_quiet setting items h.0 h.3,
       subst E (sym (quiet_events items)) h.4,
-      ap (λ (l : List Told). quiet_heard l) h.5 ∙ heard_with time.at h.2 (with_heard time.at h.1 h.0) ended
-          ∙ ap (λ (l : List Told). with_heard time.at h.2 l) (heard_with time.at h.1 h.0 shown),
+      ap (λ (l : List Told). quiet_heard l) h.5 ∙ heard_with time.when.at h.2 (with_heard time.when.at h.1 h.0) ended
+          ∙ ap (λ (l : List Told). with_heard time.when.at h.2 l) (heard_with time.when.at h.1 h.0 shown),
     )
 hears_quiet setting (Pair time offset r ∷ items) heard h = hears_quiet setting items heard h
 hears_quiet setting (Noted at (Line what) ∷ items) heard h =
@@ -280,17 +281,17 @@ record Before (setting : Setting) (items : List Item) (heard : List Told) : Type
   hears : Hears setting items told
   same : silent_since heard ≡ silent_since told
 
-before_event : (setting : Setting) (time : When) (x : Timed) (items : List Item) (heard : List Told) → Hears setting (Sent time x ∷ items) heard → Before setting items heard
+before_event : (setting : Setting) (time : Chunk) (x : Timed) (items : List Item) (heard : List Told) → Hears setting (Sent time x ∷ items) heard → Before setting items heard
 before_event setting time x items heard h =
     let shown = shown_of_game setting (events_of items) x.event h.4.before h.4.after h.1 h.4.shown_is in
     let ended = ended_of_game h.4.old h.4.new h.2 h.4.ended_is in
     record {
       told = h.0;
       hears = h.3;
-      same = ap (λ (l : List Told). silent_since l) h.5 ∙ silent_with time.at h.2 (with_heard time.at h.1 h.0) ended ∙ silent_with time.at h.1 h.0 shown;
+      same = ap (λ (l : List Told). silent_since l) h.5 ∙ silent_with time.when.at h.2 (with_heard time.when.at h.1 h.0) ended ∙ silent_with time.when.at h.1 h.0 shown;
     }
 
-before_events : (setting : Setting) (time : When) (offset : ℕ) (events : List Event) (items : List Item) (heard : List Told) → Hears setting (with_events time offset events items) heard
+before_events : (setting : Setting) (time : Chunk) (offset : ℕ) (events : List Event) (items : List Item) (heard : List Told) → Hears setting (with_events time offset events items) heard
     → Before setting items heard
 before_events setting time offset [] items heard h = record { told = heard; hears = h; same = refl }
 before_events setting time offset (event ∷ events) items heard h =
@@ -299,7 +300,7 @@ before_events setting time offset (event ∷ events) items heard h =
     let c = before_event setting time x items b.told b.hears in
     record { told = c.told; hears = c.hears; same = b.same ∙ c.same }
 
-before_found : (setting : Setting) (past : List Event) (time : When) (x : Timed) (found : Option Recovery) (items : List Item) (heard : List Told)
+before_found : (setting : Setting) (past : List Event) (time : Chunk) (x : Timed) (found : Option Recovery) (items : List Item) (heard : List Told)
     → Hears setting (with_found setting past time x found items) heard → Before setting items heard
 before_found setting past time x None items heard h = before_event setting time x items heard h
 before_found setting past time x (Some r) items heard h =
@@ -307,7 +308,7 @@ before_found setting past time x (Some r) items heard h =
     let c = before_event setting time x items b.told b.hears in
     record { told = c.told; hears = c.hears; same = b.same ∙ c.same }
 
-before_added : (setting : Setting) (recovers : Bool) (time : When) (past : List Event) (more : List Timed) (before items : List Item) (heard : List Told)
+before_added : (setting : Setting) (recovers : Bool) (time : Chunk) (past : List Event) (more : List Timed) (before items : List Item) (heard : List Told)
     → Adds setting recovers time past more before items → Hears setting items heard → Before setting before heard
 before_added setting recovers time past [] before items heard adds h =
     record { told = heard; hears = subst (λ (is : List Item). Hears setting is heard) adds h; same = refl }
@@ -335,8 +336,8 @@ silent_alike setting recovers at (News time note ∷ since) first second a b g h
     let same = silent_alike setting recovers at since first second one.0 two.0 (g.1.0, g.1.1, one.1) (h.1.0, h.1.1, two.1) in
     ap (λ (l : List Told). silent_since l) one.2 ∙ news_silent time (heard_of note) one.0 two.0 same ∙ sym (ap (λ (l : List Told). silent_since l) two.2)
 silent_alike setting recovers at (Bytes time bytes ∷ since) first second a b g h =
-    let one = before_added setting recovers time (past_of g.1.1) g.1.2 g.1.0 g.0 a g.1.6 g.2 in
-    let two = before_added setting recovers time (past_of h.1.1) h.1.2 h.1.0 h.0 b h.1.6 h.2 in
+    let one = before_added setting recovers _ (past_of g.1.1) g.1.2 g.1.0 g.0 a g.1.6 g.2 in
+    let two = before_added setting recovers _ (past_of h.1.1) h.1.2 h.1.0 h.0 b h.1.6 h.2 in
     one.same ∙ silent_alike setting recovers at since first second one.told two.told (g.1.0, g.1.3, one.hears) (h.1.0, h.1.3, two.hears) ∙ sym two.same
 
 -- ---- both
@@ -418,8 +419,8 @@ line_alarms false at what items e = refl
 
 quiet_alarms : (items : List Item) → alarm_items (quiet items) ≡ alarm_items items
 quiet_alarms [] = refl
-quiet_alarms (Sent time x ∷ items) = ap (λ (is : List AlarmItem). Comes time.at time.is_added x.event ∷ is) (quiet_alarms items)
-quiet_alarms (Pair time offset r ∷ items) = ap (λ (is : List AlarmItem). Notes time.at PutsIn ∷ is) (quiet_alarms items)
+quiet_alarms (Sent time x ∷ items) = ap (λ (is : List AlarmItem). Comes time.when.at time.when.is_added x.event ∷ is) (quiet_alarms items)
+quiet_alarms (Pair time offset r ∷ items) = ap (λ (is : List AlarmItem). Notes time.when.at PutsIn ∷ is) (quiet_alarms items)
 quiet_alarms (Noted at (Line what) ∷ items) =
     line_alarms (is_silence what) at what (quiet items) refl ∙ ap (λ (is : List AlarmItem). with_news at (of_line what) is) (quiet_alarms items)
 quiet_alarms (Noted at Looked ∷ items) = ap (λ (is : List AlarmItem). with_news at (news_of Looked) is) (quiet_alarms items)
@@ -458,7 +459,7 @@ line_ends false at what items e = refl
 
 quiet_ends : (items : List Item) → end_items (quiet items) ≡ end_items items
 quiet_ends [] = refl
-quiet_ends (Sent time x ∷ items) = ap (λ (is : List EndItem). Ends_with time.at time.is_added (x.offset + 1) x.event ∷ is) (quiet_ends items)
+quiet_ends (Sent time x ∷ items) = ap (λ (is : List EndItem). Ends_with time.when.at time.when.is_added (bytes_with time x.offset) x.event ∷ is) (quiet_ends items)
 quiet_ends (Pair time offset r ∷ items) = quiet_ends items
 quiet_ends (Noted at (Line what) ∷ items) =
     line_ends (is_silence what) at what (quiet items) refl ∙ ap (λ (is : List EndItem). with_end_news at (end_of_line what) is) (quiet_ends items)

@@ -7,7 +7,7 @@ use Rattle.settle_core.specs.Folding.{Score}
 use Rattle.settle_core.proofs.Once.{folds_once}
 use Rattle.board_events.specs.Session.{entries_in}
 use Rattle.board_events.specs.Settings.{Setting}
-use Rattle.board_alarms.specs.declared.event_heard.When.{When}
+use Rattle.board_game.specs.declared.chunk.Chunk.{Chunk}
 use Rattle.board_alarms.specs.Keeping.{StandsFor as AlarmsStand}
 use Rattle.board_endings.specs.Keeping.{StandsFor as EndingsStand}
 use Rattle.board_listing.specs.declared.watcher.Watcher.{Watcher}
@@ -35,10 +35,10 @@ result_of watcher setting past watched =
     subst (λ (s : Score). HasResult setting.start s watcher.follower.told) scores followed.told
 
 -- The parts of the teller have taken the event: so it is told.
-pub told_event : (old new : Teller) (setting : Setting) (items : List Item) (text : List ℕ) (time : When) (x : Timed) (all lines before after : List ℕ) (h : HasTold old setting items text)
+pub told_event : (old new : Teller) (setting : Setting) (items : List Item) (text : List ℕ) (time : Chunk) (x : Timed) (all lines before after : List ℕ) (h : HasTold old setting items text)
     → HasWatched new.watcher setting (x.event ∷ events_of items) × ((more : List GameLine) × (after ≡ before ++ text_of more) × WatchesEvent setting (events_of items) x more)
     → HasSeen new.pictures setting (x.event ∷ events_of items)
-    → (picture ended : Option Heard) × HearsEvent setting (events_of items) x.event picture ended × StandingStands new.standing (with_heard time.at ended (with_heard time.at picture h.heard))
+    → (picture ended : Option Heard) × HearsEvent setting (events_of items) x.event picture ended × StandingStands new.standing (with_heard time.when.at ended (with_heard time.when.at picture h.heard))
     → AlarmsStand new.alarms setting (alarm_items (Sent time x ∷ items)) → EndingsStand new.endings setting (end_items (Sent time x ∷ items)) → lines ++ before ≡ all
     → (more : List ℕ) × (lines ++ after ≡ all ++ more) × HasTold new setting (Sent time x ∷ items) (text ++ more)
 told_event old new setting items text time x all lines before after h watched seen hears alarms endings is = (
@@ -47,7 +47,7 @@ told_event old new setting items text time x all lines before after h watched se
   record {
     watched = watched.0;
     seen = seen;
-    heard = with_heard time.at hears.1 (with_heard time.at hears.0 h.heard);
+    heard = with_heard time.when.at hears.1 (with_heard time.when.at hears.0 h.heard);
     hears = (h.heard, hears.0, hears.1, h.hears, hears.2, refl);
     standing = hears.3;
     alarms = alarms;

@@ -12,14 +12,15 @@ use Rattle.board_events.specs.Limits.{limit}
 use Rattle.board_events.specs.Settings.{Setting}
 use Rattle.board_events.proofs.CommandLemmas.{past_both}
 use Rattle.board_alarms.specs.declared.event_heard.When.{When}
+use Rattle.board_game.specs.declared.chunk.Chunk.{Chunk}
 use Rattle.board_game.specs.declared.following.Following.{Following}
 use Rattle.board_game.specs.declared.game.Game.{Game}
 use Rattle.board_game.specs.Games.{StandsFor}
-use Rattle.board_game.specs.History.{Bytes, Came, Finds, Item, bytes_of, with_found}
+use Rattle.board_game.specs.History.{Adds, Bytes, Came, Finds, Item, bytes_of, chunk_of, with_found}
 use Rattle.board_game.specs.Inside.Telling.{HasFollowed, IsWithin}
 
 -- no byte of it yet
-pub within_start : (game : Game) (setting : Setting) (recovers : Bool) (past : List Came) (text : List ℕ) (time : When) (lines gathered : List ℕ) → gathered ≡ [] → StandsFor game setting recovers past text
+pub within_start : (game : Game) (setting : Setting) (recovers : Bool) (past : List Came) (text : List ℕ) (time : Chunk) (lines gathered : List ℕ) → gathered ≡ [] → StandsFor game setting recovers past text
     → IsWithin game.decoder game.following setting recovers past text text time [] lines (lines ++ gathered)
 within_start game setting recovers past text time lines gathered none s =
     let D : List ℕ → List Timed → Type 0 = λ bytes events. Decoded game.decoder bytes events in
@@ -39,7 +40,7 @@ within_start game setting recovers past text time lines gathered none s =
     }
 
 -- the bytes up to the next event
-pub within_more : (old new : Decoder) (following next : Following) (setting : Setting) (recovers : Bool) (past : List Came) (before text : List ℕ) (time : When) (offset : ℕ)
+pub within_more : (old new : Decoder) (following next : Following) (setting : Setting) (recovers : Bool) (past : List Came) (before text : List ℕ) (time : Chunk) (offset : ℕ)
     (bytes piece lines lines' lines'' : List ℕ) (event : Event)
     → ((all : List ℕ) (events : List Timed) → Decoded old all events → length all + length piece ≡ offset + 1
     → Decoded new (all ++ piece) (events ++ record { offset = offset; event = event } ∷ []))
@@ -76,7 +77,7 @@ within_more old new following next setting recovers past before text time offset
     )
 
 -- the bytes behind the last event
-pub within_rest : (old new : Decoder) (following : Following) (setting : Setting) (recovers : Bool) (past : List Came) (before text : List ℕ) (time : When)
+pub within_rest : (old new : Decoder) (following : Following) (setting : Setting) (recovers : Bool) (past : List Came) (before text : List ℕ) (time : Chunk)
     (bytes piece lines lines' : List ℕ) → TakesAll old piece new → IsWithin old following setting recovers past before text time bytes lines lines'
     → IsWithin new following setting recovers past before text time (bytes ++ piece) lines lines'
 within_rest old new following setting recovers past before text time bytes piece lines lines' takes w =
@@ -102,17 +103,23 @@ past_within events later =
     ∙ ap (λ (es : List Event). es ++ past_of events) (sym (map-reverse (λ (t : Timed). t.event) (reverse later))
     ∙ ap (λ (es : List Timed). map (λ (t : Timed). t.event) es) (reverse-reverse later))
 
+abbrev made : When → ℕ → Chunk
+made time end = record { when = time; end = end }
+
 -- all bytes of it
-pub within_end : (game : Game) (setting : Setting) (recovers : Bool) (past : List Came) (before text : List ℕ) (time : When) (rest : ℕ) (bytes lines lines' lines'' : List ℕ)
-    → lines'' ≡ lines' → IsWithin game.decoder game.following setting recovers past before text time bytes lines lines'
+pub within_end : (game : Game) (setting : Setting) (recovers : Bool) (past : List Came) (before text : List ℕ) (time : When) (chunk : Chunk) (rest : ℕ) (bytes lines lines' lines'' : List ℕ)
+    → chunk.when ≡ time → chunk.end ≡ length (bytes_of past) + length bytes
+    → lines'' ≡ lines' → IsWithin game.decoder game.following setting recovers past before text chunk bytes lines lines'
     → ((all : List ℕ) (events : List Timed) → Decoded game.decoder all events → Shows all events rest)
     → game.count ≡ length (bytes_of past) + length bytes → length (bytes_of past) + length bytes ≤ limit
     → (more : List ℕ) × (lines'' ≡ lines ++ more) × StandsFor game setting recovers (Bytes time bytes ∷ past) (before ++ more)
-within_end game setting recovers past before text time rest bytes lines lines' lines'' appended w shows count fits =
+within_end game setting recovers past before text time chunk rest bytes lines lines' lines'' when_is end_is appended w shows count fits =
     let all = bytes_of past ++ bytes in
     let events = w.events ++ reverse w.later in
     let long = length-append (bytes_of past) bytes in
     let shown = shows all events w.decoded in
+    let same : chunk ≡ chunk_of time all = ap (λ (t : When). made t chunk.end) when_is ∙ ap (λ (n : ℕ). made time n) (end_is ∙ sym long) in
+    let A : Chunk → Type 0 = λ c. Adds setting recovers c (past_of w.events) w.later w.earlier w.items in
     let F : List Event → List ℕ → Type 0 = λ raw t. HasFollowed game.following setting recovers raw w.items t in (
       w.more,
       appended ∙ w.lines_are,
@@ -123,7 +130,7 @@ within_end game setting recovers past before text time rest bytes lines lines' l
         shown = (rest, shown);
         counted = count ∙ sym long;
         within = omega (arith, fits, long);
-        makes = (w.earlier, w.events, w.later, w.makes, w.shown, (rest, shown), w.adds);
+        makes = (w.earlier, w.events, w.later, w.makes, w.shown, (rest, shown), subst A same w.adds);
         follows = subst (F (past_of events)) w.text_is (subst (λ raw. F raw text) (sym (past_within w.events w.later)) w.follows);
       },
     )

@@ -1,5 +1,5 @@
 -- What is told of a game to `board_endings`. Lists have the latest first.
-use Rattle.std.specs.Prelude.{◌+◌, ℕ, Bool, List, [], ◌∷◌, Option, Some, None}
+use Rattle.std.specs.Prelude.{◌+◌, ℕ, Bool, List, [], ◌∷◌, Option, Some, None, if◌then◌else◌}
 use Rattle.board_events.specs.Settings.{Setting}
 use Rattle.board_endings.specs.declared.news.End.{End}
 use Rattle.board_endings.specs.declared.news.News.{News}
@@ -8,6 +8,7 @@ use Rattle.board_endings.specs.Items.{Item as EndItem, Sent as Comes, Noted as N
 use Rattle.board_endings.specs.Saying.{IsDueAt, IsEndAt}
 use Rattle.board_standing.specs.declared.heard.Heard.{Heard}
 use Rattle.board_standing.specs.declared.heard.Heard.TheVariants.{Begins as RecorderBegins}
+use Rattle.board_game.specs.declared.chunk.Chunk.{Chunk}
 use Rattle.board_game.specs.declared.note.Note.{Note}
 use Rattle.board_game.specs.declared.note.Note.TheVariants.{Line, Looked, PutsBack, Reopens as IsReopened, Passes as HasPassed, Resumes, Suspects}
 use Rattle.board_game.specs.History.{Came, Item, Makes, Noted, Pair, Sent}
@@ -32,11 +33,16 @@ abbrev pub with_end_news : ℕ → Option News → List EndItem → List EndItem
 with_end_news at None items = items
 with_end_news at (Some news) items = Notes at news ∷ items
 
--- What is told of these items. With an event the capture has the bytes up to its last one.
+-- How many bytes the capture has with an event at this offset: what was added by hand is there as a whole, with all that was added with
+-- it; of what the board has sent it has the bytes up to the event's last one.
+abbrev pub bytes_with : Chunk → ℕ → ℕ
+bytes_with chunk offset = if chunk.when.is_added then chunk.end else offset + 1
+
+-- What is told of these items.
 abbrev pub end_items : List Item → List EndItem
 end_items [] = []
-end_items (Sent time x ∷ items) = Comes time.at time.is_added (x.offset + 1) x.event ∷ end_items items
-end_items (Pair time offset r ∷ items) = end_items items
+end_items (Sent chunk x ∷ items) = Comes chunk.when.at chunk.when.is_added (bytes_with chunk x.offset) x.event ∷ end_items items
+end_items (Pair chunk offset r ∷ items) = end_items items
 end_items (Noted at note ∷ items) = with_end_news at (end_news note) (end_items items)
 
 -- By what came, the game stands so with its end at this time.

@@ -89,9 +89,9 @@ heard_of (Suspects n) = None
 -- This is heard of these items. A pair is heard by the events that are put in for it.
 abbrev pub Hears : Setting → List Item → List Told → Type 0
 Hears setting [] heard = heard ≡ []
-Hears setting (Sent time x ∷ items) heard = (earlier : List Told) × (shown ended : Option Heard) × Hears setting items earlier
-    × HearsEvent setting (events_of items) x.event shown ended × (heard ≡ with_heard time.at ended (with_heard time.at shown earlier))
-Hears setting (Pair time offset r ∷ items) heard = Hears setting items heard
+Hears setting (Sent chunk x ∷ items) heard = (earlier : List Told) × (shown ended : Option Heard) × Hears setting items earlier
+    × HearsEvent setting (events_of items) x.event shown ended × (heard ≡ with_heard chunk.when.at ended (with_heard chunk.when.at shown earlier))
+Hears setting (Pair chunk offset r ∷ items) heard = Hears setting items heard
 Hears setting (Noted time note ∷ items) heard = (earlier : List Told) × Hears setting items earlier × (heard ≡ with_heard time (heard_of note) earlier)
 
 -- This is heard of what came.

@@ -9,6 +9,7 @@ use Rattle.board_events.specs.Entries.{entry_at}
 use Rattle.board_events.specs.Limits.{limit}
 use Rattle.board_events.specs.Settings.{Setting}
 use Rattle.board_alarms.specs.declared.event_heard.When.{When}
+use Rattle.board_game.specs.declared.chunk.Chunk.{Chunk}
 use Rattle.board_game.specs.declared.note.Note.{Note}
 use Rattle.pair_frames.specs.PutIn.{put_in}
 use Rattle.recovery.specs.Keeping.{RecoversAt}
@@ -32,43 +33,47 @@ room_of past = limit - length (bytes_of past)
 abbrev pub AreShown : List ℕ → List Timed → Type 0
 AreShown bytes events = (rest : ℕ) × Shows bytes events rest
 
--- What is told, with its time: an event, which the board sent, or which was added by hand or is put in, at its offset; a pair of
--- plies that was recovered at this offset; or what isn't in the bytes.
+-- the bytes that come at this time, with which these are all so far
+abbrev pub chunk_of : When → List ℕ → Chunk
+chunk_of time all = record { when = time; end = length all }
+
+-- What is told, with the bytes that brought it: an event, which the board sent, or which was added by hand or is put in, at its offset;
+-- a pair of plies that was recovered at this offset. Or, with its time, what isn't in the bytes.
 pub data Item : Type 0 where
-  Sent : When → Timed → Item
-  Pair : When → ℕ → Recovery → Item
+  Sent : Chunk → Timed → Item
+  Pair : Chunk → ℕ → Recovery → Item
   Noted : ℕ → Note → Item
 
 -- the events among them
 abbrev pub events_of : List Item → List Event
 events_of [] = []
-events_of (Sent time x ∷ items) = x.event ∷ events_of items
-events_of (Pair time offset r ∷ items) = events_of items
+events_of (Sent chunk x ∷ items) = x.event ∷ events_of items
+events_of (Pair chunk offset r ∷ items) = events_of items
 events_of (Noted time note ∷ items) = events_of items
 
--- events that come at one time and at one offset, behind these items
-abbrev pub with_events : When → ℕ → List Event → List Item → List Item
-with_events time offset [] items = items
-with_events time offset (event ∷ events) items = with_events time offset events (Sent time (record { offset = offset; event = event }) ∷ items)
+-- events of one chunk and at one offset, behind these items
+abbrev pub with_events : Chunk → ℕ → List Event → List Item → List Item
+with_events chunk offset [] items = items
+with_events chunk offset (event ∷ events) items = with_events chunk offset events (Sent chunk (record { offset = offset; event = event }) ∷ items)
 
 -- an event, and what was recovered at it: the pair, and the events that are put in for it, all with the offset of the
 -- event
-abbrev pub with_found : Setting → List Event → When → Timed → Option Recovery → List Item → List Item
-with_found setting past time x None items = Sent time x ∷ items
-with_found setting past time x (Some r) items = with_events time x.offset
-    (put_in setting.first setting.rotated (entry_at setting.first setting.rotated (x.event ∷ past)) r) (Pair time x.offset r ∷ Sent time x ∷ items)
+abbrev pub with_found : Setting → List Event → Chunk → Timed → Option Recovery → List Item → List Item
+with_found setting past chunk x None items = Sent chunk x ∷ items
+with_found setting past chunk x (Some r) items = with_events chunk x.offset
+    (put_in setting.first setting.rotated (entry_at setting.first setting.rotated (x.event ∷ past)) r) (Pair chunk x.offset r ∷ Sent chunk x ∷ items)
 
 -- What is recovered at an event after these: what its picture confirms, or nothing where no pairs are recovered.
 abbrev pub Finds : Setting → Bool → List Event → Event → Option Recovery → Type 0
 Finds setting false past event found = found ≡ None
 Finds setting true past event found = RecoversAt setting past event found
 
--- Behind the first items come those of the second events, all at this time; the first events came before.
-abbrev pub Adds : Setting → Bool → When → List Event → List Timed → List Item → List Item → Type 0
-Adds setting recovers time past [] before items = items ≡ before
-Adds setting recovers time past (x ∷ more) before items = (earlier : List Item) × (found : Option Recovery)
-    × Adds setting recovers time past more before earlier × Finds setting recovers (map (λ t. t.event) more ++ past) x.event found
-    × (items ≡ with_found setting (map (λ t. t.event) more ++ past) time x found earlier)
+-- Behind the first items come those of the second events, which this chunk brings; the first events came before.
+abbrev pub Adds : Setting → Bool → Chunk → List Event → List Timed → List Item → List Item → Type 0
+Adds setting recovers chunk past [] before items = items ≡ before
+Adds setting recovers chunk past (x ∷ more) before items = (earlier : List Item) × (found : Option Recovery)
+    × Adds setting recovers chunk past more before earlier × Finds setting recovers (map (λ t. t.event) more ++ past) x.event found
+    × (items ≡ with_found setting (map (λ t. t.event) more ++ past) chunk x found earlier)
 
 -- What is told of what came. Bytes bring the events that they complete: those that all bytes so far show more than the
 -- bytes before.
@@ -76,5 +81,5 @@ abbrev pub Makes : Setting → Bool → List Came → List Item → Type 0
 Makes setting recovers [] items = items ≡ []
 Makes setting recovers (Bytes time bytes ∷ past) items = (before : List Item) × (events more : List Timed) × Makes setting recovers past before
     × AreShown (bytes_of past) events × AreShown (bytes_of past ++ bytes) (events ++ reverse more)
-    × Adds setting recovers time (past_of events) more before items
+    × Adds setting recovers (chunk_of time (bytes_of past ++ bytes)) (past_of events) more before items
 Makes setting recovers (News time note ∷ past) items = (before : List Item) × Makes setting recovers past before × (items ≡ Noted time note ∷ before)

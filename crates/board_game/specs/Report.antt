@@ -16,9 +16,9 @@ first_line setting = line 0 (position_words setting.start)
 -- before, and each pair as `recover` does. News of the line has no line.
 abbrev pub Reports : Setting → List Item → List ℕ → Type 0
 Reports setting [] text = text ≡ first_line setting
-Reports setting (Sent time x ∷ items) text = (before : List ℕ) × (lines : List GameLine) × Reports setting items before
+Reports setting (Sent chunk x ∷ items) text = (before : List ℕ) × (lines : List GameLine) × Reports setting items before
     × WatchesEvent setting (events_of items) x lines × (text ≡ before ++ text_of lines)
-Reports setting (Pair time offset r ∷ items) text = (before more : List ℕ) × Reports setting items before × TellsRecovered offset r more
+Reports setting (Pair chunk offset r ∷ items) text = (before more : List ℕ) × Reports setting items before × TellsRecovered offset r more
     × (text ≡ before ++ more)
 Reports setting (Noted time note ∷ items) text = Reports setting items text
 

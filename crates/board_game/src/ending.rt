@@ -1,5 +1,5 @@
 //! What is told of how a game ends.
-ghost use Rattle.std.specs.Prelude.{◌≡◌, ◌+◌, ◌∷◌, List, OnOk};
+ghost use Rattle.std.specs.Prelude.{◌≡◌, ◌∷◌, List, OnOk};
 ghost use Rattle.chess_rules.specs.Valid.{Valid};
 ghost use Rattle.dgt_frame.specs.declared.events.Event.{Event as EventOf};
 ghost use Rattle.board_alarms.specs.Hearing.{HasResult};
@@ -7,12 +7,12 @@ ghost use Rattle.board_events.specs.Session.{HasTakenEvents};
 ghost use Rattle.board_events.specs.Settings.{Setting};
 ghost use Rattle.board_endings.specs.Items.{Item as EndItem, Sent as Comes, events_of as end_events};
 ghost use Rattle.board_endings.specs.Keeping.{StandsFor as EndingsStand};
-ghost use Rattle.board_game.specs.Ending.{end_news, end_of_line, with_end_news};
+ghost use Rattle.board_game.specs.Ending.{bytes_with, end_news, end_of_line, with_end_news};
 ghost use Rattle.board_game.specs.Inside.Shown.{HasSeen, IsShown};
 
+use crate::chunk::Chunk;
 use crate::note::Note;
 use crate::pictures::{Pictures, Shown, sight};
-use board_alarms::When;
 use board_endings::{Endings, News};
 use board_events::Session;
 use board_standing::Heard;
@@ -54,10 +54,21 @@ pub fn note_end(endings: &mut Endings, at: u64, note: Note) -> Result<(), AllocE
     }
 }
 
+/// How many bytes the capture has with an event that ends at this offset.
+fn bytes_with(chunk: Chunk, offset: u32) -> u64
+    ensures { result ≡ bytes_with chunk offset }
+{
+    if chunk.when.is_added {
+        chunk.end
+    } else {
+        offset as u64 + 1
+    }
+}
+
 /// Tells an event, which the session and the pictures have taken. It ends at this offset, and the game has this result with it.
 pub fn tell_end(
     endings: &mut Endings,
-    when: When,
+    chunk: Chunk,
     offset: u32,
     shown: Shown,
     pictures: &Pictures,
@@ -67,8 +78,8 @@ pub fn tell_end(
     ensures { (setting : Setting) (items : List EndItem) (event : EventOf) → Valid setting.start → EndingsStand endings.old setting items
         → HasSeen pictures.now setting (event ∷ end_events items) → IsShown setting (end_events items) event shown
         → HasTakenEvents session.now setting (event ∷ end_events items) → HasResult setting.start session.now.settler.score outcome
-        → OnOk result (EndingsStand endings.new setting (Comes when.at when.is_added (offset + 1) event ∷ items)) }
+        → OnOk result (EndingsStand endings.new setting (Comes chunk.when.at chunk.when.is_added (bytes_with chunk offset) event ∷ items)) }
 {
-    let bytes = offset as u64 + 1;
-    endings.take(when, bytes, sight(shown), pictures.last(), session, outcome)
+    let bytes = bytes_with(chunk, offset);
+    endings.take(chunk.when, bytes, sight(shown), pictures.last(), session, outcome)
 }

@@ -10,9 +10,9 @@ ghost use Rattle.board_game.specs.History.{Finds, Item, Noted, with_found};
 ghost use Rattle.board_game.specs.Inside.Telling.{HasFollowed, HasKept, KeepsEvent};
 ghost use Rattle.board_game.specs.Report.{first_line};
 
+use crate::chunk::Chunk;
 use crate::note::Note;
 use crate::telling::{Teller, flush};
-use board_alarms::When;
 use board_captures::Method;
 use dgt_frame::Event;
 use dgt_frame::laws::shows_once;
@@ -81,10 +81,10 @@ impl Following {
         }
     }
 
-    /// Takes the next event, which came then, and adds what is told of it behind what is gathered.
+    /// Takes the next event, which this chunk has brought, and adds what is told of it behind what is gathered.
     pub fn take(
         &mut self,
-        when: When,
+        chunk: Chunk,
         offset: u32,
         event: &Event,
         frames: &mut Frames,
@@ -99,11 +99,11 @@ impl Following {
             × Finds setting recovers past event.now found
             × (lines.new.items ++ gathered.new.items ≡ (lines.old.items ++ gathered.old.items) ++ more)
             × HasFollowed self.new setting recovers (event.now ∷ past)
-            (with_found setting past when (record { offset = offset; event = event.now }) found items) (text ++ more)) }
+            (with_found setting past chunk (record { offset = offset; event = event.now }) found items) (text ++ more)) }
     {
         // For its clause: no bytes show no event.
         shows_once();
-        self.teller.take(when, offset, event, gathered, lines)?;
+        self.teller.take(chunk, offset, event, gathered, lines)?;
         keep(
             self.alloc,
             &mut self.keeper,
@@ -117,8 +117,8 @@ impl Following {
         if is_nothing(put) {
             return Ok(());
         }
-        self.teller.note_pair(when)?;
-        self.teller.put_in(when, offset, put, gathered, lines)?;
+        self.teller.note_pair(chunk)?;
+        self.teller.put_in(chunk, offset, put, gathered, lines)?;
         Ok(())
     }
 

@@ -10,6 +10,7 @@ ghost use Rattle.board_game.specs.Games.{HasBegun, IsDueOf, IsStateOf, StandsFor
 ghost use Rattle.board_game.specs.History.{Bytes, Came, Item, Makes, News, events_of, room_of};
 ghost use Rattle.board_game.specs.Report.{IsReport, first_line};
 
+use crate::chunk::Chunk;
 use crate::following::Following;
 use crate::note::Note;
 use crate::telling::append;
@@ -34,6 +35,16 @@ fn first_bytes(bytes: &[u8], count: usize) -> &[u8]
     } else {
         &bytes[..count]
     }
+}
+
+/// The bytes that come then, behind so many others.
+fn chunk_of(when: When, count: u32, bytes: &[u8]) -> Chunk
+    requires { count + length bytes.now ≤ limit }
+    ensures when { result.when ≡ when }
+    ensures end { result.end ≡ count + length bytes.now }
+{
+    let end = (count + bytes.len() as u32) as u64;
+    Chunk { when, end }
 }
 
 /// Takes the bytes of a capture with their times, and says what they tell.
@@ -124,13 +135,14 @@ impl Game {
             × StandsFor self.new setting recovers (Bytes when bytes.now ∷ past) (text ++ more)) }
     {
         self.gathered.clear();
+        let chunk = chunk_of(when, self.count, bytes);
         let mut event = BLANK;
         let mut taken = 0;
         'events: while let Some(more) = self.decoder.push_into(&bytes[taken..], &mut event) {
             taken += more;
             let offset = self.count + (taken - 1) as u32;
             self.following.take(
-                when,
+                chunk,
                 offset,
                 &event,
                 &mut self.frames,

@@ -25,10 +25,11 @@ ghost use Rattle.board_game.specs.Inside.Shown.{HasSeen, IsShown};
 ghost use Rattle.board_game.specs.Inside.Telling.{HasTold};
 ghost use Rattle.board_game.specs.Report.{first_line};
 
+use crate::chunk::Chunk;
 use crate::ending::{note_end, tell_end};
 use crate::note::Note;
 use crate::pictures::{Pictures, Shown, sight};
-use board_alarms::{Alarms, News, When};
+use board_alarms::{Alarms, News};
 use board_endings::Endings;
 use board_listing::Watcher;
 use board_standing::{Event as Told, Heard, Picture, Standing};
@@ -236,10 +237,10 @@ impl Teller {
         }
     }
 
-    /// Tells the next event, which came then: adds its lines behind those that are gathered, and hears it.
+    /// Tells the next event, which this chunk has brought: adds its lines behind those that are gathered, and hears it.
     pub fn take(
         &mut self,
-        when: When,
+        chunk: Chunk,
         offset: u32,
         event: &Event,
         gathered: &mut Lines,
@@ -249,7 +250,7 @@ impl Teller {
         requires begun { (setting : Setting) × (items : List Item) × (text : List ℕ) × HasTold self.old setting items text }
         ensures { (setting : Setting) (items : List Item) (text : List ℕ) → HasTold self.old setting items text
             → OnOk result ((more : List ℕ) × (lines.new.items ++ gathered.new.items ≡ (lines.old.items ++ gathered.old.items) ++ more)
-            × HasTold self.new setting (Sent when (record { offset = offset; event = event.now }) ∷ items) (text ++ more)) }
+            × HasTold self.new setting (Sent chunk (record { offset = offset; event = event.now }) ∷ items) (text ++ more)) }
     {
         let before = self.watcher.result();
         make_room(gathered, lines)?;
@@ -260,6 +261,7 @@ impl Teller {
             offset,
             event,
         )?;
+        let when = chunk.when;
         hear(&mut self.standing, &self.watcher, when.at, before, shown);
         let outcome = self.watcher.result();
         let picture = self.pictures.last();
@@ -275,7 +277,7 @@ impl Teller {
         )?;
         tell_end(
             &mut self.endings,
-            when,
+            chunk,
             offset,
             shown,
             &self.pictures,
@@ -287,7 +289,7 @@ impl Teller {
     /// Tells the events of these frames, all at this offset.
     pub fn put_in(
         &mut self,
-        when: When,
+        chunk: Chunk,
         offset: u32,
         frames: &[u8],
         gathered: &mut Lines,
@@ -297,7 +299,7 @@ impl Teller {
         ensures { (setting : Setting) (items : List Item) (text : List ℕ) (events : List EventOf) → HasTold self.old setting items text
             → ShowsWhole frames.now events → OnOk result ((more : List ℕ)
             × (lines.new.items ++ gathered.new.items ≡ (lines.old.items ++ gathered.old.items) ++ more)
-            × HasTold self.new setting (with_events when offset events items) (text ++ more)) }
+            × HasTold self.new setting (with_events chunk offset events items) (text ++ more)) }
     {
         // For its clause: bytes show one list of events.
         shows_once();
@@ -306,7 +308,7 @@ impl Teller {
         let mut taken = 0;
         'events: while let Some(more) = decoder.push_into(&frames[taken..], &mut event) {
             taken += more;
-            self.take(when, offset, &event, gathered, lines)?;
+            self.take(chunk, offset, &event, gathered, lines)?;
         }
         // For its clause: the frames show these events.
         decoder.pending();
@@ -324,11 +326,11 @@ impl Teller {
     }
 
     /// A pair is put in whose line was added: its events follow.
-    pub fn note_pair(&mut self, when: When) -> Result<(), AllocError>
+    pub fn note_pair(&mut self, chunk: Chunk) -> Result<(), AllocError>
         ensures { (setting : Setting) (items : List Item) (text line : List ℕ) (offset : ℕ) (r : Recovery) → HasTold self.old setting items text
-            → TellsRecovered offset r line → OnOk result (HasTold self.new setting (Pair when offset r ∷ items) (text ++ line)) }
+            → TellsRecovered offset r line → OnOk result (HasTold self.new setting (Pair chunk offset r ∷ items) (text ++ line)) }
     {
-        self.alarms.note(when.at, News::PutsIn)
+        self.alarms.note(chunk.when.at, News::PutsIn)
     }
 
     /// The alarms that are open.

@@ -10,7 +10,7 @@ use Rattle.board_events.specs.Commands.{past_of}
 use Rattle.board_events.specs.Game.{IsGameOf}
 use Rattle.board_events.specs.Settings.{Setting}
 use Rattle.board_events.proofs.CommandLemmas.{past_both}
-use Rattle.board_alarms.specs.declared.event_heard.When.{When}
+use Rattle.board_game.specs.declared.chunk.Chunk.{Chunk}
 use Rattle.board_game.specs.History.{Adds, AreShown, Bytes, Came, Item, Makes, News, bytes_of, events_of}
 use Rattle.board_game.proofs.ItemLemmas.{events_found}
 use Rattle.board_game.proofs.PlainLemmas.{ShowsOnce, same_shown}
@@ -27,7 +27,7 @@ put_with : (setting : Setting) (past : List Event) (event : Event) (found : Opti
 put_with setting past event None woven = refl
 put_with setting past event (Some r) woven = refl
 
-adds_put_in : (setting : Setting) (time : When) (past : List Event) (more : List Timed) (before items : List Item) → Adds setting true time past more before items
+adds_put_in : (setting : Setting) (time : Chunk) (past : List Event) (more : List Timed) (before items : List Item) → Adds setting true time past more before items
     → HavePutIn setting past (events_of before) → HavePutIn setting (map event_in more ++ past) (events_of items)
 adds_put_in setting time past [] before items adds have = subst (λ (is : List Item). HavePutIn setting past (events_of is)) (sym adds) have
 adds_put_in setting time past (x ∷ more) before items adds have =
@@ -54,7 +54,7 @@ makes_put_in once setting (Bytes time bytes ∷ past) items events shown makes =
     let more = makes.2 in
     let same : events ≡ es ++ reverse more = same_shown once (bytes_of past ++ bytes) events (es ++ reverse more) shown makes.5 in
     subst (λ p. HavePutIn setting p (events_of items)) (sym (ap past_of same ∙ past_turned es more))
-    (adds_put_in setting time (past_of es) more makes.0 items makes.6 (makes_put_in once setting past makes.0 es makes.4 makes.3))
+    (adds_put_in setting _ (past_of es) more makes.0 items makes.6 (makes_put_in once setting past makes.0 es makes.4 makes.3))
 makes_put_in once setting (News time note ∷ past) items events shown makes =
     subst (λ (is : List Item). HavePutIn setting (past_of events) (events_of is)) (sym makes.2) (makes_put_in once setting past makes.0 events shown makes.1)
 

@@ -45,7 +45,7 @@ use Rattle.board_listing.specs.WatchLines.{picture_words, position_words, readin
 use Rattle.board_listing.specs.WatchText.{IsGameLine, ShowsPicture, ShowsReading, WatchesEvent, with_position}
 use Rattle.board_listing.proofs.TextLemmas.{IsPrinted, Printed, both, clock_printed, fixed, weaker}
 use Rattle.board_listing.proofs.WatchLawLemmas.{with_if}
-use Rattle.board_alarms.specs.declared.event_heard.When.{When}
+use Rattle.board_game.specs.declared.chunk.Chunk.{Chunk}
 use Rattle.board_game.specs.History.{Adds, Bytes, Came, Finds, Item, Makes, News, Noted, Pair, Sent, events_of, with_events, with_found}
 use Rattle.board_game.specs.Report.{IsReport, Reports}
 use Rattle.live_lines.specs.Laws.{HasLines, IsPrinted as IsOfALine, ReportLine, report_text}
@@ -224,7 +224,7 @@ AreGood (Sent time x ∷ items) = AreGood items
 AreGood (Pair time offset r ∷ items) = IsGood r × AreGood items
 AreGood (Noted time heard ∷ items) = AreGood items
 
-good_events : (time : When) (offset : ℕ) (events : List Event) (items : List Item) → AreGood items → AreGood (with_events time offset events items)
+good_events : (time : Chunk) (offset : ℕ) (events : List Event) (items : List Item) → AreGood items → AreGood (with_events time offset events items)
 good_events time offset [] items h = h
 good_events time offset (event ∷ events) items h =
     let x : Timed = record { offset = offset; event = event } in good_events time offset events (Sent time x ∷ items) h
@@ -233,7 +233,7 @@ abbrev is_some : Option Recovery → Bool
 is_some None = false
 is_some (Some r) = true
 
-good_here : (setting : Setting) (recovers : Bool) (past : List Event) (time : When) (x : Timed) (found : Option Recovery) (items : List Item) → Valid setting.start
+good_here : (setting : Setting) (recovers : Bool) (past : List Event) (time : Chunk) (x : Timed) (found : Option Recovery) (items : List Item) → Valid setting.start
     → AreGood items → Finds setting recovers past x.event found → AreGood (with_found setting past time x found items)
 good_here setting recovers past time x None items valid h finds = h
 good_here setting false past time x (Some r) items valid h finds = let never : true ≡ false = ap is_some finds in absurd cc
@@ -241,7 +241,7 @@ good_here setting true past time x (Some r) items valid h finds =
     good_events time x.offset (put_in setting.first setting.rotated (entry_at setting.first setting.rotated (x.event ∷ past)) r)
     (Pair time x.offset r ∷ Sent time x ∷ items) (good_found setting past x.event r valid finds, h)
 
-good_added : (setting : Setting) (recovers : Bool) (time : When) (past : List Event) (more : List Timed) (before items : List Item) → Valid setting.start
+good_added : (setting : Setting) (recovers : Bool) (time : Chunk) (past : List Event) (more : List Timed) (before items : List Item) → Valid setting.start
     → AreGood before → Adds setting recovers time past more before items → AreGood items
 good_added setting recovers time past [] before items valid h is = subst AreGood (sym is) h
 good_added setting recovers time past (x ∷ more) before items valid h (earlier, found, adds, finds, is) =
@@ -252,7 +252,7 @@ good_added setting recovers time past (x ∷ more) before items valid h (earlier
 good : (setting : Setting) (recovers : Bool) (past : List Came) (items : List Item) → Valid setting.start → Makes setting recovers past items → AreGood items
 good setting recovers [] items valid is = subst AreGood (sym is) tt
 good setting recovers (Bytes time bytes ∷ past) items valid (before, events, more, makes, shown, all, adds) =
-    good_added setting recovers time (past_of events) more before items valid (good setting recovers past before valid makes) adds
+    good_added setting recovers _ (past_of events) more before items valid (good setting recovers past before valid makes) adds
 good setting recovers (News time heard ∷ past) items valid (before, makes, is) = subst AreGood (sym is) (good setting recovers past before valid makes)
 
 told_lines : TextsArePlain → FensArePlain → (setting : Setting) (items : List Item) (text : List ℕ) → Valid setting.start → AreGood items

@@ -7,7 +7,7 @@ use Rattle.dgt_frame.specs.Streams.{Timed}
 use Rattle.board_events.specs.Commands.{past_of}
 use Rattle.board_events.specs.Game.{IsGameOf}
 use Rattle.board_events.specs.Settings.{Setting}
-use Rattle.board_alarms.specs.declared.event_heard.When.{When}
+use Rattle.board_game.specs.declared.chunk.Chunk.{Chunk}
 use Rattle.board_game.specs.History.{Adds, AreShown, Bytes, Came, Item, Makes, News, bytes_of, events_of, with_found}
 use Rattle.board_game.proofs.PlainLemmas.{ShowsOnce, same_shown}
 use Rattle.chess_game.specs.Games.{Content}
@@ -32,7 +32,7 @@ gives wanted setting recovers tags past items game text e makes is pgn =
 abbrev event_in : Timed → Event
 event_in t = t.event
 
-adds_events : (setting : Setting) (time : When) (past : List Event) (more : List Timed) (before items : List Item) → Adds setting false time past more before items
+adds_events : (setting : Setting) (time : Chunk) (past : List Event) (more : List Timed) (before items : List Item) → Adds setting false time past more before items
     → events_of items ≡ map event_in more ++ events_of before
 adds_events setting time past [] before items adds = ap (λ (is : List Item). events_of is) adds
 adds_events setting time past (x ∷ more) before items adds =
@@ -55,7 +55,7 @@ makes_events once setting (Bytes time bytes ∷ past) items events shown makes =
     let same : events ≡ es ++ reverse more = same_shown once (bytes_of past ++ bytes) events (es ++ reverse more) shown makes.5 in
     let turned : reverse events ≡ more ++ reverse es =
     ap (λ (xs : List Timed). reverse xs) same ∙ reverse-append es (reverse more) ∙ ap (λ (xs : List Timed). xs ++ reverse es) (reverse-reverse more) in
-    adds_events setting time (past_of es) more makes.0 items makes.6
+    adds_events setting _ (past_of es) more makes.0 items makes.6
     ∙ ap (λ (xs : List Event). map event_in more ++ xs) (makes_events once setting past makes.0 es makes.4 makes.3)
     ∙ sym (map_both more (reverse es)) ∙ ap (λ (xs : List Timed). map event_in xs) (sym turned)
 makes_events once setting (News time heard ∷ past) items events shown makes =

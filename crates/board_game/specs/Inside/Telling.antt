@@ -7,7 +7,6 @@ use Rattle.dgt_frame.specs.Streams.{Timed}
 use Rattle.unseen_pairs.specs.declared.pair.Recovery.{Recovery}
 use Rattle.board_events.specs.Commands.{past_of}
 use Rattle.board_events.specs.Settings.{Setting}
-use Rattle.board_alarms.specs.declared.event_heard.When.{When}
 use Rattle.board_alarms.specs.Keeping.{StandsFor as AlarmsStand}
 use Rattle.board_endings.specs.Keeping.{StandsFor as EndingsStand}
 use Rattle.board_listing.specs.Inside.Watchers.{HasWatched}
@@ -15,6 +14,7 @@ use Rattle.board_standing.specs.declared.heard.Event.{Event as Told}
 use Rattle.board_standing.specs.Keeping.{StandsFor as StandingStands}
 use Rattle.recovery.specs.declared.keeper.Keeper.{Keeper}
 use Rattle.recovery.specs.Inside.Passing.{Adds as AddsPair, KeepsWithPutIn, added}
+use Rattle.board_game.specs.declared.chunk.Chunk.{Chunk}
 use Rattle.board_game.specs.declared.following.Following.{Following}
 use Rattle.board_game.specs.declared.telling.Teller.{Teller}
 use Rattle.board_game.specs.Alarming.{alarm_items}
@@ -54,9 +54,8 @@ pub record HasFollowed (following : Following) (setting : Setting) (recovers : B
   pub keeps : HasKept following.keeper setting recovers past (events_of items)
   pub told : HasTold following.teller setting items text
 
--- Behind what came before, these bytes came at this time, and the second lines are the first ones with what was told of
--- them.
-pub record IsWithin (decoder : Decoder) (following : Following) (setting : Setting) (recovers : Bool) (past : List Came) (before text : List ℕ) (time : When)
+-- Behind what came before, these bytes of a chunk came, and the second lines are the first ones with what was told of them.
+pub record IsWithin (decoder : Decoder) (following : Following) (setting : Setting) (recovers : Bool) (past : List Came) (before text : List ℕ) (chunk : Chunk)
     (bytes lines lines' : List ℕ) : Type 0 where
   pub events : List Timed
   pub later : List Timed
@@ -66,7 +65,7 @@ pub record IsWithin (decoder : Decoder) (following : Following) (setting : Setti
   pub decoded : Decoded decoder (bytes_of past ++ bytes) (events ++ reverse later)
   pub shown : AreShown (bytes_of past) events
   pub makes : Makes setting recovers past earlier
-  pub adds : Adds setting recovers time (past_of events) later earlier items
+  pub adds : Adds setting recovers chunk (past_of events) later earlier items
   pub follows : HasFollowed following setting recovers (map (λ t. t.event) later ++ past_of events) items text
   pub text_is : text ≡ before ++ more
   pub lines_are : lines' ≡ lines ++ more

@@ -12,7 +12,7 @@ pub events-init : goal.events-init
 events-init c = record {
   inside = omega arith;
   count = refl;
-  fed = λ setting recovers past text s. (text, within_start c.args.self.now setting recovers past text c.args.when c.args.lines.now.items c.clear.new.self.items c.clear.ensures s);
+  fed = λ setting recovers past text s. (text, within_start c.args.self.now setting recovers past text c.chunk_of-chunk.result c.args.lines.now.items c.clear.new.self.items c.clear.ensures s);
 }
 
 -- the decoder's clause about an offset, so said
@@ -61,9 +61,9 @@ events-preserved c =
       count = c.events.invariant.count;
       fed = λ setting recovers past text s.
           let w = c.events.invariant.fed setting recovers past text s in
-          let W : List ℕ → Type 0 = λ bs. (told : List ℕ) × IsWithin new c.take.new.self setting recovers past text told c.args.when bs c.args.lines.now.items (c.take.new.lines.items ++ c.take.new.gathered.items) in
+          let W : List ℕ → Type 0 = λ bs. (told : List ℕ) × IsWithin new c.take.new.self setting recovers past text told c.chunk_of-chunk.result bs c.args.lines.now.items (c.take.new.lines.items ++ c.take.new.gathered.items) in
           subst W (sym (take-add at n bytes))
-          (within_more old new c.events.self.following c.take.new.self setting recovers past text w.0 c.args.when offset (take at bytes) (take n more) c.args.lines.now.items (c.events.lines.items ++ c.events.self.gathered.items)
+          (within_more old new c.events.self.following c.take.new.self setting recovers past text w.0 c.chunk_of-chunk.result offset (take at bytes) (take n more) c.args.lines.now.items (c.events.lines.items ++ c.events.self.gathered.items)
           (c.take.new.lines.items ++ c.take.new.gathered.items) event (up_to old new more n offset event counts.0 inside takes)
           (omega (arith, here, size, counts.0, s.counted, c.events.invariant.count))
           (λ raw items h. c.in_ok-take.ensures setting recovers raw items w.0 h) w.1);
@@ -81,8 +81,9 @@ returns c = λ setting recovers past text s.
     subst (λ found. IfNone found (TakesAll old (take (length bytes - at) more) new)) c.in_default.is c.push_into.ensures.none in
     let takes : TakesAll old more new = rw all at none in
     let w = c.events.invariant.fed setting recovers past text s in
-    let rest = within_rest old new c.events.self.following setting recovers past text w.0 c.args.when (take at bytes) more c.args.lines.now.items (c.events.lines.items ++ c.events.self.gathered.items) takes w.1 in
-    let W : List ℕ → Type 0 = λ bs. IsWithin new c.events.self.following setting recovers past text w.0 c.args.when bs c.args.lines.now.items (c.events.lines.items ++ c.events.self.gathered.items) in
-    within_end _ setting recovers past text w.0 c.args.when _ bytes c.args.lines.now.items (c.events.lines.items ++ c.events.self.gathered.items) c.append.new.out.items
+    let rest = within_rest old new c.events.self.following setting recovers past text w.0 c.chunk_of-chunk.result (take at bytes) more c.args.lines.now.items (c.events.lines.items ++ c.events.self.gathered.items) takes w.1 in
+    let W : List ℕ → Type 0 = λ bs. IsWithin new c.events.self.following setting recovers past text w.0 c.chunk_of-chunk.result bs c.args.lines.now.items (c.events.lines.items ++ c.events.self.gathered.items) in
+    within_end _ setting recovers past text w.0 c.args.when c.chunk_of-chunk.result _ bytes c.args.lines.now.items (c.events.lines.items ++ c.events.self.gathered.items) c.append.new.out.items
+    c.chunk_of-chunk.ensures.when (c.chunk_of-chunk.ensures.end ∙ ap (λ (n : ℕ). n + length bytes) s.counted)
     (c.in_ok-append.ensures ∙ ap (λ (t : List ℕ). c.events.lines.items ++ t) c.as_slice.ensures.value) (subst W (take-append-drop at bytes) rest) c.pending.ensures
     (omega (arith, s.counted, c.events.invariant.count)) (omega (arith, s.counted, c.requires.room))

@@ -10,7 +10,7 @@ invariant-events l = record {
   inside : l.taken ≤ length l.bytes;
   count : l.self.count ≡ l.fn.self.count;
   fed : (setting : Setting) (recovers : Bool) (past : List Came) (text : List ℕ) → StandsFor l.fn.self setting recovers past text
-      → (told : List ℕ) × IsWithin l.self.decoder l.self.following setting recovers past text told l.when (take l.taken l.bytes) l.fn.lines.items (l.lines.items ++ l.self.gathered.items);
+      → (told : List ℕ) × IsWithin l.self.decoder l.self.following setting recovers past text told l.chunk (take l.taken l.bytes) l.fn.lines.items (l.lines.items ++ l.self.gathered.items);
 }
 
 abbrev pub decreases-events : goal.decreases-events

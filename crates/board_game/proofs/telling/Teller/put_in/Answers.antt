@@ -37,7 +37,7 @@ events-preserved c =
     let inside : n ≤ length more = rw all at counts.1 in
     let fed = c.events.invariant.fed in
     let begun = c.events.invariant.begun in
-    let time = c.args.when in
+    let time = c.args.chunk in
     let offset = c.args.offset in
     let x : Timed = record { offset = length (take at frames) + (n - 1); event = event } in
     let later : List Timed = fed.0 ++ x ∷ [] in
@@ -80,5 +80,5 @@ returns c = λ setting items text events h whole.
     let shown = c.pending.ensures frames fed.0 decoded in
     let same = (c.shows_once.ensures frames fed.0 whole.0 _ 0 shown whole.1).0 in
     let old = fed.2 setting items text h in
-    let T : List Event → Type 0 = λ es. HasTold c.events.self setting (with_events c.args.when c.args.offset es items) (text ++ old.0) in
+    let T : List Event → Type 0 = λ es. HasTold c.events.self setting (with_events c.args.chunk c.args.offset es items) (text ++ old.0) in
     (old.0, old.1, subst T (ap (λ (ts : List Timed). map (λ (t : Timed). t.event) ts) same ∙ whole.2) old.2)

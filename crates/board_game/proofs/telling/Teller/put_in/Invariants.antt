@@ -13,7 +13,7 @@ invariant-events l = record {
   fed : (timed : List Timed) × Decoded l.decoder (take l.taken l.frames) timed
       × ((setting : Setting) (items : List Item) (text : List ℕ) → HasTold l.fn.self setting items text → (more : List ℕ)
       × (l.lines.items ++ l.gathered.items ≡ (l.fn.lines.items ++ l.fn.gathered.items) ++ more)
-      × HasTold l.self setting (with_events l.when l.offset (map (λ (t : Timed). t.event) timed) items) (text ++ more));
+      × HasTold l.self setting (with_events l.chunk l.offset (map (λ (t : Timed). t.event) timed) items) (text ++ more));
 }
 
 abbrev pub decreases-events : goal.decreases-events

@@ -40,7 +40,7 @@ returns c = λ setting items text h.
     let result = subst R (sym c.session-session.ensures) after in
     let M : List Event → Type 0 = λ es. HasMoved setting es event (moves c.sight.result) in
     let alarms = c.in_ok-take.ensures setting (alarm_items items) h.alarms (subst I same (c.sight.ensures.whole setting past event c.last-picture.result.now (c.last-picture.ensures setting (event ∷ past) seen) shown)) (subst M same (c.sight.ensures.moved setting past event valid shown)) (subst T same taken) result in
-    on_ok_weaker c.tell_end.result (λ endings. told_event c.args.self.now _ setting items text c.args.when x (c.args.lines.now.items ++ c.args.gathered.now.items) c.make_room.new.lines.items c.make_room.new.gathered.items
+    on_ok_weaker c.tell_end.result (λ endings. told_event c.args.self.now _ setting items text c.args.chunk x (c.args.lines.now.items ++ c.args.gathered.now.items) c.make_room.new.lines.items c.make_room.new.gathered.items
     c.watch.new.gathered.items h added seen
     (c.hear.ensures setting past event _ h.heard added.0 stands.settler.folds before shown h.standing)
     alarms endings c.in_ok-make_room.ensures.same)
