@@ -11,7 +11,7 @@ from live.board.recording import Recording
 from live.board.taking_off import take_result_off
 from live.game import answers
 from live.game.answers import BOARD, ILLEGAL, LONG, Said, meaning, whose_move
-from live.game.changing import add_and_make, add_by_name
+from live.game.changing import add_and_make, add_by_name, told_of_next
 from live.game.course import Course
 from live.game.files import Paths
 from live.game.game import Game, end_mark, forget_question, result_in
@@ -81,7 +81,9 @@ def add_before(obeying: Obeying, paths: Paths, text: str, opens: bool) -> Steps[
     program = obeying.games.game.program
     status, answer = yield from obeying.beside(functools.partial(add_by_name, program, paths, text, 0))
     if status == DONE and opens:
+        more = yield from obeying.beside(functools.partial(told_of_next, paths))
         answer += f". Nobody records it now: to go on with it, Ctrl-C, and then dgt_live {obeying.plan.device} {paths.name}"
+        answer += f". {more}" if more else ""
     if status == DONE:
         obeying.screen.say(answer.replace("added to", "added by hand to", 1))
     return status, answer

@@ -259,7 +259,7 @@ class Cable:
         self._unplugged, self._silent, self._unplugged_at = True, False, self._guard.now()
         self._unsure.clear()
         if not self._once and self._hears.standing and self.name:  # a game that is over ends without it; one that isn't played needs none
-            self._screen.say(self._gone())
+            self._screen.cable(self._gone())
         if self._hears.standing:
             self._hears.standing.unplugged(self._unplugged_at, self._connection.is_server)
         if self.number:
@@ -293,7 +293,7 @@ class Cable:
         self._silent = silent
         self._connection.silence(silent)
         if silent:
-            self._screen.say(
+            self._screen.cable(
                 f"no board answers on {self.name}; it is asked again and again. Look at the cable,",
                 "the board's power, whether it is the right device, and whether another program has it open",
             )

@@ -4,7 +4,7 @@ from __future__ import annotations
 
 import functools
 from dataclasses import replace
-from typing import Tuple
+from typing import Sequence, Tuple
 
 from live.board.obeying import Obeying
 from live.board.recording import Recording
@@ -12,13 +12,15 @@ from live.board.setting_up import SettingUp
 from live.game import answers
 from live.game.answers import Said
 from live.game.course import Course
+from live.game.forfeiting import kept_forfeit
 from live.game.game import Game, end_mark
 from live.game.made_anew import ask_first, go_back_closed, put_way, reopen, unforfeited
 from live.game.opening import Opened
 from live.game.reading import game_of, read_game
 from live.game.reply import Answer
+from live.game.report import Move
 from live.game.typed import Back
-from live.game.way_back import ALL, Way, nothing_goes, refuse, way_of
+from live.game.way_back import ALL, NO_RESULT, Way, nothing_goes, refuse, way_of
 from live.refused import DONE
 from live.steps import Steps
 
@@ -27,8 +29,11 @@ TAKEN_OFF = "taken off"
 
 def take_result_off(obeying: Obeying) -> Steps[Answer]:
     """Takes the result off: the game goes on."""
-    game = obeying.games.game
-    if isinstance(obeying.games.now, Recording):
+    games = obeying.games
+    game, course = games.game, games.course
+    if isinstance(games.now, Recording):
+        if course.result == NO_RESULT and not course.plies and kept_forfeit(game.paths):
+            return DONE, _unforfeited(obeying, course.plies)  # its board may be away
         return DONE, (yield from _put(obeying, ALL))
     said = yield from obeying.changed(TAKEN_OFF, lambda: reopen(game, listens=True))
     yield from _go_on(obeying, said)
@@ -68,10 +73,7 @@ def _put(obeying: Obeying, to: str) -> Steps[str]:
     if way.changes_nothing:
         if to != ALL:
             raise nothing_goes(way, to)
-        done = unforfeited(paths, way.plies)
-        obeying.screen.say(done)
-        obeying.hears.placed()
-        return f"{paths.name}: {done}"
+        return _unforfeited(obeying, way.plies)
     yield from obeying.beside(functools.partial(ask_first, paths, way))
     obeying.recorded(TAKEN_OFF).close()
     try:
@@ -81,6 +83,15 @@ def _put(obeying: Obeying, to: str) -> Steps[str]:
         raise
     games.record_anew(opened)
     done = f"{way.words}. {kept}"
+    obeying.screen.say(done)
+    obeying.hears.placed()
+    return f"{paths.name}: {done}"
+
+
+def _unforfeited(obeying: Obeying, plies: Sequence[Move]) -> str:
+    """The game isn't forfeited any more. Returns what was done."""
+    paths = obeying.games.game.paths
+    done = unforfeited(paths, plies)
     obeying.screen.say(done)
     obeying.hears.placed()
     return f"{paths.name}: {done}"

@@ -21,7 +21,7 @@ from live.game.names import today
 from live.game.opening import Opening, checked, read_otherwise
 from live.game.options import Options
 from live.game.program import Program
-from live.game.reply import Answer
+from live.game.reply import OK, REOPENS, Answer
 from live.later import keep_what_is_loaded_later
 from live.loop import Loop, Signals
 from live.refused import DONE, FAILED, REFUSED, Refused, printable
@@ -186,14 +186,18 @@ def answered(answer: Answer) -> Outcome:
 
 def add(call: Call, program: Program) -> Outcome:
     """Changes a game that is recorded, or one that is over, line by line. The first refused line ends this."""
-    from live.game.changing import add_by_name
+    from live.game.changing import add_by_name, told_of_round, told_of_series
 
-    paths = existing_game(call.name)
+    paths, asked = existing_game(call.name), None
     for line in call.typed:
         asked = control.ask(paths.capture, line)
         answered(asked or add_by_name(program, paths, line, LOCK_PATIENCE))
         if not asked:
             publish_anew(paths)
+    last = call.typed[-1].strip().lower()
+    left = [] if asked or last == OK else [told_of_round(paths), told_of_series(paths) if last == REOPENS else ""]
+    for told in filter(None, left):
+        print(printable(f"dgt_live: {told}"))
     return DONE, ()
 
 

@@ -111,7 +111,7 @@ def refuse(said: Said, line: str, place: str) -> Refused:
         return Refused(f"leave out the number in front. {WAYS}")
     ok = OK_NUMBERED.fullmatch(line.strip())
     if ok:
-        return Refused(f"{OK} stands alone. In a round type the board's number in front, as {ok[1]} {OK}")
+        return Refused(f"{OK} stands alone. In the terminal of a round the board's number goes in front, as {ok[1]} {OK}")
     if said.kind in SENTENCES:
         return Refused(SENTENCES[said.kind])
     if said.kind == ILLEGAL:

@@ -4,14 +4,16 @@ from __future__ import annotations
 
 import os
 from dataclasses import replace
-from typing import Tuple
+from typing import Optional, Tuple
+
 from live.game import answers
 from live.game.alarms import acknowledge
 from live.game.answers import BOARD, ILLEGAL, Said, meaning, whose_move
-from live.game.files import Paths, not_written, open_game
+from live.game.file_names import ROUND
+from live.game.files import Paths, existing, not_written, open_game
 from live.game.forfeiting import drop_forfeit, keep_forfeit
 from live.game.forfeits import NO_RESULT, Forfeit, read_typed, refuse_played
-from live.game.game import Game, end_mark, forget_question, keep_options, kept_options, mark_end, result_in
+from live.game.game import Game, end_mark, forget_question, is_unplayed, keep_options, kept_options, mark_end, result_in
 from live.game.log import log_once
 from live.game.made_anew import go_back_closed, made_of, reopen, replace_result
 from live.game.making_pgn import Text, told_of_result
@@ -25,6 +27,8 @@ from live.game.timed import Times
 from live.game.times import ADDED, OVER
 from live.game.typed import WAYS, Acknowledged, Back, Nothing, Quit, Reopened
 from live.refused import DONE, FAILED
+
+LONGEST_NUMBER = 10  # digits of the number of a game in a series
 
 
 def add_to_closed(game: Game, line: str, listens: bool = False) -> Tuple[Said, str]:
@@ -136,3 +140,42 @@ def rename_closed(game: Game, text: str) -> str:
     told += made_of(game, Text(renamed).make(end_mark(game.paths)))
     log_once(game.paths, told)
     return f"{game.paths.name}: {told}"
+
+
+# What is still to be done then.
+
+
+def told_of_round(paths: Paths) -> str:
+    """When the text of its round has what was changed; empty if it is of no round."""
+    of_round = ROUND if paths.folder == "." else f"{paths.folder}/{ROUND}"
+    if not all(os.path.lexists(f"{of_round}.{ending}") for ending in ("log", "pgn")):
+        return ""
+    return f"{of_round}.pgn has it once the round is started again"
+
+
+def told_of_series(paths: Paths) -> str:
+    """How a game of a series goes on, though the next one was begun; empty if it wasn't."""
+    if next_of(paths) is None:
+        return ""
+    first = told_of_next(paths)
+    return f"in a series, go on with it by dgt_live DEVICE {paths.name}, until it is over. {f'{first}. ' if first else ''}Then start the series again"
+
+
+def told_of_next(paths: Paths) -> str:
+    """What to do if the next game of a series has moves of this one; empty if it has no move."""
+    following = next_of(paths)
+    try:
+        if following is None or is_unplayed(existing(following.pgn)):
+            return ""
+    except OSError:
+        return ""
+    return f"If {following.name} has moves of {paths.name}, take them off: dgt_live --back 0 {following.name}"
+
+
+def next_of(paths: Paths) -> Optional[Paths]:
+    """The next game of a series, if it was begun."""
+    name, dash, number = paths.name.rpartition("-")
+    if not (dash and number.isascii() and number.isdigit() and len(number) < LONGEST_NUMBER):
+        return None
+    following = Paths(f"{name}-{int(number) + 1}")
+    return following if os.path.lexists(following.capture) else None

@@ -88,6 +88,7 @@ class RowScreen(Screen):
         self._has_table = terminal is None
         self._held: Optional[List[Tuple[str, ...]]] = None  # what is said while a typed line is obeyed
         self._of_table = False  # whether that line is a result of the table
+        self.needs_board: Callable[[], bool] = lambda: True  # whether its game is played
 
     def say(self, text: str, *more: str) -> None:
         for line in (text, *more):
@@ -96,6 +97,14 @@ class RowScreen(Screen):
             self._shows(text, *more)
         else:
             self._held.append((text, *more))
+
+    def cable(self, text: str, *more: str) -> None:
+        """Shows this if its game is played; else only the log has it."""
+        if self.needs_board():
+            self.say(text, *more)
+        else:
+            for line in (text, *more):
+                self.note(line)
 
     def _shows(self, text: str, *more: str) -> None:
         """Shows this in a line of a pipe, or below the table."""
@@ -221,11 +230,13 @@ class Row:
         self.pairing = pairing
         paths = Paths(f"{hall.folder}/{pairing.file_name}")
         self._screen = RowScreen(pairing.board, hall.terminal, hears)
+        self._screen.needs_board = self._is_played
         self.board = Board(loop, hall.program, self._screen, paths, self)
         self.board.called = f"board {pairing.board}"
         self._device = ""  # the line's device when the recording began
         self._of_line: Tuple[Optional[Pairing], Options] = (None, Options())  # a line, and its options
         self._wants_result = True
+        self._gets_result = False  # whether its game is just getting that of its line
         self._begun_with: Optional[Callable[[], None]] = None  # adds what was typed before its game was open
 
     @property
@@ -338,7 +349,18 @@ class Row:
                 stays = f"its line has {wanted}, and the game ended {self.board.result}: it stays so"
                 self._hears.say_of_table(f"{self.number}: {stays}. To change it, type {self.number} {wanted}")
             else:
-                self.add(wanted, lambda answer: self._hears.say(f"{self.number}: {answer[1]}"), of_table=True)
+                self._gets_result = True
+                self.add(wanted, self._has_result, of_table=True)
+
+    def _has_result(self, answer: Answer) -> None:
+        """What its line says was added, or refused."""
+        self._gets_result = False
+        self._hears.say(f"{self.number}: {answer[1]}")
+
+    def _is_played(self) -> bool:
+        """Whether its game is played: it isn't forfeited, and its line doesn't say so of a game without moves."""
+        is_given = self.pairing.is_forfeited and (self._wants_result or self._gets_result)
+        return not (self.board.forfeit or (is_given and self.board.result == "*" and not self.board.plies))
 
     def add(self, text: str, answered: Callable[[Answer], None], of_table: bool = False) -> None:
         """Adds a result or moves that were typed, or a result of the table, and passes on the answer."""

@@ -47,8 +47,12 @@ class Screen:
         for line in (text, *more):
             self.note(line)
 
+    def cable(self, text: str, *more: str) -> None:
+        """Shows that the board isn't heard, and what to do about its cable."""
+        self.say(text, *more)
+
     def show(self, text: str, *more: str) -> None:
-        """The same, without the log."""
+        """The same as `say`, without the log."""
         self._last.append(text)
         self._print(f"{time_of(self._clock())}  {text}")
         for line in more:

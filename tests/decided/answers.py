@@ -7,7 +7,7 @@ from typing import Any, Dict
 
 from live.game.answers import Said, meaning, read_answer, refuse, whose_move
 from live.game.reply import NO_TEXT, Asked, Helped, Refused, refusal
-from live.game.typed import ALL_WAYS, BOTH_LOSE, WAYS, WHICH_PLY, Back, Typed, read_words, with_more
+from live.game.typed import ALL_WAYS, BOTH_LOSE, WHICH_PLY, Back, Typed, read_words, with_more
 from live.refused import REFUSED
 
 from decided.cases import cases
@@ -60,11 +60,6 @@ def sentences() -> None:
         answer = str(refuse(said_of(said), line, place))
         same(f"{said}, {line!r}", answer, expected)
         same(f"{answer[:20]!r} can be printed", answer.isprintable(), True)
-    for line in ("5 1-0", "5 1/2-1/2", "12  0–1", "3 +-"):
-        same(f"{line} on one board", str(refuse(Said("mixed"), line, "")), f"leave out the number in front. {WAYS}")
-    for line in ("1-0 1-0", "1-0 Nf3"):
-        same(f"{line} on one board", str(refuse(Said("mixed"), line, "")).partition(".")[0], "a result among other words")
-    same("ok 12", str(refuse(Said("unknown", ("0", "ok")), " ok 12", "")), "ok stands alone. In a round type the board's number in front, as 12 ok")
     for said, line, plies, expected in cases("answers", "added"):
         same(f"{line} after {plies}", meaning(said_of(said), line, plies), expected)
     for fen, played, line, before, expected in cases("answers", "whose move"):

@@ -301,7 +301,7 @@ def in_a_series(folder: pathlib.Path) -> None:
     answered(live, f"1/2-1/2 {folder}/round-1", "added by hand to")
     until_game(folder / "round-1", "1. e4 e5 2. Nf3 1/2-1/2")
     nobody = f"Nobody records it now: to go on with it, Ctrl-C, and then dgt_live {board.device} {folder}/round-1"
-    answered(live, f"* {folder}/round-1", nobody)
+    answered(live, f"* {folder}/round-1", f"{nobody}. If {folder}/round-2 has moves of {folder}/round-1, take them off: dgt_live --back 0 {folder}/round-2")
     until_game(folder / "round-1", "1. e4 e5 2. Nf3 *")
     answered(live, f"1/2-1/2 {folder}/round-1", "added by hand to")
     board.play("d7d5")

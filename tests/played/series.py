@@ -1,16 +1,18 @@
 """Games in a row on one board: how one ends and the next begins."""
 
 import pathlib
-from typing import Sequence
+import subprocess
+from typing import Sequence, Tuple
 
 from play_board import BLACK, KING, field
 from played import words
 from played.boards import Board
-from played.recorder import Live
+from played.recorder import LIVE, Live
 from played.stage import (
     a_board,
     begun,
     bytes_of,
+    ended,
     kill,
     movetext,
     recorded,
@@ -221,6 +223,53 @@ def three_games(folder: pathlib.Path) -> None:
     same(stop(live), 0)
     texts = ["1. e4 e5 2. Nf3 Nc6 1-0", "1. d4 d5 2. c4 e6 3. Nc3 Nf6 *", "1. f3 e5 0-1"]
     same([movetext(folder / f"blitz-{number}") for number in (1, 2, 3)], texts)
+
+
+def set_up_by_mistake(folder: pathlib.Path) -> None:
+    """The pieces are set up by mistake, and the players make their moves again from the start: the next game has them. The first one is
+    opened again, and what to do then is said. It goes on to its end, and the next one begins without a move. Where that has none,
+    nothing is said of its moves."""
+    board = a_board(folder)
+    live = Live(board.device, folder / "blitz", "--series")
+    begun(live)
+    one, two = f"{folder}/blitz-1", f"{folder}/blitz-2"
+    moves, text = ["e2e4", "e7e5", "g1f3", "b8c6"], "1. e4 e5 2. Nf3 Nc6"
+    play(board, moves)
+    until_game(one, f"{text} *")
+    rest(1.5)
+    board.set_up([])
+    until_line(live, f'if the game goes on, Ctrl-C, and then dgt_live --add "*" {one}')
+    until(lambda: len(bytes_of(f"{two}.dgt")) >= 67, "the second game")
+    play(board, moves)
+    until_game(two, f"{text} *")
+    same(stop(live), 0)
+    goes_on, then = f"dgt_live: in a series, go on with it by dgt_live DEVICE {one}, until it is over. ", "Then start the series again\n"
+    takes_off = f"If {two} has moves of {one}, take them off: dgt_live --back 0 {two}. "
+    assert changed("--add", "*", one)[1].endswith(goes_on + takes_off + then), "what to do with both games"
+    same(changed("--back", "0", two)[0], 1)
+    same((changed("--back", "0", two)[0], movetext(two)), (0, "*"))
+    live = Live(board.device, one, typed=True)
+    until_line(live, words.AGREES)
+    board.play("f1b5")
+    until_game(one, f"{text} 3. Bb5 *")
+    live.type("1-0")
+    same(ended(live), 0)
+    live = Live(board.device, folder / "blitz", "--series")
+    until_line(live, words.RECORDS)
+    board.set_up([])
+    until_line(live, words.AGREES)
+    board.play("d2d4")
+    until_game(two, "1. d4 *")
+    same(stop(live), 0)
+    same(changed("--add", "0-1", one)[1], f"dgt_live: added to {one}: the result 0-1 after 3. Bb5, 5 plies\n")
+    same((changed("--back", "0", two)[0], movetext(one)), (0, f"{text} 3. Bb5 0-1"))
+    assert changed("--add", "*", one)[1].endswith(goes_on + then), "nothing of moves"
+
+
+def changed(*words_typed: str) -> Tuple[int, str]:
+    """What a call that changes a game says, and its status."""
+    call = subprocess.run([LIVE, *words_typed], stdout=subprocess.PIPE, stderr=subprocess.DEVNULL, text=True)
+    return call.returncode, call.stdout
 
 
 def killed_between_games(folder: pathlib.Path) -> None:

@@ -9,12 +9,14 @@ import subprocess
 from typing import Dict, List
 
 import outside
+from played import words
 from played.ports import free_port
 from played.recorder import Live
 from played.stage import Skipped, bytes_of, check, movetext, same, stop, until, until_line
 from played.hidden import hidden_shots
 from rounds.delayed import DELAY, Delayed
 from rounds.hall import ROUND, Hall, agrees
+from rounds.hall import told as told_of
 from rounds.witness import served, texts_of
 
 from live.round.pairings import read_pairings
@@ -222,6 +224,52 @@ def without_a_board(folder: pathlib.Path) -> None:
     same(stop(live), 0)
 
 
+def boards_put_away(folder: pathlib.Path) -> None:
+    """Nobody is told to plug in the board of a pair that isn't played, or to switch it on: neither if the table says so, nor if that was
+    typed and the board is put away. Of a pair that plays it is said, also if its line has a forfeit that doesn't count."""
+    hall = Hall(folder, 6)
+    for number in (1, 2, 4):
+        hall.boards[number - 1].pull()
+    hall.boards[2].switch_off()
+    hall.extra = {1: ",+-", 2: ",--", 3: ",0-0 FF"}
+    hall.write(header="board,device,white,black,result")
+    live = hall.record(typed=True)
+
+    def says(number: int, part: str) -> bool:
+        """Whether it was said of this board."""
+        return any(line[10:].startswith(f"{number:>3}  ") and part in line for line in live.lines().splitlines())
+
+    for number, told in ((1, "1-0"), (2, "0-0"), (3, "0-0")):
+        until_line(live, f"{number}: {hall.name(number)}: forfeit {told}: it isn't played")
+    until(lambda: says(4, "isn't there: plug it in"), "that board 4 isn't there")
+    until(lambda: agrees(live, 5), "that board 5 agrees")
+    live.type("5 --")
+    until_line(live, f"5: {hall.name(5)}: forfeit 0-0: it isn't played")
+    hall.play(0, 2, [5])
+    until(lambda: says(6, told_of(5, 1)), "what is played on board 6")
+    hall.extra = {1: ",+-", 2: ",--", 3: ",0-0 FF", 6: ",--"}
+    hall.write(header="board,device,white,black,result")
+    live.type("r")
+    until_line(live, "6: refused: --: the game has moves, so it isn't a forfeit")
+    for number in (5, 6):
+        hall.boards[number - 1].pull()
+        until(lambda: says(number, words.UNPLUGGED), f"that board {number} is gone")
+    until(lambda: says(6, "isn't there: plug it in again"), "that board 6 isn't there")
+    until(lambda: says(3, words.SILENT), "that board 3 is silent")
+    same([number for number in range(1, 7) if says(number, "plug it in")], [4, 6])
+    same([number for number in range(1, 7) if says(number, "no board answers")], [])
+    assert b"plug it in" in bytes_of(f"{hall.name(2)}.log"), "the log has it"
+    live.type("2 *")
+    until_line(live, f"2: {hall.name(2)}: the game isn't forfeited any more")
+    live.type("2")
+    until_line(live, " 2: UNPLUGGED")
+    hall.boards[1].plug()
+    until(lambda: agrees(live, 2), "that board 2 agrees")
+    hall.boards[1].pull()
+    until(lambda: says(2, "isn't there: plug it in again"), "that board 2 isn't there, and is played")
+    same(stop(live), 0)
+
+
 def lines_without_a_device(_: pathlib.Path) -> None:
     """In a table that names devices, a forfeited pair needs none; a pair that has another result, or none yet, does."""
     read = read_pairings(b"board,device,white,black,result\n1,,A,B,+-\n2,,C,D,- +\n3,,E,F,0-0 FF\n4,,G,H,1-0\n5,,I,J,--\n6,,K,L,\n")
@@ -229,4 +277,4 @@ def lines_without_a_device(_: pathlib.Path) -> None:
     same([wrong.board for wrong in read.wrong], [4, 6])
 
 
-CASES = [not_played, late_forfeits, by_command, results_in_a_table, without_a_board, lines_without_a_device]
+CASES = [not_played, late_forfeits, by_command, results_in_a_table, without_a_board, boards_put_away, lines_without_a_device]

@@ -71,6 +71,7 @@ def result_of_the_kings_replaced(folder: pathlib.Path) -> None:
     added = subprocess.run([LIVE, "--add", "1-0", hall.name(4)], stdout=subprocess.PIPE, stderr=subprocess.PIPE, text=True)
     same((added.returncode, added.stderr, hall.text(4)), (0, "", WON))
     assert "What the board had sent is kept in" in added.stdout, added.stdout
+    assert added.stdout.endswith(f"dgt_live: {hall.games}/round.pgn has it once the round is started again\n"), added.stdout
     again = hall.record(typed=True)
     for number in (1, 2, 3, 4):
         hall.until_over(again, number, "1-0")

@@ -5,7 +5,8 @@ import { ProgramError } from './program.js';
 import { Refused, WAYS, shortened } from './typed.js';
 
 const TOO_LONG = 'input: too long';
-const NUMBERED = /^[0-9]+\s+[A-Za-z*]/; // a line that begins as in a round
+const NUMBERED = /^[0-9]+\s+(?:[A-Za-z*]|[01½][-–—−:/.]|[+-][+-])/; // a line that begins as in a round
+const OK_NUMBERED = /^ok\s+([0-9]+)$/i;
 const NUMBER = /^[0-9]+\.+/; // of a move
 
 const NOTHING_ADDED = 'Nothing was added';
@@ -48,6 +49,8 @@ function whatEnds(plies) {
 /** Why a line adds nothing. `place` says who is to move, where a move isn't legal. */
 export function refuse({ kind, words }, line, place) {
   if (NUMBERED.test(line.trim()) && ['unknown', 'mixed'].includes(kind)) return new Refused(`leave out the number in front. ${WAYS}`);
+  const [, number] = OK_NUMBERED.exec(line.trim()) || [];
+  if (number) return new Refused(`ok stands alone. In the terminal of a round the board's number goes in front, as ${number} ok`);
   if (Object.hasOwn(SENTENCES, kind)) return new Refused(SENTENCES[kind]);
   if (kind === 'illegal') return new Refused(`${words[1]} is no legal move: ${place}. ${NOTHING_ADDED}`);
   if (kind === 'meant') return new Refused(`${writtenSo(words[1], words[2])}. ${NOTHING_ADDED}`);
