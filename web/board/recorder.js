@@ -8,7 +8,7 @@ import { textOfLook } from '../game/looks.js';
 import { dayOf } from '../game/names.js';
 import { ofLive } from '../game/options.js';
 import { ProgramError } from '../game/program.js';
-import { gameOf, newCourse, publishedOf, textOf } from '../game/reading.js';
+import { gameOf, hasAlone, newCourse, publishedOf, textOf } from '../game/reading.js';
 import { codesOf, shortOf, shownOf, wordsOf } from '../game/report.js';
 import { ABSENT, Refused } from '../game/typed.js';
 import { ADDED, ASKED, BACK, HEARD, LOOKED, OVER, REOPENED, SUSPECT, isOf, kept as foundIn } from '../game/times.js';
@@ -614,9 +614,15 @@ export class Recorder {
     await this.keepGame();
   }
 
-  /** The game stays over, and ends with this ply; what came up to its earlier end counts no more. */
-  endWith(stays, looks) {
-    const end = stays > 0 ? this.course.settledAt[stays - 1] + 1 : 0;
+  /** How many bytes of its capture give so many of its plies alone; null if those up to the last of them give more. */
+  async endBehind(stays) {
+    const { plies, settledAt } = this.course;
+    const end = stays > 0 ? settledAt[stays - 1] + 1 : 0;
+    return (await hasAlone(this.calls, this.options, this.capture.bytes(end), plies.slice(0, stays))) ? end : null;
+  }
+
+  /** The game stays over, and ends with this byte; what came up to its earlier end counts no more. */
+  endWith(end, looks) {
     this.game = { ...this.game, end, overTo: Math.max(this.game.end, this.overTo), looks };
     this.reread();
     const done = this.keepGame();

@@ -22,6 +22,12 @@ export async function gameOf(program, options, sent) {
   return course;
 }
 
+/** Whether the game of these bytes has these plies alone, and no result. */
+export async function hasAlone(program, options, sent, plies) {
+  const game = await gameOf(program, options, sent);
+  return game.result === '*' && game.plies.length === plies.length && plies.every(({ san }, at) => game.plies[at].san === san);
+}
+
 /** The PGN of these bytes, as it is published; of a game that was forfeited so, if it has no move. */
 export async function textOf(program, options, sent, forfeit = '') {
   const whole = await program.whole(options, sent);
