@@ -1,14 +1,14 @@
 // The games of one board while it is recorded. What came is kept first, then reported; and when the game has changed, the program
 // that attends its board gives its PGN.
 
-import { joined, lastDump, same } from '../device/protocol.js';
+import { dumpsIn, joined, same } from '../device/protocol.js';
 import { Alarms, ISNT_OVER, acknowledged, lookAfterEnd, lookCorrected } from '../game/alarms.js';
 import { countingForfeit } from '../game/forfeits.js';
 import { textOfLook } from '../game/looks.js';
 import { dayOf } from '../game/names.js';
 import { ofLive } from '../game/options.js';
 import { ProgramError } from '../game/program.js';
-import { gameOf, hasAlone, newCourse, publishedOf, textOf } from '../game/reading.js';
+import { NO_PLIES, hasAlone, newCourse, publishedOf, standsAt, textOf } from '../game/reading.js';
 import { codesOf, shortOf, shownOf, wordsOf } from '../game/report.js';
 import { ABSENT, Refused } from '../game/typed.js';
 import { ADDED, ASKED, BACK, HEARD, LOOKED, OVER, REOPENED, SUSPECT, isOf, kept as foundIn } from '../game/times.js';
@@ -23,7 +23,6 @@ import { Typing } from './typing.js';
 import { another, back as backAgain, mayTake } from './whose.js';
 
 const TICK = 1.0; // seconds between two looks at what waits
-const NO_PLIES = '0';
 const ROOM = 1 << 20; // bytes that are left for what `recover` adds: the program reads no more than LARGEST
 const SAID = [Kind.WRONG, Kind.NO_START]; // states that are reported as lines too
 const UNSEEN = ['UNPLUGGED', 'SILENT', 'WAITS']; // states in which the board may have shown nothing
@@ -676,7 +675,7 @@ export class Recorder {
     const content = this.capture.bytes();
     const { kind, put } = readBack(await this.calls.back(this.options, content.slice(0, bytes), NO_PLIES));
     if (!put) throw new ProgramError(`back has refused the start: ${kind}`);
-    return joined(lastDump(put), content.slice(bytes));
+    return joined(dumpsIn(put).at(-1), content.slice(bytes));
   }
 
   /** The next game begins with the start, which the board has shown since this byte. */
@@ -707,15 +706,14 @@ export class Recorder {
 
   /**
    * Somebody wants the next game, whatever the board shows; with { options, name }, if given. If the pieces stand as after
-   * a first move, the game begins with it only if `takesMove`; else it waits until they are set up.
+   * a first move, the game begins with it only if `takesMove`; else, or if the kings show a result, it waits until they are set up.
    */
   async nextGame(given = {}, takesMove = false) {
     await this.typing.exclusively(async () => {
       if (!this.isOver && this.course.result !== '*') this.closeGame(this.capture.size, Reason.RESULT);
-      const dump = lastDump(this.capture.bytes());
-      const { plies } = await gameOf(this.calls, given.options || this.options, dump);
-      if (plies.length > 0 && !takesMove) {
-        this.awaitStart(given, shortOf(plies[0]));
+      const { dump, shows } = await standsAt(this.calls, given.options || this.options, this.capture.bytes());
+      if (!dump || (shows && !takesMove)) {
+        this.awaitStart(given, shows);
         return;
       }
       const ended = this.isOver ? this.game : { ...this.game, end: this.capture.size };
@@ -725,10 +723,10 @@ export class Recorder {
   }
 
   /** The next game, with { options, name } if given, begins when the pieces are set up. */
-  awaitStart(given, move) {
+  awaitStart(given, shows) {
     this.knows({ next: given });
     if (!this.isOver) this.closeGame(this.capture.size, Reason.NEXT);
-    this.hears.says(`the board stands as after ${move}: set up the pieces, and the next game begins`);
+    this.hears.says(`the board ${shows}: set up the pieces, and the next game begins`);
     this.hears.changed();
   }
 

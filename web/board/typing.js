@@ -1,11 +1,12 @@
 // What somebody types for a board that is recorded, or whose game is over. The program decides what it means; here its
 // answers come into the capture.
 
-import { joined, lastDump } from '../device/protocol.js';
+import { dumpsIn, joined } from '../device/protocol.js';
 import { meaning, readAnswer, refuse, whoseMove } from '../game/answers.js';
 import { BOTH, resultOf, whyPlayed, wordsOfForfeit } from '../game/forfeits.js';
 import { shortOfLook } from '../game/looks.js';
 import { optionsOf } from '../game/options.js';
+import { NO_PLIES } from '../game/reading.js';
 import { shortOf } from '../game/report.js';
 import { Asked, HELP, Refused, readWords, refusal } from '../game/typed.js';
 import { isStillShown, question, reached, readBack, refuseBack, refuseNothing, settled, wordsOfBack, wordsOfGoingOn } from '../game/way_back.js';
@@ -15,7 +16,6 @@ const TRIES = 4; // calls for one line, if the board sends something while each 
 const REOPENS = Symbol('a result is to be taken off');
 const INSTEAD = Symbol('the line may be a result in the place of another one');
 const AGAIN = Symbol('the board has sent something meanwhile');
-const NO_PLIES = '0';
 const ENDING = 'the game has just ended, or begins anew with the pieces at the start. Nothing was done: look, and type it again';
 const PLAYED_AFTER_ALL = 'the game isn\'t forfeited any more';
 const STAYS_OVER = 'The board still shows it, so the game stays over';
@@ -221,7 +221,7 @@ export class Typing {
     return this.decided(decide, async ({ shown, cut, added, stood }) => {
       if (shown.kind === 'signed') throw refuseBack(shown, outcome, plies);
       if (cut === null || !added.put || !stood) throw refuse({ kind: 'board', words: [] }, outcome, '');
-      await this.recorder.endsAnew(cut, added.put, lastDump(stood));
+      await this.recorder.endsAnew(cut, added.put, dumpsIn(stood).at(-1));
       return `added by hand: ${meaning(added, outcome, plies.map(shortOf))}; the result ${result} is gone. ${KEPT}`;
     });
   }
