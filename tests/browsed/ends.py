@@ -7,6 +7,7 @@ from browsed.hall import Hall, Port
 from browsed.page import Page
 from browsed.series import movetext_of
 from browsed.stage import with_chromium
+from played.recovered import hurried
 from played.stage import same
 
 PLAYED = "LOOK after 1... e5"
@@ -167,3 +168,31 @@ def over_by_what_was_kept(folder: pathlib.Path) -> None:
         play(stage, page, port, QUEENS[:1], QUEENS_SANS[:1])
         texts = stage.saved(page, "#save-round").decode().replace("\n", " ")
         assert "1. e4 e5 2. Nf3 Nc6 *" in texts and "1. d4 *" in texts, texts
+
+
+@with_chromium
+def back_into_a_pair(folder: pathlib.Path) -> None:
+    """The last three plies of a game that is over came at once: a pair that two hands hid, and the move that confirms it. The page
+    doesn't take off that move alone while the board shows it, since what the board had sent up to there gives it too. With a king
+    lifted, the move goes and the pair stays."""
+    with Hall(folder) as stage:
+        page, port = begin(stage)
+        until_agrees(stage, page)
+        page.click("#recover")
+        play(stage, page, port, RUY[:2], RUY_SANS[:2])
+        hurried(port.board)
+        stage.until_dumped(page, port)
+        port.board.play(RUY[4])
+        stage.until_moves(page, RUY_SANS[:5])
+        answered(stage, page, "1-0", "added by hand: the result 1-0")
+        until_over(stage, page)
+        page.type("back")
+        stage.until(lambda: not page.text("#answer").startswith("added"), "an answer")
+        told = "refused: the board still shows 3. Bb5: it would come back at once. If other moves were played, lift a king"
+        assert page.text("#answer").startswith(told), page.text("#answer")
+        same((page.text("#state"), page.moves), ("over", RUY_SANS[:5]))
+        same(movetext_of(stage.saved(page, "#save-game")), "1. e4 e5 2. Nf3 Nc6 3. Bb5 1-0")
+        port.board.lift("e1")
+        stage.until_dumped(page, port)
+        answered(stage, page, "back", "back to 2... Nc6; taken off: 3. Bb5; the result 1-0 is gone. What the board had sent is kept")
+        stage.until_moves(page, RUY_SANS[:4])

@@ -8,6 +8,7 @@ from browsed.hall import Hall, Port
 from browsed.page import Page
 from browsed.series import movetext_of
 from browsed.stage import with_chromium
+from played.recovered import hurried
 from played.stage import same
 
 SHOWN = "the board still shows the result 1/2-1/2. Put the kings where they belong, and type it again"
@@ -98,3 +99,23 @@ def replaced_before_moves(folder: pathlib.Path) -> None:
         stage.until_moves(page, RUY_SANS[:4])
         game, capture = stage.saved(page, "#save-game"), stage.saved(page, "#save-capture")
         same((movetext_of(game), game), ("1. e4 e5 2. Nf3 Nc6 *", of_record(game, capture)))
+
+
+@with_chromium
+def replaced_beside_a_pair(folder: pathlib.Path) -> None:
+    """The kings have confirmed two moves that two hands hid, so the game has these with their result alone: another one is refused, also
+    when the game is over and the kings are where they belong, and the game keeps its own."""
+    with Hall(folder) as stage:
+        page, port = begin(stage)
+        until_agrees(stage, page)
+        page.click("#recover")
+        play(stage, page, port, RUY[:2], RUY_SANS[:2])
+        hurried(port.board)
+        stage.until_dumped(page, port)
+        draws(stage, page, port)
+        stage.until_moves(page, RUY_SANS[:4])
+        until_over(stage, page)
+        kings_go_home(stage, page, port)
+        answered(stage, page, "1-0", "refused: 1-0: what the board shows would change the game. Set the pieces as they stand after")
+        same((page.text("#state"), page.moves), ("over", RUY_SANS[:4]))
+        same(movetext_of(stage.saved(page, "#save-game")), "1. e4 e5 2. Nf3 Nc6 1/2-1/2")

@@ -60,8 +60,6 @@ def new_round(folder: pathlib.Path) -> None:
         played_on(stage, page, second, QUEENS, QUEENS_SANS)
         page.type("Carl", "#white")
         page.type("Dora", "#black")
-        for port in (first, second):
-            stage.until_dumped(page, port)  # a new game begins with the last dump: no ply of it may lead there
         page.click("#new-round")
         stage.until(lambda: page.field("#round-number") == "4", "the number of the next round")
         stage.until_part(page, "#round-ends", "Board 2: the game has no result")
@@ -191,6 +189,66 @@ def first_move_on_the_board(folder: pathlib.Path) -> None:
         play(stage, page, port, QUEENS[1:2], QUEENS_SANS[1:2])
         told = games(stage.saved(page, "#save-round"))
         same([[game["White"], game["moves"]] for game in told], [["Anna", "1. e4 *"], ["Carl", "1. d4 *"], ["Carl", "1. d4 d5 *"]])
+
+
+GARBLED = bytes([0x86, 0, 67]) + bytes([16]) * 64  # no dump: the last code is 15
+
+
+def until_next_game(stage: Hall, page: Page) -> None:
+    """The next game, which has no move, or that it waits for its start."""
+    stage.until(lambda: not page.moves or page.text("#state").startswith("over: set up the pieces"), "the next game")
+
+
+def answers_at_once(port: Port) -> None:
+    port.board.answers_after = 0.0
+    port.board.answers.clear()
+
+
+@with_chromium
+def next_game_as_it_stands(folder: pathlib.Path) -> None:
+    """The next game is asked for. It begins with the board as it stands, though the last dump is older; and it waits if the board shows
+    a first move, though bytes that are no dump came since, or a result."""
+    with Hall(folder) as stage:
+        page, port = begin(stage)
+        until_agrees(stage, page)
+        play(stage, page, port, RUY[:1], RUY_SANS[:1])
+        stage.until_dumped(page, port)
+        port.board.answers_after = 60.0
+        play(stage, page, port, RUY[1:2], RUY_SANS[1:2])
+        page.click("#next-game")
+        page.click("#next-game")
+        until_next_game(stage, page)
+        same((page.moves, page.kept(1)[:67]), ([], port.board.dump()))
+        answers_at_once(port)
+        port.board.set_up([])
+        until_agrees(stage, page)
+        play(stage, page, port, QUEENS[:1], QUEENS_SANS[:1])
+        stage.until_dumped(page, port)
+        port.board.answers_after = 60.0
+        port.board.send(GARBLED)
+        stage.until(lambda: GARBLED in page.kept(1), "what is no dump")
+        page.click("#next-game")
+        page.click("#next-game")
+        until_next_game(stage, page)
+        same(page.moves, QUEENS_SANS[:1])
+        page.click("#next-game")
+        stage.until_text(page, "#next-game", "Next game")
+        stage.until_moves(page, QUEENS_SANS[:1])
+        same(page.kept(1)[:67], port.board.dump())
+        answers_at_once(port)
+        stage.rest(3)
+        port.board.set_up([])
+        stage.until_moves(page, [])
+        until_agrees(stage, page)
+        port.board.kings_in_centre("d4", "d5")
+        stage.until_part(page, "#state", "result 1/2-1/2")
+        page.click("#next-game")
+        stage.until_text(page, "#state", "over: set up the pieces for the next game")
+        assert any("the board shows the result 1/2-1/2: set up the pieces" in line for line in page.messages), page.describe()
+        port.board.set_up([])
+        until_agrees(stage, page)
+        texts = stage.saved(page, "#save-round")
+        same([game["moves"] for game in games(texts)], ["1. e4 e5 *", "1. d4 *", "1. d4 *", "1/2-1/2"])
 
 
 @with_chromium

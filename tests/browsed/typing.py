@@ -446,7 +446,8 @@ def fill(stage: Hall, page: Page, total: int) -> None:
 
 @with_chromium
 def limits(folder: pathlib.Path) -> None:
-    """A game may have 64 MiB; with Recover moves 63, since that needs room. The page says which, and keeps all that is within."""
+    """A game may have 64 MiB; with Recover moves 63, since that needs room. The page says which, and keeps all that is within.
+    Then somebody begins the next game."""
     with Hall(folder) as stage:
         page, port = begin(stage)
         until_agrees(stage, page)
@@ -461,6 +462,8 @@ def limits(folder: pathlib.Path) -> None:
         stage.until(lambda: any("its capture has 64 MiB, and none may have more" in line for line in page.messages), "the limit")
         stage.until(lambda: page.value(SIZE) == 64 * MIB, "a capture that is full")
         stage.until_moves(page, RUY_SANS[:3])
+        page.click("#next-game")
+        stage.until_moves(page, [])
 
 
 @with_chromium

@@ -1,7 +1,7 @@
 """What somebody is to look at, in words, and how it is kept."""
 
 import tempfile
-from typing import List, Tuple
+from typing import List, Sequence
 
 from live.game.alarms import Alarms, kept_looks
 from live.game.attended import Answers, Doubt
@@ -10,35 +10,34 @@ from live.game.files import Paths
 from live.game.looks import OVER, Look, Looks
 from live.game.report import Move
 
+from decided.cases import cases
 from decided.table import same
 
 PLIES = [Move("1.", "e4"), Move("1...", "e5"), Move("2.", "Nf3", "0:09:58")]
-# Lines of the program, and what they say on the screen in a game of these plies.
-SAID: List[Tuple[str, str]] = [
-    ("look at 3 LATE", "LOOK at 2. Nf3: it corrects a move late, so moves may be missing: compare with the score sheets"),
-    ("look at 1 ELSEWHERE", "LOOK at 1. e4: pieces of the other side were on other squares before it, so moves may be missing: compare with the score sheets"),
-    ("look after 2 BOTH-ELSEWHERE", "LOOK after 1... e5: pieces of both sides were on other squares, so moves may be missing: compare with the score sheets"),
-    ("look after 3 AFTER-GAP", "LOOK after 2. Nf3: the board wasn't heard for a time, so moves may be missing: compare with the score sheets"),
-    ("look at 3 TAKEN-BACK", "LOOK at 2. Nf3: both players went straight back: if they took their moves back, take them off here too"),
-    ("look at 3 UNPRESSED", "LOOK at 2. Nf3: six moves were made and nobody pressed the clock: if the game is over, take them off here"),
-    ("look at 3 OTHER-TIME", "LOOK at 2. Nf3: players think while the other side's time runs: the clock may lie the other way round"),
-    ("look at 3 NEW-WORD", "LOOK at 2. Nf3: moves may be missing: compare with the score sheets"),
-    ("look after 4 LATE", "LOOK after ply 4: it corrects a move late, so moves may be missing: compare with the score sheets"),
-    ("look since 2 STOPPED 1", "LOOK since 1... e5: a move was made while the clock was stopped: if the players only tried it, take it off here"),
-    ("look since 2 STOPPED 3", "LOOK since 1... e5: 3 moves were made while the clock was stopped: if the players only tried them, take them off here"),
-    ("look since 0 STOPPED 2", "LOOK since the start: 2 moves were made while the clock was stopped: if the players only tried them, take them off here"),
-]
+
+
+def looks_of(text: str, plies: Sequence[Move]) -> List[Look]:
+    """What a line of the program says in a game of these plies."""
+    (answer,) = Answers().take(f"keep\n{text}\ndone -\n".encode())
+    return [look_of(doubt, plies) for doubt in answer.doubts]
 
 
 def words() -> None:
     """What is said of the program's lines."""
-    for text, expected in SAID:
-        (answer,) = Answers().take(f"keep\n{text}\ndone -\n".encode())
-        same(text, [look_of(doubt, PLIES).text for doubt in answer.doubts], [expected])
+    for text, expected in cases("doubts", "said"):
+        same(text, [look.text for look in looks_of(text, PLIES)], [expected])
     (answer,) = Answers().take(b"keep\nlook at 3 LATE\nlook SUSPECT 3\ndone 5\n")
     same("two of them", answer.doubts, [Doubt("at", 3, "LATE"), Doubt("SUSPECT", 3, "SUSPECT")])
-    two, three = (look_of(Doubt("since", 2, "STOPPED", count), PLIES) for count in (2, 3))
-    same("another move while the clock is stopped", Looks().with_one_more(two).with_one_more(three).open, (three,))
+
+
+def corrected() -> None:
+    """What is open if a ply becomes another one."""
+    for name, steps, expected in cases("doubts", "corrected"):
+        looks = Looks()
+        for last, text in steps:
+            for look in looks_of(text, [*PLIES[:2], Move(*last.split(" "))]):
+                looks = looks.with_one_more(look)
+        same(name, [look.text for look in looks.open], expected)
 
 
 def places() -> None:
@@ -74,4 +73,4 @@ def kept() -> None:
     same("an old file", Looks.of_content(b"what is this?\n").short, "LOOK at the game")
 
 
-TABLES = [words, places, kept]
+TABLES = [words, corrected, places, kept]

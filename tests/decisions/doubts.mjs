@@ -1,7 +1,7 @@
 /** Which alarms of the program are open in a game, and what they say. */
 import { Alarms, lookOf } from "/web/game/alarms.js";
 import { Answers } from "/web/game/attended.js";
-import { lookAt, textOfLook } from "/web/game/looks.js";
+import { Looks, lookAt, textOfLook } from "/web/game/looks.js";
 import { eventOf } from "/web/game/report.js";
 
 const PLIES = ["move 1. e4", "move 1... e5", "move 2. Nf3"].map(eventOf);
@@ -28,23 +28,34 @@ export function said(counts, cases) {
   counts.same("a suspicion isn't about the third ply", suspected.what, "at the cable");
 }
 
+export function corrected(counts, cases) {
+  for (const [name, steps, expected] of cases("corrected")) {
+    const seen = steps.flatMap(([last, line]) => {
+      const plies = [...PLIES.slice(0, 2), eventOf(`move ${last}`)];
+      return raisedIn(line.replace("look ", "")).map((raised) => lookOf(raised, plies));
+    });
+    const { open } = seen.reduce((looks, look) => looks.withOneMore(look), new Looks());
+    counts.same(name, open.map(textOfLook), expected);
+  }
+}
+
 /** Alarms that were kept; the lines of the program then; what is open, and what of it is new. */
 export function opened(counts) {
-  const kept = { ply: lookAt("at 2. Nf3", GAP, "at 3"), cable: lookAt("at the cable", "its own board is back", "cable") };
+  const kept = { ply: lookAt("at 2. Nf3", GAP), cable: lookAt("at the cable", "its own board is back", "cable") };
   for (const [name, before, lines, open, news] of [
     ["nothing", [], [], [], []],
     ["one", [], ["at 3 AFTER-GAP"], [`at 2. Nf3: ${GAP}`], [`at 2. Nf3: ${GAP}`]],
     ["the kept one stands once", [kept.ply], ["at 3 AFTER-GAP"], [`at 2. Nf3: ${GAP}`], []],
-    ["an older page has kept it", [lookAt("at 2. Nf3", GAP)], ["at 3 AFTER-GAP"], [`at 2. Nf3: ${GAP}`], []],
+    ["an older page has kept it", [lookAt("at 2. Nf3", GAP, "at 3")], ["at 3 AFTER-GAP"], [`at 2. Nf3: ${GAP}`], []],
     ["the program has less: all stay", [kept.ply, kept.cable], [], [`at 2. Nf3: ${GAP}`, "at the cable: its own board is back"], []],
     ["one more", [kept.cable], ["after 2 LATE"], ["at the cable: its own board is back", `after 1... e5: ${LATE}`], [`after 1... e5: ${LATE}`]],
-    ["the ply is another move now", [lookAt("at 2. Nc3", GAP, "at 3")], ["at 3 AFTER-GAP"], [`at 2. Nf3: ${GAP}`], [`at 2. Nf3: ${GAP}`]],
+    ["the ply is another move now", [lookAt("at 2. Nc3", GAP)], ["at 3 AFTER-GAP"], [`at 2. Nc3: ${GAP}`, `at 2. Nf3: ${GAP}`], [`at 2. Nf3: ${GAP}`]],
     ["two about one ply: the later one counts", [], ["at 3 LATE", "at 3 AFTER-GAP"], [`at 2. Nf3: ${GAP}`], [`at 2. Nf3: ${GAP}`]],
     ["and is no news when both are said again", [kept.ply], ["at 3 LATE", "at 3 AFTER-GAP"], [`at 2. Nf3: ${GAP}`], []],
     ["at a ply and after it", [kept.ply], ["after 3 AFTER-GAP"], [`at 2. Nf3: ${GAP}`, `after 2. Nf3: ${GAP}`], [`after 2. Nf3: ${GAP}`]],
     [
       "another move while the clock is stopped",
-      [lookAt("since 1. e4", "a move was made while the clock was stopped: if the players only tried it, take it off here", "since 1")],
+      [lookAt("since 1. e4", "a move was made while the clock was stopped: if the players only tried it, take it off here", "clock 1. e4")],
       ["since 1 STOPPED 2"],
       ["since 1. e4: 2 moves were made while the clock was stopped: if the players only tried them, take them off here"],
       ["since 1. e4: 2 moves were made while the clock was stopped: if the players only tried them, take them off here"],

@@ -1,14 +1,14 @@
 // The games of one board while it is recorded. What came is kept first, then reported; and when the game has changed, the program
 // that attends its board gives its PGN.
 
-import { joined, lastDump, same } from '../device/protocol.js';
+import { dumpsIn, joined, same } from '../device/protocol.js';
 import { Alarms, ISNT_OVER, acknowledged, lookAfterEnd, lookCorrected } from '../game/alarms.js';
 import { countingForfeit } from '../game/forfeits.js';
 import { textOfLook } from '../game/looks.js';
 import { dayOf } from '../game/names.js';
 import { ofLive } from '../game/options.js';
 import { ProgramError } from '../game/program.js';
-import { gameOf, newCourse, publishedOf, textOf } from '../game/reading.js';
+import { NO_PLIES, hasAlone, newCourse, publishedOf, standsAt, textOf } from '../game/reading.js';
 import { codesOf, shortOf, shownOf, wordsOf } from '../game/report.js';
 import { ABSENT, Refused } from '../game/typed.js';
 import { ADDED, ASKED, BACK, HEARD, LOOKED, OVER, REOPENED, SUSPECT, isOf, kept as foundIn } from '../game/times.js';
@@ -23,7 +23,6 @@ import { Typing } from './typing.js';
 import { another, back as backAgain, mayTake } from './whose.js';
 
 const TICK = 1.0; // seconds between two looks at what waits
-const NO_PLIES = '0';
 const ROOM = 1 << 20; // bytes that are left for what `recover` adds: the program reads no more than LARGEST
 const SAID = [Kind.WRONG, Kind.NO_START]; // states that are reported as lines too
 const UNSEEN = ['UNPLUGGED', 'SILENT', 'WAITS']; // states in which the board may have shown nothing
@@ -605,9 +604,15 @@ export class Recorder {
     await this.keepGame();
   }
 
-  /** The game stays over, and ends with this ply; what came up to its earlier end counts no more. */
-  endWith(stays, looks) {
-    const end = stays > 0 ? this.course.settledAt[stays - 1] + 1 : 0;
+  /** How many bytes of its capture give so many of its plies alone; null if those up to the last of them give more. */
+  async endBehind(stays) {
+    const { plies, settledAt } = this.course;
+    const end = stays > 0 ? settledAt[stays - 1] + 1 : 0;
+    return (await hasAlone(this.calls, this.options, this.capture.bytes(end), plies.slice(0, stays))) ? end : null;
+  }
+
+  /** The game stays over, and ends with this byte; what came up to its earlier end counts no more. */
+  endWith(end, looks) {
     this.game = { ...this.game, end, overTo: Math.max(this.game.end, this.overTo), looks };
     this.reread();
     const done = this.keepGame();
@@ -661,7 +666,7 @@ export class Recorder {
     const content = this.capture.bytes();
     const { kind, put } = readBack(await this.calls.back(this.options, content.slice(0, bytes), NO_PLIES));
     if (!put) throw new ProgramError(`back has refused the start: ${kind}`);
-    return joined(lastDump(put), content.slice(bytes));
+    return joined(dumpsIn(put).at(-1), content.slice(bytes));
   }
 
   /** The next game begins with the start, which the board has shown since this byte. */
@@ -692,15 +697,14 @@ export class Recorder {
 
   /**
    * Somebody wants the next game, whatever the board shows; with { options, name }, if given. If the pieces stand as after
-   * a first move, the game begins with it only if `takesMove`; else it waits until they are set up.
+   * a first move, the game begins with it only if `takesMove`; else, or if the kings show a result, it waits until they are set up.
    */
   async nextGame(given = {}, takesMove = false) {
     await this.typing.exclusively(async () => {
       if (!this.isOver && this.course.result !== '*') this.closeGame(this.capture.size, Reason.RESULT);
-      const dump = lastDump(this.capture.bytes());
-      const { plies } = await gameOf(this.calls, given.options || this.options, dump);
-      if (plies.length > 0 && !takesMove) {
-        this.awaitStart(given, shortOf(plies[0]));
+      const { dump, shows } = await standsAt(this.calls, given.options || this.options, this.capture.bytes());
+      if (!dump || (shows && !takesMove)) {
+        this.awaitStart(given, shows);
         return;
       }
       const ended = this.isOver ? this.game : { ...this.game, end: this.capture.size };
@@ -710,10 +714,10 @@ export class Recorder {
   }
 
   /** The next game, with { options, name } if given, begins when the pieces are set up. */
-  awaitStart(given, move) {
+  awaitStart(given, shows) {
     this.knows({ next: given });
     if (!this.isOver) this.closeGame(this.capture.size, Reason.NEXT);
-    this.hears.says(`the board stands as after ${move}: set up the pieces, and the next game begins`);
+    this.hears.says(`the board ${shows}: set up the pieces, and the next game begins`);
     this.hears.changed();
   }
 

@@ -1,11 +1,12 @@
 // What somebody types for a board that is recorded, or whose game is over. The program decides what it means; here its
 // answers come into the capture.
 
-import { joined, lastDump } from '../device/protocol.js';
+import { dumpsIn, joined } from '../device/protocol.js';
 import { meaning, readAnswer, refuse, whoseMove } from '../game/answers.js';
 import { BOTH, resultOf, whyPlayed, wordsOfForfeit } from '../game/forfeits.js';
 import { shortOfLook } from '../game/looks.js';
 import { optionsOf } from '../game/options.js';
+import { NO_PLIES } from '../game/reading.js';
 import { shortOf } from '../game/report.js';
 import { Asked, HELP, Refused, readWords, refusal } from '../game/typed.js';
 import { isStillShown, question, reached, readBack, refuseBack, refuseNothing, settled, wordsOfBack, wordsOfGoingOn } from '../game/way_back.js';
@@ -15,7 +16,6 @@ const TRIES = 4; // calls for one line, if the board sends something while each 
 const REOPENS = Symbol('a result is to be taken off');
 const INSTEAD = Symbol('the line may be a result in the place of another one');
 const AGAIN = Symbol('the board has sent something meanwhile');
-const NO_PLIES = '0';
 const ENDING = 'the game has just ended, or begins anew with the pieces at the start. Nothing was done: look, and type it again';
 const PLAYED_AFTER_ALL = 'the game isn\'t forfeited any more';
 const STAYS_OVER = 'The board still shows it, so the game stays over';
@@ -210,18 +210,18 @@ export class Typing {
   /** Gives this result to a game that is over: it ends with its last ply then. What came after its end stays there. */
   async replaceAfter(outcome) {
     const { calls, options } = this.recorder;
-    const { plies, settledAt, result } = this.recorder.course;
-    const cut = plies.length > 0 ? settledAt[plies.length - 1] + 1 : 0;
+    const { plies, result } = this.recorder.course;
     const decide = async ({ capture, size, end }) => {
       const shown = readBack(await calls.back(options, capture.bytes(size), String(plies.length)));
-      const added = readAnswer('add', await calls.add(options, capture.bytes(cut), outcome));
+      const cut = await this.recorder.endBehind(plies.length);
+      const added = readAnswer('add', await calls.add(options, capture.bytes(cut || 0), outcome));
       const stood = readBack(await calls.back(options, capture.bytes(end), NO_PLIES)).put;
-      return { shown, added, stood };
+      return { shown, cut, added, stood };
     };
-    return this.decided(decide, async ({ shown, added, stood }) => {
+    return this.decided(decide, async ({ shown, cut, added, stood }) => {
       if (shown.kind === 'signed') throw refuseBack(shown, outcome, plies);
-      if (!added.put || !stood) throw refuse({ kind: 'board', words: [] }, outcome, '');
-      await this.recorder.endsAnew(cut, added.put, lastDump(stood));
+      if (cut === null || !added.put || !stood) throw refuse({ kind: 'board', words: [] }, outcome, '');
+      await this.recorder.endsAnew(cut, added.put, dumpsIn(stood).at(-1));
       return `added by hand: ${meaning(added, outcome, plies.map(shortOf))}; the result ${result} is gone. ${KEPT}`;
     });
   }
@@ -257,7 +257,8 @@ export class Typing {
     }
     const staysOver = recorder.isOver && to !== '*' && isStillShown(said);
     if (recorder.isOver && stays > plies.length) throw refuseBack({ kind: 'nearest', rest: reached(plies) }, to, plies);
-    if (!said.put && !staysOver) throw refuseBack(said, to, plies);
+    const end = staysOver ? await recorder.endBehind(stays) : null;
+    if (!said.put && end === null) throw refuseBack(said, to, plies);
     if (!recorder.isOver) refuseNothing(plies, stays, result, to);
     const asks = question(plies.slice(stays));
     if (asks && asks !== asked) throw new Asked(asks);
@@ -265,7 +266,7 @@ export class Typing {
     const left = looks.without(settled(plies, stays));
     const since = to === '*' && recorder.isAltered ? recorder.movesSince : [];
     const done = wordsOfBack(plies, stays, result, since);
-    if (staysOver) await recorder.endWith(stays, left.open);
+    if (staysOver) await recorder.endWith(end, left.open);
     else await recorder.renew(said.put, true, { end: null, typedTo: said.put.length, looks: left.open, goneBack: recorder.goneBack + 1 });
     const gone = looks.open.filter((look) => !left.open.includes(look)).map(shortOfLook);
     const about = gone.length > 0 ? ` Settled: ${gone.join(', ')}.` : '';

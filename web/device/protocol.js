@@ -8,14 +8,10 @@ export const LETTERS = '.PRNBKQprnbkq*'; // by piece code; `*` is one of the cod
 /** The squares by number: a8 is 0, h8 is 7, h1 is 63. */
 export const SQUARES = [...'87654321'].flatMap((rank) => [...'abcdefgh'].map((file) => file + rank));
 
-/** The last complete dump in these bytes: without one no update counts. Empty if there is none. */
-export function lastDump(content) {
-  for (let at = content.length - DUMP_SIZE; at >= 0; at -= 1) {
-    const frame = content.slice(at, at + DUMP_SIZE);
-    const begins = frame[0] === DUMP_ID && frame[1] === 0 && frame[2] === DUMP_SIZE;
-    if (begins && frame.slice(1).every((byte) => byte < 0x80)) return frame;
-  }
-  return new Uint8Array(0);
+/** The dumps in bytes that the program has made: in those each 86 begins one, unless too few bytes come behind it. */
+export function dumpsIn(made) {
+  const starts = [...made.keys()].filter((at) => made[at] === DUMP_ID && at + DUMP_SIZE <= made.length);
+  return starts.map((at) => made.slice(at, at + DUMP_SIZE));
 }
 
 /** The picture that a complete dump shows: field by field; field n of a rotated board is square 63 - n. */

@@ -15,6 +15,7 @@ const WHY = {
 };
 const UNKNOWN = 'moves may be missing: compare with the score sheets'; // for another word
 const CABLE = 'at the cable';
+const CLOCK = 'clock'; // what an alarm about a stopped clock is about, before the ply
 
 /** The message about what was acknowledged. */
 export function acknowledged(seen) {
@@ -36,14 +37,14 @@ export function toldOfExchange(others) {
   return lookAt(CABLE, `${why}: see that each board is on its own cable`, CABLE);
 }
 
-/** An alarm of the program, in a game with these plies. A later one about the same place replaces it. */
+/** An alarm of the program, in a game with these plies. */
 export function lookOf({ where, plies: count, why, moves }, plies) {
   if (where === SUSPECT) return toldOfExchange([count]);
-  const what = `${where} ${nameOf(count, plies)}`;
-  const them = moves === 1 ? 'it' : 'them';
+  const name = nameOf(count, plies);
+  if (where !== SINCE) return lookAt(`${where} ${name}`, WHY[why] || UNKNOWN);
+  const [made, them] = moves === 1 ? ['a move was', 'it'] : [`${moves} moves were`, 'them'];
   const tried = `if the players only tried ${them}, take ${them} off here`;
-  const made = `${moves === 1 ? 'a move was' : `${moves} moves were`} made while the clock was stopped: ${tried}`;
-  return lookAt(what, where === SINCE ? made : WHY[why] || UNKNOWN, `${where} ${count}`);
+  return lookAt(`${where} ${name}`, `${made} made while the clock was stopped: ${tried}`, `${CLOCK} ${name}`);
 }
 
 /** So many moves were made in a game that is over, with this last ply and this result. A later count replaces it. */

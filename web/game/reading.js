@@ -1,11 +1,15 @@
 // The course of a game of given bytes, and its text, by calls of the program.
 
-import { pictureOfPlacement } from '../device/protocol.js';
+import { dumpsIn, pictureOfPlacement } from '../device/protocol.js';
+import { readAnswer } from './answers.js';
 import { Course } from './course.js';
 import { forfeitOf, tagsOfForfeit } from './forfeits.js';
 import { ofBoard, ofRecord, startOf } from './options.js';
 import { lineOf } from './report.js';
 import { published } from './tags.js';
+import { readBack, refuseBack } from './way_back.js';
+
+export const NO_PLIES = '0';
 
 /** The course of a game of which nothing is reported yet. */
 export function newCourse(options) {
@@ -20,6 +24,32 @@ export async function gameOf(program, options, sent) {
     if (line) course.take(line);
   }
   return course;
+}
+
+/** Whether the game of these bytes has these plies alone, and no result. */
+export async function hasAlone(program, options, sent, plies) {
+  const game = await gameOf(program, options, sent);
+  return game.result === '*' && game.plies.length === plies.length && plies.every(({ san }, at) => game.plies[at].san === san);
+}
+
+/**
+ * How the board stands behind these bytes, for a game that begins there: { dump, shows }. The dump is empty if the board has shown
+ * nothing. `shows` has words for a first move that the board shows; or for a result, and with that no game begins: the dump is null.
+ */
+export async function standsAt(program, options, sent) {
+  const said = readBack(await program.back({ ...options, recover: null }, sent, NO_PLIES)); // pairs don't change how it stands
+  const { kind, rest, put } = said;
+  if (put) return { dump: dumpsIn(put).at(-1), shows: '' };
+  if (kind === 'unseen') return { dump: new Uint8Array(0), shows: '' };
+  if (kind === 'signed') return { dump: null, shows: `shows the result ${rest}` };
+  if (kind !== 'moved') throw refuseBack(said, NO_PLIES, []);
+  return { dump: await dumpAfter(program, options, rest.split(' ')[1]), shows: `stands as after ${rest}` };
+}
+
+/** A dump of the board after this first move. */
+async function dumpAfter(program, options, san) {
+  const { put } = readAnswer('add', await program.add(options, new Uint8Array(0), san));
+  return dumpsIn(put)[0]; // the one behind it is of a board that has shown nothing
 }
 
 /** The PGN of these bytes, as it is published; of a game that was forfeited so, if it has no move. */
