@@ -81,5 +81,12 @@ pub fn tell_end(
         → OnOk result (EndingsStand endings.new setting (Comes chunk.when.at chunk.when.is_added (bytes_with chunk offset) event ∷ items)) }
 {
     let bytes = bytes_with(chunk, offset);
-    endings.take(chunk.when, bytes, sight(shown), pictures.last(), session, outcome)
+    endings.take(
+        chunk.when,
+        bytes,
+        sight(shown),
+        pictures.last(),
+        session,
+        outcome,
+    )
 }
