@@ -69,8 +69,10 @@ class Recorder:
         if plan.serial:
             self.numbered(plan.serial)
         self.course = opened.old.course
-        if opened.is_over and (plan.rules.series or plan.rules.listens):
-            self._await_start(None) if plan.rules.series else self._await_moves()
+        if plan.rules.series and (opened.is_over or opened.is_full):
+            self._await_start(None)
+        elif plan.rules.listens and opened.is_over:
+            self._await_moves()
         else:
             self._record(opened)
         self._cable.begin()
@@ -138,8 +140,7 @@ class Recorder:
             more = [told_of_before(name, self.course)] if is_alone and before.was_over else []
             screen.say(f"{name} is over: {told(self._reason, *types, is_alone)}", *more)
         self._closing = False
-        is_last = self._ending or (unwritten and not self._plan.rules.series)
-        if is_last or not before:
+        if self._ending or not before or (unwritten and not self._plan.rules.series):
             self.now.close()
             self.now = None
         if self._ending:
@@ -165,7 +166,7 @@ class Recorder:
         """The game is over, and its board is watched as before."""
         if self._plan.rules.series:
             mark = end_mark(self.game.paths)
-            self._look_for_start(self.game.capture.size if mark is None else mark)
+            self._look_for_start(self.game.capture.size if mark is None else mark, None)
         else:
             self._await_moves()
 
@@ -195,12 +196,12 @@ class Recorder:
             except OSError as error:
                 self._screen.say(f"{paths.end} can't be written ({text_of(error)})")
         self._screen.say(f"{self._next().name} begins when the pieces are at the start")
-        self._look_for_start(end, before)
+        self._look_for_start(end, self.course, before)
 
-    def _look_for_start(self, end: int, before: Optional[Recording] = None) -> None:
+    def _look_for_start(self, end: int, course: Optional[Course], before: Optional[Recording] = None) -> None:
         from live.board.setting_up import SettingUp
 
-        setting_up = SettingUp(self._guard, self._screen, self.game, end, self, before)
+        setting_up = SettingUp(self._guard, self._screen, self.game, course, end, self, before)
         if before:
             before.close()
         self._look_at(setting_up)
@@ -393,8 +394,8 @@ class Recorder:
 
     def gone(self, message: str, was_there: bool) -> None:
         """The board isn't there and isn't waited for, or another process has its line."""
-        has_result = was_there and self.course.result != "*"
-        if self.now and not self._plan.board and (has_result or not self.standing):  # its game is over, or ends so
+        ends = was_there and self.course.result != "*" and not self._plan.board
+        if self.now and (ends or not self.standing):  # its game is over, or ends so
             self._guard.after(0, self.end)
             return
         self._fail(f"{message}; what was played is in {self.game.paths.pgn}" if was_there else message)
@@ -457,18 +458,18 @@ class Recorder:
         if isinstance(self.now, Recording):
             self.now.remake()  # what was under way may arrive late
 
-    def acknowledge(self, before: Optional[Paths]) -> Reply:
-        """Acknowledges the alarms of this game, or of the one before it."""
-        takes = before is None and self._may_take()
-        if before is None and self._cable.other and not takes:
+    def acknowledge(self) -> Reply:
+        """Acknowledges the alarms of this game."""
+        takes = self._may_take()
+        if self._cable.other and not takes:
             keep_other(self.game.paths, self._cable.other)
-        if before is None and isinstance(self.now, Recording):
+        if isinstance(self.now, Recording):
             seen = self.now.acknowledge()
         else:
-            seen = acknowledge(before or self.game.paths)
+            seen = acknowledge(self.game.paths)
             self._screen.say(seen)
-            if self.now and not isinstance(self.now, Recording):
-                self.now.look_again()
+            if self.now:
+                self.now.looked()
         if takes:
             self._cable.take()
             seen = f"{seen}; the board with serial number {self.number} is recorded here"

@@ -187,8 +187,8 @@ def same_but_for_result(one: Pairing, other: Pairing) -> bool:
 
 
 def game_of_others(hall: Hall, pairing: Pairing) -> str:
-    """What a line's game is, if the line would give it to other players: it is over and one of them is another, or it has moves
-    and both are others. Else empty."""
+    """What a line's game is, if the line would give it to other players: it is over, or has a result, and one of them is another; or it
+    has moves and both are others. Else empty."""
     paths = Paths(f"{hall.folder}/{pairing.file_name}")
     try:
         given = turned(typed_options(hall, pairing))
@@ -196,8 +196,10 @@ def game_of_others(hall: Hall, pairing: Pairing) -> str:
         others = 0 if kept is None or kept.is_said_by(given) else kept.with_tags_of(given).other_players_than(kept)
         if kept is None or not others:
             return ""
-        if end_mark(paths) is not None or result_in(paths) != "*":
-            return f"{paths.name} is over, and was played by {kept.players}"
+        result = result_in(paths)
+        if end_mark(paths) is not None or result != "*":
+            is_so = "is over" if end_mark(paths) is not None else f"has the result {result}"
+            return f"{paths.name} {is_so}, and was played by {kept.players}"
         has_moves = others == len(PLAYERS) and game_of(hall.program, kept, files.existing(paths.capture)).plies
         return f"{paths.name} has moves of {kept.players}" if has_moves else ""
     except (Refused, OSError):
