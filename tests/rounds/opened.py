@@ -90,7 +90,7 @@ def listened_to_again(folder: pathlib.Path) -> None:
     same(stop(live), 0)
     hall.boards[3].pull()
     other = Live(hall.boards[4].device, folder / "other")
-    until_line(other, words.WRONG)
+    until_line(other, words.SETTING_UP)
 
     again = hall.record(typed=True)
     until_line(again, "all games are over: type q to end")
@@ -111,9 +111,9 @@ def listened_to_again(folder: pathlib.Path) -> None:
 
 
 def looked_at_after_the_end(folder: pathlib.Path) -> None:
-    """A move is corrected late, and then the kings end the game by mistake. Somebody looks only then: while the board is listened to; once
-    its pieces are set up, and nobody records it; and by a command. The game goes on, and nobody has to look again."""
-    hall = Hall(folder, 3)
+    """A move is corrected late, and then the kings end the game by mistake. Somebody looks only then, while the board is listened to; at
+    another board by a command, when nobody records it. The games go on with what was played, and nobody has to look again."""
+    hall = Hall(folder, 2)
     live = begun(hall)
     rest(10.5)
     for number, board in enumerate(hall.boards, 1):
@@ -122,27 +122,24 @@ def looked_at_after_the_end(folder: pathlib.Path) -> None:
     for number, board in enumerate(hall.boards, 1):
         kings_in_the_centre(board)
         hall.until_text(number, "1. e4 e6 1/2-1/2")
-    for number in (1, 2, 3):
-        hall.until_over(live, number, "1/2-1/2")
-    for _ in hall.boards[1].homecoming():
-        rest(0.05)
-    until(lambda: not has_open(live.process.pid, hall.boards[1].device), "that the device of board 2 is free")
-    for number in (1, 2):
-        live.type(f"{number} ok")
-        until_line(live, f"{number}: acknowledged: LOOK at 1... e6")
-    same(stop(live), 0)
-    same(subprocess.run([LIVE, "--add", "ok", hall.name(3)], stdout=subprocess.PIPE).returncode, 0)
-    for board in (hall.boards[0], hall.boards[2]):
-        board.play("d4e1", "d5e8")
-    hall.boards[1].play("e2e4", "e7e6")
-    again = hall.record(typed=True)
     for number, board in enumerate(hall.boards, 1):
+        hall.until_over(live, number, "1/2-1/2")
+        board.play("d4e1", "d5e8")
         until_dumped(board, hall.name(number))
+        board.play("g1f3")
+        until_dumped(board, hall.name(number))
+    live.type("1 ok")
+    until_line(live, "1: acknowledged: LOOK at 1... e6")
+    same(stop(live), 0)
+    same(subprocess.run([LIVE, "--add", "ok", hall.name(2)], stdout=subprocess.PIPE).returncode, 0)
+    again = hall.record(typed=True)
+    until_line(again, "all games are over: type q to end")
+    for number in (1, 2):
         again.type(f"{number} *")
-        hall.until_text(number, "1. e4 e6 *")
+        until_line(again, f"{number}: {hall.name(number)} goes on, without the result; played since: 2. Nf3")
         says(again, number, "agrees; ")
     same(again.says("LOOK"), False)
-    same([bytes_of(hall.name(number) + ".look") for number in (1, 2, 3)], [b""] * 3)
+    same([bytes_of(hall.name(number) + ".look") for number in (1, 2)], [b""] * 2)
     same(stop(again), 0)
 
 
