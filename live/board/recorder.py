@@ -22,6 +22,7 @@ from live.game.alarms import acknowledge, keep_looks, kept_looks
 from live.game.attended import NUMBER, Answer
 from live.game.attending import Told
 from live.game.control import Control
+from live.game.course import Course
 from live.game.files import Paths, text_of
 from live.game.game import Game, end_mark, forget_question, mark_end, mebibytes
 from live.game.game import keep_other, keep_serial, kept_other, kept_serial
@@ -415,8 +416,7 @@ class Recorder:
         self._fail(f"a part of the program failed again and again ({what}); {played}", Broken)
 
     def _fail(self, message: str, kind: Type[Refused] = Refused) -> None:
-        if self._refused is None:
-            self._refused = kind(FAILED, message, "Start again with the same NAME")
+        self._refused = self._refused or kind(FAILED, message, "Start again with the same NAME")
         self._guard.after(0, self.end)
 
     # Typed lines.
