@@ -84,10 +84,9 @@ def told_once() -> None:
         ("with more", b"ab", [b"abc", b"d"], [b"c", b"d"]),
         ("other bytes", b"ab", [b"xab"], [b"xab"]),
     ):
-        child = Child(undecided)
-        course = SimpleNamespace(plies=[], result="1-0")
-        before: Any = SimpleNamespace(hand_over=lambda hears, child=child: child, course=course, played=0)
-        after = Afterwards(before, lambda look: None)
+        child: Any = Child(undecided)
+        course: Any = SimpleNamespace(plies=[], result="1-0")
+        after = Afterwards(lambda hears, child=child: child, course, 0, lambda look: None)
         same(f"{name}: undecided", after.undecided, undecided)
         for sent in comes:
             after.came(sent)

@@ -110,6 +110,29 @@ def listened_to_again(folder: pathlib.Path) -> None:
     same(stop(other), 0)
 
 
+def end_is_not_kept(folder: pathlib.Path) -> None:
+    """A game that ended by its result, of which no file says so, as where none could be written: ten seconds after its round is opened
+    again it is over, with its board there or not, and that is kept."""
+    hall = Hall(folder, 2)
+    live = begun(hall)
+    for board in hall.boards:
+        kings_in_the_centre(board)
+    for number in (1, 2):
+        hall.until_over(live, number, "1/2-1/2")
+    same(stop(live), 0)
+    for number in (1, 2):
+        for ending in ("end", "times"):
+            pathlib.Path(f"{hall.name(number)}.{ending}").unlink()
+    hall.boards[1].pull()
+    again = hall.record(typed=True)
+    until_line(again, "all games are over: type q to end")
+    assert all(bytes_of(hall.name(number) + ".end") for number in (1, 2)), "no mark of an end"
+    same(stop(again), 0)
+    once_more = hall.record(typed=True)
+    until_line(once_more, "all games are over: type q to end")
+    same((stop(once_more), once_more.says("UNPLUGGED"), hall.text(1), hall.text(2)), (0, False, DRAWN, DRAWN))
+
+
 def looked_at_after_the_end(folder: pathlib.Path) -> None:
     """A move is corrected late, and then the kings end the game by mistake. Somebody looks only then, while the board is listened to; at
     another board by a command, when nobody records it. The games go on with what was played, and nobody has to look again."""
@@ -143,4 +166,4 @@ def looked_at_after_the_end(folder: pathlib.Path) -> None:
     same(stop(again), 0)
 
 
-CASES = [killed_after_the_sign, listened_to_again, looked_at_after_the_end]
+CASES = [killed_after_the_sign, listened_to_again, end_is_not_kept, looked_at_after_the_end]
