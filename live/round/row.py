@@ -88,6 +88,7 @@ class RowScreen(Screen):
         self._has_table = terminal is None
         self._held: Optional[List[Tuple[str, ...]]] = None  # what is said while a typed line is obeyed
         self._of_table = False  # whether that line is a result of the table
+        self.is_settled: Callable[[], bool] = lambda: False  # whether the table has the game's result, or the game isn't played
 
     def say(self, text: str, *more: str) -> None:
         for line in (text, *more):
@@ -148,7 +149,7 @@ class RowScreen(Screen):
         return f"{self._number} {super().reopens()}"
 
     def mistyped(self) -> str:
-        return "" if self._of_table else super().mistyped()
+        return "" if self._of_table or self.is_settled() else super().mistyped()
 
     def begins(self) -> str:
         return f"{self._number} {super().begins()}"
@@ -225,6 +226,7 @@ class Row:
         self._screen = RowScreen(pairing.board, hall.terminal, hears)
         self.board = Board(loop, hall.program, self._screen, paths, self)
         self.board.called = f"board {pairing.board}"
+        self._screen.is_settled = lambda: bool(self.board.forfeit) or self.board.result == self.pairing.result
         self._device = ""  # the line's device when the recording began
         self._of_line: Tuple[Optional[Pairing], Options] = (None, Options())  # a line, and its options
         self._wants_result = True
