@@ -104,7 +104,7 @@ class Recorder:
 
     # Its games.
 
-    def _record(self, opened: Opened, says: bool = True) -> None:
+    def _record(self, opened: Opened, says: bool = True, remakes: bool = False) -> None:
         self._reason = None
         ends = "" if self._plan.board else "; Ctrl-C ends it"  # an error there would end all boards
         paths = self.game.paths
@@ -113,6 +113,8 @@ class Recorder:
         recording = Recording(self._guard, self._worker, self._screen, opened, self._plan.rules, self)
         self.course = recording.course
         self._look_at(recording)
+        if remakes:
+            recording.remake()  # what is under way for the game before may arrive late
 
     def over(self, reason: Reason) -> None:
         """The game has ended."""
@@ -149,7 +151,9 @@ class Recorder:
         elif self._plan.rules.series:
             self._await_start(before.end if before else None, before)
         elif unwritten:
-            self._end_with(unwritten)
+            self._ending = True
+            self._cable.last_words()
+            self._all_closed(unwritten)
         else:
             self._await_moves(before)
             self._hears.over()
@@ -178,11 +182,6 @@ class Recorder:
     def looked(self) -> None:
         """There is an alarm in a game that is over."""
         self._hears.placed()
-
-    def _end_with(self, unwritten: str) -> None:
-        self._ending = True
-        self._cable.last_words()
-        self._all_closed(unwritten)
 
     def _await_start(self, end: Optional[int], before: Optional[Recording] = None) -> None:
         """The game is over, and the next one begins when the pieces are at the start."""
@@ -237,9 +236,7 @@ class Recorder:
         if self.number:
             self.numbered(self.number)
         self.begins_anew = False
-        self._record(Opened(game, nothing_old(game.options, game.capture.size)))
-        if isinstance(self.now, Recording):
-            self.now.remake()  # what is under way for the game before may arrive late
+        self._record(Opened(game, nothing_old(game.options, game.capture.size)), remakes=True)
         return True
 
     def _begin_next(self, content: bytes) -> Optional[Game]:
@@ -360,8 +357,13 @@ class Recorder:
         owner = self._hears.owner(number)
         if owner and (self._plan.serial or number == kept_other(self.game.paths)):
             self._screen.say(f"{self.cable} has the board of {owner.name}, serial number {number}: it goes to that game")
-        else:
+        elif owner or not self._has_ended:
             self.look_at(another(self.number, number, owner, bool(self.course.plies)))
+
+    @property
+    def _has_ended(self) -> bool:
+        """Whether its game is over with a result: then another board on its cable is no alarm, unless that is the board of a game."""
+        return bool(self.now) and not self.standing and self.course.result != "*"
 
     def came_back(self, heard_at: float) -> None:
         """Its board was away, and is heard again."""
@@ -373,7 +375,7 @@ class Recorder:
 
     def back(self, other: str) -> None:
         """Its own board is on its cable again."""
-        if not (self._plan.serial and self._hears.owner(other)):
+        if not (self._plan.serial if self._hears.owner(other) else self._has_ended):
             self.look_at(back(self.number, other))
 
     def look_at(self, look: Look) -> None:
@@ -454,9 +456,7 @@ class Recorder:
         """The game is recorded, from its new capture. Nothing of it is reported again."""
         self.restored()
         opened.old.course.news.clear()
-        self._record(opened, says=False)
-        if isinstance(self.now, Recording):
-            self.now.remake()  # what was under way may arrive late
+        self._record(opened, says=False, remakes=True)
 
     def acknowledge(self) -> Reply:
         """Acknowledges the alarms of this game."""

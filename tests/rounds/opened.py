@@ -133,6 +133,31 @@ def end_is_not_kept(folder: pathlib.Path) -> None:
     same((stop(once_more), once_more.says("UNPLUGGED"), hall.text(1), hall.text(2)), (0, False, DRAWN, DRAWN))
 
 
+def other_boards_afterwards(folder: pathlib.Path) -> None:
+    """A round is over, and its boards have changed cables since, as at the next round: when it is opened again, that is no alarm. The game
+    on another board, which goes on, gets its moves from the cable of one whose game is over, and that is said."""
+    hall = Hall(folder, 3)
+    for number, board in enumerate(hall.boards, 1):
+        board.serial_number = b"%05d" % number
+    live = begun(hall)
+    for number in (1, 2):
+        live.type(f"{number} 1-0")
+    for number in (1, 2):
+        hall.until_over(live, number, "1-0")
+    same(stop(live), 0)
+    first, second, third = hall.boards
+    first.serial_number, second.serial_number, third.serial_number = b"00002", b"00003", b"00077"
+    second.codes = third.codes[:]
+    again = hall.record(typed=True)
+    until_line(again, "  2  LOOK at the cable: it has the board of board 3, serial number 00003, and not 00002")
+    second.play("g1f3")
+    hall.until_text(3, "1. e4 e5 2. Nf3 *")
+    until(lambda: first.asked.count(b"E") > 1, "that board 1 is asked for its number")
+    rest(1.5)
+    same([again.says(f"  {number}  LOOK") for number in (1, 2, 3)], [False, True, True])
+    same(stop(again), 0)
+
+
 def looked_at_after_the_end(folder: pathlib.Path) -> None:
     """A move is corrected late, and then the kings end the game by mistake. Somebody looks only then, while the board is listened to; at
     another board by a command, when nobody records it. The games go on with what was played, and nobody has to look again."""
@@ -166,4 +191,4 @@ def looked_at_after_the_end(folder: pathlib.Path) -> None:
     same(stop(again), 0)
 
 
-CASES = [killed_after_the_sign, listened_to_again, end_is_not_kept, looked_at_after_the_end]
+CASES = [killed_after_the_sign, listened_to_again, end_is_not_kept, other_boards_afterwards, looked_at_after_the_end]
