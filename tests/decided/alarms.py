@@ -65,6 +65,10 @@ class Child:
         self.told: List[bytes] = []
         self._undecided = undecided
 
+    def attends(self, hears: Any) -> Any:
+        """It goes on, for another one."""
+        return self
+
     def undecided(self) -> bytes:
         return self._undecided
 
@@ -84,9 +88,9 @@ def told_once() -> None:
         ("with more", b"ab", [b"abc", b"d"], [b"c", b"d"]),
         ("other bytes", b"ab", [b"xab"], [b"xab"]),
     ):
-        child: Any = Child(undecided)
+        child = Child(undecided)
         course: Any = SimpleNamespace(plies=[], result="1-0")
-        after = Afterwards(lambda hears, child=child: child, course, 0, lambda look: None)
+        after = Afterwards(child.attends, course, 0, lambda look: None)
         same(f"{name}: undecided", after.undecided, undecided)
         for sent in comes:
             after.came(sent)
