@@ -108,6 +108,31 @@ def opened_after_the_sign(folder: pathlib.Path) -> None:
     same(stop(live), 0)
 
 
+def looked_at_by_name(folder: pathlib.Path) -> None:
+    """A move of the game before was corrected late, and somebody looks only when the next game has begun: that is kept with the times of
+    the game that is meant."""
+    board = a_board(folder)
+    live = Live(board.device, folder / "round", "--series", typed=True)
+    begun(live)
+    play(board, ["e2e4", "e7e5"])
+    until_game(folder / "round-1", "1. e4 e5 *")
+    rest(10.5)
+    board.play("e5e6")
+    until_line(live, "LOOK at 1... e6")
+    board.kings_in_centre("d4", "d5")
+    until_line(live, f"round-2 {words.BEGINS}")
+    board.set_up([])
+    until_line(live, "LOOK at round-1")
+    live.type(f"ok {folder / 'round-1'}")
+    until_line(live, "acknowledged: LOOK at 1... e6")
+    same(bytes_of(folder / "round-1.look"), b"")
+    same([bytes_of(folder / f"round-{number}.times").count(b" ok\n") for number in (1, 2)], [1, 0])
+    live.type("ok")
+    until_line(live, "acknowledged: LOOK at round-1")
+    same(stop(live), 0)
+    same([bytes_of(folder / f"round-{number}.times").count(b" ok\n") for number in (1, 2)], [1, 1])
+
+
 def come_home(board: Board, pause: float = 0.02, kings_first: bool = False) -> None:
     """The pieces are set up again in random order."""
     for _ in board.homecoming(kings_first):
