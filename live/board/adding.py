@@ -93,7 +93,7 @@ def _add_last(obeying: Obeying, line: str) -> Steps[Answer]:
     """Adds to the game that is over while its board is watched, or while the pieces are set up."""
     games = obeying.games
     now, name = games.now, games.game.paths.name
-    what, course = yield from obeying.changed(ADDED, functools.partial(_added, games.game, line))
+    what, course = yield from obeying.changed(ADDED, functools.partial(_added, games.game, line, obeying.listens))
     obeying.screen.say(f"added by hand to {name}: {what}")
     if now:
         now.close()
@@ -108,6 +108,6 @@ def _said_of(game: Game, line: str, sent: bytes) -> Said:
     return answers.add(game.program, game.options, sent, line)
 
 
-def _added(game: Game, line: str) -> Tuple[str, Course]:
+def _added(game: Game, line: str, listens: bool) -> Tuple[str, Course]:
     """What was added to a game that is over, and its course then."""
-    return add_and_make(game, line, listens=True), game_of(game.program, game.options, game.capture.bytes(0, end_mark(game.paths)))
+    return add_and_make(game, line, listens), game_of(game.program, game.options, game.capture.bytes(0, end_mark(game.paths)))

@@ -8,22 +8,26 @@ from typing import Callable
 from live.board.recording import Recording
 from live.game.afterwards import went_on
 from live.game.attended import Answer
-from live.game.attending import Told
+from live.game.attending import Attending, HearsAnswers, Past, Told
+from live.game.course import Course
+from live.game.game import Game
 from live.game.looks import Look
-from live.game.times import HEARD
+from live.game.times import BEGIN, HEARD
+from live.guard import Guard
+
+Attends = Callable[[HearsAnswers], Attending]
 
 
 class Afterwards:
     """Tells it what the board sends, and passes on what somebody must look at. What else it says isn't used."""
 
-    def __init__(self, before: Recording, looks: Callable[[Look], None]) -> None:
-        self._attending, self._looks = before.hand_over(self), looks
+    def __init__(self, attends: Attends, course: Course, played: int, looks: Callable[[Look], None]) -> None:
+        self._attending, self._looks = attends(self), looks
         self._attending.note_no_more()
         self.undecided = self._attending.undecided()  # what the board has sent, and was neither kept nor known to be another board's
         self._was_told = self.undecided  # and comes again, before all else
-        course = before.course
         self._last, self._result = course.plies[-1].short if course.plies else "the start", course.result
-        self._played = before.played
+        self._played = played
         if self._played:
             looks(went_on(self._last, self._played, self._result))
 
@@ -35,10 +39,11 @@ class Afterwards:
             self._attending.tell(HEARD, news)
 
     def answered(self, told: Told, answer: Answer) -> None:
-        """The program answers what was told."""
+        """The program answers what was told. What was played before it began is known."""
         if answer.played > self._played:
             self._played = answer.played
-            self._looks(went_on(self._last, self._played, self._result))
+            if told.what != BEGIN:
+                self._looks(went_on(self._last, self._played, self._result))
 
     def says(self, text: str) -> None:
         """It has ended, and is started again."""
@@ -49,3 +54,17 @@ class Afterwards:
     def close(self) -> None:
         """Ends it."""
         self._attending.take()
+
+
+def after_recording(before: Recording, looks: Callable[[Look], None]) -> Afterwards:
+    """The program that attended this recording goes on."""
+    return Afterwards(before.hand_over, before.course, before.played, looks)
+
+
+def after_kept(guard: Guard, game: Game, course: Course, looks: Callable[[Look], None]) -> Afterwards:
+    """Another child attends a game that was over before, and is told all that is kept of it."""
+
+    def attends(hears: HearsAnswers) -> Attending:
+        return Attending(guard, game.program, game.options.of_live(), Past(game.capture, 0, game.times), hears)
+
+    return Afterwards(attends, course, 0, looks)

@@ -59,8 +59,8 @@ class Arbiter:
         if isinstance(typed, Quit) and may_quit:
             self._games.end()
             return DONE, "it ends"
-        if isinstance(typed, Acknowledged):
-            return self._games.acknowledge(before)
+        if isinstance(typed, Acknowledged) and not before:
+            return self._games.acknowledge()
         if before:
             return (yield from adding.add_before(self._obeying, before, text, isinstance(typed, (Reopened, Back))))
         if isinstance(typed, Forfeit):

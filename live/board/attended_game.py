@@ -8,7 +8,7 @@ from live.board.standing import Standing
 from live.game.attended import Answer, Doubt, Over
 from live.game.attending import Attending, HearsAnswers, Past, Told
 from live.game.game import Game
-from live.game.times import ADDED, BEGIN, HEARD
+from live.game.times import ADDED, BEGIN, HEARD, LOOKED
 from live.guard import Guard
 from live.loop import Timer
 
@@ -68,6 +68,17 @@ class AttendedGame:
         """The game's board has sent this on another game's cable."""
         self._keep(self._guard.now(), sent, ADDED)
         self.attending.tell(ADDED, sent)
+
+    def looked(self) -> None:
+        """Somebody has looked at the alarms. Whoever attends the game later is told it too."""
+        if self.attending.notes:
+            self.attending.tell(LOOKED)
+        else:
+            self.game.times.happened(LOOKED)
+        self.look_again()
+
+    def look_again(self) -> None:
+        """The alarms that are kept have changed."""
 
     # What is answered.
 

@@ -155,7 +155,7 @@ class Board:
         worker.do(lambda: opening.open(now, today()), opened)
 
     def _opened(self, guard: Guard, worker: Worker, plan: Plan, opened: Opened, asked: Optional[AskedFirst]) -> None:
-        """The game is open: recording begins, unless the game is over."""
+        """The game is open: it is recorded, or its board is listened to, since it is over."""
         self.trouble, self.is_new, self._begun_at = "", False, self._loop.now()
         self._paths, self._options, self.course = opened.game.paths, opened.game.options, opened.old.course
         self._read_pgn()
@@ -166,8 +166,8 @@ class Board:
         anew = (*opened.read_anew, *opened.results)
         if anew:
             self._screen.say(self._screen.anew(str(self._paths.pgn), "; ".join(anew)))
-        self.is_over = opened.is_over
-        if plan.shows or (opened.is_over and plan.board and (self.forfeit or not opened.was_set_up)):  # it stays so
+        self.is_over = opened.is_over or opened.is_full
+        if plan.shows or (plan.board and opened.is_full):  # nothing more comes to it
             self._release(None)
         else:
             self._recorder = Recorder(guard, worker, self._screen, plan, opened, self, asked)
@@ -374,7 +374,7 @@ class Board:
             self._is_changed = False
         if answer[0] == DONE:
             self._read_pgn()
-            self.is_over = self.is_over or self.result != "*"
+            self.is_over = files.size_of(self.paths.end) > 0
             self._lines.then(self.try_at_once)
             self._hears.remade()
         return answer

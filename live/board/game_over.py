@@ -12,12 +12,15 @@ from live.board.disk import unwritten_of
 from live.board.recording import Recording
 from live.game.afterwards import FromTheStart, went_on
 from live.game.alarms import keep_looks, kept_looks
+from live.game.attended import Answer
+from live.game.attending import Told
 from live.game.course import Course
 from live.game.files import text_of
-from live.game.game import Game
+from live.game.game import Game, end_mark
 from live.game.looks import Look
 from live.game.making_pgn import Made
 from live.game.report import Picture, line_of
+from live.game.times import BEGIN
 from live.game.way_back import NO_RESULT
 from live.guard import Guard
 from live.terminal.screen import Screen
@@ -52,6 +55,8 @@ class Listening(AttendedGame):
         self._result = course.result
         self._from_the_start = FromTheStart(self._last) if course.result == NO_RESULT else None
         self._from = game.capture.size
+        self._end = self._from if before else end_mark(game.paths) or 0
+        self._was_set_up = False  # whether its board has shown the start last, in the calls before
         self._played = 0  # moves since the end, as far as they are known
         self._is_paused = False
         self._tick = guard.after(TICK, self._each_second)
@@ -71,6 +76,12 @@ class Listening(AttendedGame):
         if moves > self._played:
             self._plays_on(moves, False)
         if is_set_up:
+            self._hears.set_up()
+
+    def answered(self, told: Told, answer: Answer) -> None:
+        """The program answers what was told. Where the pieces were set up before this call, nothing is listened for."""
+        super().answered(told, answer)
+        if told.what == BEGIN and self._was_set_up and not self._is_closed:
             self._hears.set_up()
 
     def _write(self, sent: bytes) -> int:
@@ -101,9 +112,11 @@ class Listening(AttendedGame):
                 look = self._from_the_start.take(event)
                 if look:
                     self._look(look, f"if the game begins only now, type {self._screen.begins()}: it has these moves then")
-            elif isinstance(event, Picture) and line.offset >= self._from and event.placement == self.game.options.start:
-                self._hears.set_up()
-                return
+            elif isinstance(event, Picture) and line.offset >= self._end:
+                self._was_set_up = event.placement == self.game.options.start
+                if self._was_set_up and line.offset >= self._from:
+                    self._hears.set_up()
+                    return
 
     def _plays_on(self, moves: int, is_known: bool) -> None:
         is_news, self._played = moves > self._played, moves

@@ -72,8 +72,12 @@ class Games(Protocol):
     def watch_on(self) -> None:
         """The game is over, and its board is watched as before."""
 
-    def acknowledge(self, before: Optional[Paths]) -> Answer:
-        """Acknowledges the alarms of this game, or of the one before it."""
+    @property
+    def holds(self) -> str:
+        """The device that is open, if it is."""
+
+    def acknowledge(self) -> Answer:
+        """Acknowledges the alarms of this game."""
 
     def end(self) -> None:
         """Ends everything in order."""
@@ -89,6 +93,12 @@ class Obeying:
     def beside(self, job: Callable[[], Result]) -> Steps[Result]:
         """Waits for a job that is done beside the loop."""
         return beside(self._worker, job)
+
+    @property
+    def listens(self) -> bool:
+        """Whether what the board of a game that is over shows counts for what is typed. Nobody can set pieces right on a board that isn't
+        there."""
+        return bool(self.games.holds) or not isinstance(self.games.now, Listening)
 
     def recorded(self, done: str) -> Recording:
         """The recording of the game. Refused if it is just being ended, or if its capture can't be written: then nothing can be

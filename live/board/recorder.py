@@ -22,6 +22,7 @@ from live.game.alarms import acknowledge, keep_looks, kept_looks
 from live.game.attended import NUMBER, Answer
 from live.game.attending import Told
 from live.game.control import Control
+from live.game.course import Course
 from live.game.files import Paths, text_of
 from live.game.game import Game, end_mark, forget_question, mark_end, mebibytes
 from live.game.game import keep_other, keep_serial, kept_other, kept_serial
@@ -69,8 +70,10 @@ class Recorder:
         if plan.serial:
             self.numbered(plan.serial)
         self.course = opened.old.course
-        if opened.is_over and (plan.rules.series or plan.rules.listens):
-            self._await_start(None) if plan.rules.series else self._await_moves()
+        if plan.rules.series and (opened.is_over or opened.is_full):
+            self._await_start(None)
+        elif plan.rules.listens and opened.is_over:
+            self._await_moves()
         else:
             self._record(opened)
         self._cable.begin()
@@ -101,7 +104,7 @@ class Recorder:
 
     # Its games.
 
-    def _record(self, opened: Opened, says: bool = True) -> None:
+    def _record(self, opened: Opened, says: bool = True, remakes: bool = False) -> None:
         self._reason = None
         ends = "" if self._plan.board else "; Ctrl-C ends it"  # an error there would end all boards
         paths = self.game.paths
@@ -110,6 +113,8 @@ class Recorder:
         recording = Recording(self._guard, self._worker, self._screen, opened, self._plan.rules, self)
         self.course = recording.course
         self._look_at(recording)
+        if remakes:
+            recording.remake()  # what is under way for the game before may arrive late
 
     def over(self, reason: Reason) -> None:
         """The game has ended."""
@@ -138,8 +143,7 @@ class Recorder:
             more = [told_of_before(name, self.course)] if is_alone and before.was_over else []
             screen.say(f"{name} is over: {told(self._reason, *types, is_alone)}", *more)
         self._closing = False
-        is_last = self._ending or (unwritten and not self._plan.rules.series)
-        if is_last or not before:
+        if self._ending or not before or (unwritten and not self._plan.rules.series):
             self.now.close()
             self.now = None
         if self._ending:
@@ -147,7 +151,9 @@ class Recorder:
         elif self._plan.rules.series:
             self._await_start(before.end if before else None, before)
         elif unwritten:
-            self._end_with(unwritten)
+            self._ending = True
+            self._cable.last_words()
+            self._all_closed(unwritten)
         else:
             self._await_moves(before)
             self._hears.over()
@@ -165,7 +171,7 @@ class Recorder:
         """The game is over, and its board is watched as before."""
         if self._plan.rules.series:
             mark = end_mark(self.game.paths)
-            self._look_for_start(self.game.capture.size if mark is None else mark)
+            self._look_for_start(self.game.capture.size if mark is None else mark, None)
         else:
             self._await_moves()
 
@@ -176,11 +182,6 @@ class Recorder:
     def looked(self) -> None:
         """There is an alarm in a game that is over."""
         self._hears.placed()
-
-    def _end_with(self, unwritten: str) -> None:
-        self._ending = True
-        self._cable.last_words()
-        self._all_closed(unwritten)
 
     def _await_start(self, end: Optional[int], before: Optional[Recording] = None) -> None:
         """The game is over, and the next one begins when the pieces are at the start."""
@@ -195,12 +196,12 @@ class Recorder:
             except OSError as error:
                 self._screen.say(f"{paths.end} can't be written ({text_of(error)})")
         self._screen.say(f"{self._next().name} begins when the pieces are at the start")
-        self._look_for_start(end, before)
+        self._look_for_start(end, self.course, before)
 
-    def _look_for_start(self, end: int, before: Optional[Recording] = None) -> None:
+    def _look_for_start(self, end: int, course: Optional[Course], before: Optional[Recording] = None) -> None:
         from live.board.setting_up import SettingUp
 
-        setting_up = SettingUp(self._guard, self._screen, self.game, end, self, before)
+        setting_up = SettingUp(self._guard, self._screen, self.game, course, end, self, before)
         if before:
             before.close()
         self._look_at(setting_up)
@@ -235,9 +236,7 @@ class Recorder:
         if self.number:
             self.numbered(self.number)
         self.begins_anew = False
-        self._record(Opened(game, nothing_old(game.options, game.capture.size)))
-        if isinstance(self.now, Recording):
-            self.now.remake()  # what is under way for the game before may arrive late
+        self._record(Opened(game, nothing_old(game.options, game.capture.size)), remakes=True)
         return True
 
     def _begin_next(self, content: bytes) -> Optional[Game]:
@@ -358,8 +357,13 @@ class Recorder:
         owner = self._hears.owner(number)
         if owner and (self._plan.serial or number == kept_other(self.game.paths)):
             self._screen.say(f"{self.cable} has the board of {owner.name}, serial number {number}: it goes to that game")
-        else:
+        elif owner or not self._has_ended:
             self.look_at(another(self.number, number, owner, bool(self.course.plies)))
+
+    @property
+    def _has_ended(self) -> bool:
+        """Whether its game is over with a result: then another board on its cable is no alarm, unless that is the board of a game."""
+        return bool(self.now) and not self.standing and self.course.result != "*"
 
     def came_back(self, heard_at: float) -> None:
         """Its board was away, and is heard again."""
@@ -371,7 +375,7 @@ class Recorder:
 
     def back(self, other: str) -> None:
         """Its own board is on its cable again."""
-        if not (self._plan.serial and self._hears.owner(other)):
+        if not (self._plan.serial if self._hears.owner(other) else self._has_ended):
             self.look_at(back(self.number, other))
 
     def look_at(self, look: Look) -> None:
@@ -393,8 +397,8 @@ class Recorder:
 
     def gone(self, message: str, was_there: bool) -> None:
         """The board isn't there and isn't waited for, or another process has its line."""
-        has_result = was_there and self.course.result != "*"
-        if self.now and not self._plan.board and (has_result or not self.standing):  # its game is over, or ends so
+        ends = was_there and self.course.result != "*" and not self._plan.board
+        if self.now and (ends or not self.standing):  # its game is over, or ends so
             self._guard.after(0, self.end)
             return
         self._fail(f"{message}; what was played is in {self.game.paths.pgn}" if was_there else message)
@@ -414,8 +418,7 @@ class Recorder:
         self._fail(f"a part of the program failed again and again ({what}); {played}", Broken)
 
     def _fail(self, message: str, kind: Type[Refused] = Refused) -> None:
-        if self._refused is None:
-            self._refused = kind(FAILED, message, "Start again with the same NAME")
+        self._refused = self._refused or kind(FAILED, message, "Start again with the same NAME")
         self._guard.after(0, self.end)
 
     # Typed lines.
@@ -453,22 +456,20 @@ class Recorder:
         """The game is recorded, from its new capture. Nothing of it is reported again."""
         self.restored()
         opened.old.course.news.clear()
-        self._record(opened, says=False)
-        if isinstance(self.now, Recording):
-            self.now.remake()  # what was under way may arrive late
+        self._record(opened, says=False, remakes=True)
 
-    def acknowledge(self, before: Optional[Paths]) -> Reply:
-        """Acknowledges the alarms of this game, or of the one before it."""
-        takes = before is None and self._may_take()
-        if before is None and self._cable.other and not takes:
+    def acknowledge(self) -> Reply:
+        """Acknowledges the alarms of this game."""
+        takes = self._may_take()
+        if self._cable.other and not takes:
             keep_other(self.game.paths, self._cable.other)
-        if before is None and isinstance(self.now, Recording):
+        if isinstance(self.now, Recording):
             seen = self.now.acknowledge()
         else:
-            seen = acknowledge(before or self.game.paths)
+            seen = acknowledge(self.game.paths)
             self._screen.say(seen)
-            if self.now and not isinstance(self.now, Recording):
-                self.now.look_again()
+            if self.now:
+                self.now.looked()
         if takes:
             self._cable.take()
             seen = f"{seen}; the board with serial number {self.number} is recorded here"

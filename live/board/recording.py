@@ -25,7 +25,7 @@ from live.game.looks import Look, Looks
 from live.game.making_pgn import Made, Maker
 from live.game.opening import Opened
 from live.game.report import Clock, Differs, Event, Fault, Line, Move, Picture, Position, Recovered, Result, line_of
-from live.game.times import ADDED, BACK, HEARD, LOOKED, OVER, REOPENED
+from live.game.times import ADDED, BACK, HEARD, OVER, REOPENED
 from live.guard import Guard
 from live.steps import Resume, Steps
 from live.terminal.screen import Screen
@@ -269,14 +269,14 @@ class Recording(AttendedGame):
         """Somebody must look at this, which came with this byte, if any. It is said if it is new."""
         if self._alarms.add(look, byte):
             self._screen.say(f"{look.text}. Look at it, and type {self._screen.ok()}")
-            self._tell_looks()
+            self.look_again()
 
     @property
     def looks(self) -> Looks:
         """What somebody must look at."""
         return self._alarms.looks
 
-    def _tell_looks(self) -> None:
+    def look_again(self) -> None:
         self.standing.look(self.looks.short)
         if self._alarms.trouble:
             self._screen.say(f"{self.game.paths.look} can't be written ({text_of(self._alarms.trouble)}): it is tried again")
@@ -291,9 +291,8 @@ class Recording(AttendedGame):
         """Acknowledges the alarms. Returns the answer."""
         seen = acknowledged(self._alarms.acknowledge())
         self._suspected.clear()
-        self.attending.tell(LOOKED)
         self._screen.say(seen)
-        self._tell_looks()
+        self.looked()
         return seen
 
     def _hear_result(self, result: str) -> None:

@@ -5,18 +5,20 @@ from __future__ import annotations
 from typing import Callable, List, Optional, Protocol
 
 from live.board.attended_game import AttendedGame, HearsGame
-from live.board.afterwards import Afterwards
+from live.board.afterwards import Afterwards, after_kept, after_recording
 from live.board.disk import Disk, unwritten_of
 from live.board.recording import Recording
 from live.board.standing import Standing
 from live.device.protocol import DUMP_BEGINS
 from live.game.alarms import keep_looks, kept_looks
 from live.game.answers import dump_at_end
+from live.game.course import Course
 from live.game.files import LARGEST, text_of
 from live.game.game import Game
 from live.game.looks import Look, Looks
 from live.game.making_pgn import Made
 from live.game.report import Differs, Picture, line_of
+from live.game.way_back import NO_RESULT
 from live.guard import Guard
 from live.loop import Timer
 from live.terminal.screen import Screen
@@ -46,10 +48,11 @@ class SettingUp(AttendedGame):
     """
 
     def __init__(
-        self, guard: Guard, screen: Screen, game: Game, end: int, hears: HearsSettingUp, before: Optional[Recording] = None
-    ) -> None:
+        self, guard: Guard, screen: Screen, game: Game, course: Optional[Course], end: int, hears: HearsSettingUp,
+        before: Optional[Recording] = None
+    ) -> None:  # fmt: skip
         super().__init__(guard, game, hears)
-        self._screen, self._hears = screen, hears
+        self._screen, self._hears, self._course = screen, hears, course
         self._before: Optional[Afterwards] = None
         self.standing: Standing = Standing(guard, screen, game.options.rotated, played=False)
         self._disk = Disk(screen, self.standing, game.capture, self)
@@ -57,9 +60,11 @@ class SettingUp(AttendedGame):
         self._tick = guard.after(TICK, self._each_second)
         self._tries: Optional[Timer] = None
         self._look_from(end)
-        if before and not before.attending.is_closed and before.course.result != "*":
-            self._before = Afterwards(before, self._looks)
+        if before and not before.attending.is_closed and before.course.result != NO_RESULT:
+            self._before = after_recording(before, self._looks)
             hears.left(self._before.undecided)
+        elif before is None:
+            self._attend_after()
 
     def _look_from(self, end: int) -> None:
         """Looks from this offset on. Reading begins at the last dump before it: without one no update would count."""
@@ -76,6 +81,11 @@ class SettingUp(AttendedGame):
         self._late.clear()
         self._has_lost = False
         self.attend(options.of_board(), self._from)
+
+    def _attend_after(self) -> None:
+        """From now on another child hears of moves after the game's result, if it is known to have one."""
+        if self._course and self._course.result != NO_RESULT:
+            self._before = after_kept(self._guard, self.game, self._course, self._looks)
 
     def _look_again_from(self, end: int) -> None:
         """Another child looks from there on."""
@@ -164,6 +174,7 @@ class SettingUp(AttendedGame):
         """It is used again: looks for the start from the game's end on."""
         self._tick = self._guard.after(TICK, self._each_second)
         self._look_from(self._end)
+        self._attend_after()
         self._hears.begun()
 
     def finish(self, done: Callable[[str], None]) -> None:

@@ -7,7 +7,7 @@ from dataclasses import replace
 from typing import Optional, Tuple
 
 from live.game import answers
-from live.game.alarms import acknowledge
+from live.game.alarms import acknowledge, kept_looks
 from live.game.answers import BOARD, ILLEGAL, Said, meaning, whose_move
 from live.game.file_names import ROUND
 from live.game.files import Paths, existing, not_written, open_game
@@ -24,7 +24,7 @@ from live.game.program import Program
 from live.game.reading import game_of
 from live.game.reply import Answer, Refused, refusal
 from live.game.timed import Times
-from live.game.times import ADDED, OVER
+from live.game.times import ADDED, LOOKED, OVER
 from live.game.typed import WAYS, Acknowledged, Back, Nothing, Quit, Reopened
 from live.refused import DONE, FAILED
 
@@ -84,9 +84,7 @@ def add_by_name(program: Program, paths: Paths, text: str, patience: float) -> A
             return DONE, rename_closed(Game(program, paths, capture, kept_options(paths) or Options(), times), text)
         typed = read_typed(text, os.path.basename(paths.name))
         if isinstance(typed, Acknowledged):
-            seen = acknowledge(paths)
-            log_once(paths, seen)
-            return DONE, seen
+            return DONE, acknowledge_closed(paths, times)
         game = Game(program, paths, capture, kept_options(paths) or Options(), times)
         if isinstance(typed, Forfeit):
             told = forfeit_closed(game, typed)
@@ -117,6 +115,17 @@ def add_by_name(program: Program, paths: Paths, text: str, patience: float) -> A
             log_once(paths, *times.told)
     log_once(paths, f"added by hand: {what}")
     return DONE, f"added to {paths.name}: {what}"
+
+
+def acknowledge_closed(paths: Paths, times: Times) -> str:
+    """Somebody has looked at the alarms of a game that nobody records now. Returns the answer. Raises OSError if that can't be kept."""
+    is_open = bool(kept_looks(paths).open)
+    seen = acknowledge(paths)
+    if is_open:
+        times.begin()
+        times.note(LOOKED)
+    log_once(paths, seen)
+    return seen
 
 
 def forfeit_closed(game: Game, typed: Forfeit) -> str:

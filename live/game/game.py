@@ -125,10 +125,9 @@ def keep_serial(paths: Paths, number: str) -> None:
     put_in_place(paths.serial, f"{number}\n".encode("ascii"))
 
 
-def is_over(game: Game) -> bool:
-    """Whether it has ended: its end is marked, its text has a result, or its capture is full."""
-    text = existing(game.paths.pgn)
-    return end_mark(game.paths) is not None or (bool(text) and result_of(text) != "*") or game.capture.size >= largest(game.options)
+def is_full(game: Game) -> bool:
+    """Whether its capture is full, so that nothing more is recorded."""
+    return game.capture.size >= largest(game.options)
 
 
 def kept_options(paths: Paths) -> Optional[Options]:

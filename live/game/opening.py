@@ -12,7 +12,7 @@ from typing import Callable, Dict, List, Optional, Protocol, Sequence, Tuple
 from live.game import names, tags
 from live.game.edited import told_of_edit
 from live.game.files import LOCK_PATIENCE, Capture, Paths, open_game, size_of
-from live.game.game import Game, end_mark, is_over, keep_options, kept_options, result_in
+from live.game.game import Game, end_mark, is_full, keep_options, kept_options, result_in
 from live.game.making_pgn import Text, told_of_reading, told_of_result
 from live.game.options import PUBLISHED, UNKNOWN, Options, as_typed
 from live.game.program import Program
@@ -116,13 +116,13 @@ class Opened:
 
     game: Game
     old: Old
-    is_over: bool = False
+    is_over: bool = False  # whether its end is marked; a result alone ends no game, since it may have stood for a moment only
+    is_full: bool = False
     told: Tuple[str, ...] = ()  # about its options
     read_anew: Tuple[str, ...] = ()  # if its capture is read in another way than before
     results: Tuple[str, ...] = ()  # if its result has changed
     close: Optional[Callback] = None  # closes its capture, unless that is done already
     is_reopened: bool = False  # whether an arbiter has just said that it isn't over
-    was_set_up: bool = False  # whether it ended without a result, as its pieces were set up: perhaps it begins only now
 
 
 class Opening:
@@ -207,9 +207,8 @@ class Opening:
         read_anew = told_of_reading(before or options, options, pairs)
         results = told_of_result(result, result_in(paths))
         old = dataclasses.replace(old, size=capture.size)
-        was_set_up = end is not None and result_in(paths) == "*"
         told = (*told, *times.unexpected)
-        return Opened(game, old, is_over(game), told, tuple(read_anew), tuple(results), was_set_up=was_set_up)
+        return Opened(game, old, end is not None, is_full(game), told, tuple(read_anew), tuple(results))
 
     @staticmethod
     def _has_moves(game: Game, now: float) -> bool:
@@ -217,9 +216,9 @@ class Opening:
 
 
 def _goes_on(game: Game) -> bool:
-    """Whether it isn't over; not if its text can't be read, which is said when the text is made."""
+    """Whether it is recorded; not if the mark of its end can't be read, which is said later."""
     try:
-        return not is_over(game)
+        return end_mark(game.paths) is None and not is_full(game)
     except OSError:
         return False
 

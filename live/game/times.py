@@ -152,15 +152,17 @@ def added_last(content: Content) -> range:
 
 def cut(content: Content, found: Kept, size: int, first: Content) -> bytes:
     """A file of which only those events stay that account for the capture's first so many bytes, which begin with `first`; and no
-    end, since the game goes on, or has another one."""
+    end, since the game goes on, or has another one. If somebody has looked at its alarms later, that stays too."""
     front = bytes(content[: found.begins]) if found.size <= size else heading(found.generation, first)
     parts, start, covered = [front], found.begins, found.size
     for after, what, count in _events(content, found.begins):
         before, covered = covered, _covers(covered, what, count)
         if covered > size:
+            at = 0 if what == BEGIN else int(bytes(content[start:after]).split()[0])
             if what != BEGIN and size > before:
-                at = bytes(content[start:after]).split()[0]
-                parts.append(line((int(at), what, size - before)))
+                parts.append(line((at, what, size - before)))
+            if start > found.begins and any(later == LOOKED for _, later, _ in _events(content, after)):
+                parts.append(line((at, LOOKED, None)))
             break
         if what != OVER:
             parts.append(bytes(content[start:after]))

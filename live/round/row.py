@@ -89,6 +89,7 @@ class RowScreen(Screen):
         self._held: Optional[List[Tuple[str, ...]]] = None  # what is said while a typed line is obeyed
         self._of_table = False  # whether that line is a result of the table
         self.needs_board: Callable[[], bool] = lambda: True  # whether its game is played
+        self.is_settled: Callable[[], bool] = lambda: False  # whether the table has the game's result, or the game isn't played
 
     def say(self, text: str, *more: str) -> None:
         for line in (text, *more):
@@ -157,7 +158,7 @@ class RowScreen(Screen):
         return f"{self._number} {super().reopens()}"
 
     def mistyped(self) -> str:
-        return "" if self._of_table else super().mistyped()
+        return "" if self._of_table or self.is_settled() else super().mistyped()
 
     def begins(self) -> str:
         return f"{self._number} {super().begins()}"
@@ -196,8 +197,8 @@ def same_but_for_result(one: Pairing, other: Pairing) -> bool:
 
 
 def game_of_others(hall: Hall, pairing: Pairing) -> str:
-    """What a line's game is, if the line would give it to other players: it is over and one of them is another, or it has moves
-    and both are others. Else empty."""
+    """What a line's game is, if the line would give it to other players: it is over, or has a result, and one of them is another; or it
+    has moves and both are others. Else empty."""
     paths = Paths(f"{hall.folder}/{pairing.file_name}")
     try:
         given = turned(typed_options(hall, pairing))
@@ -205,8 +206,10 @@ def game_of_others(hall: Hall, pairing: Pairing) -> str:
         others = 0 if kept is None or kept.is_said_by(given) else kept.with_tags_of(given).other_players_than(kept)
         if kept is None or not others:
             return ""
-        if end_mark(paths) is not None or result_in(paths) != "*":
-            return f"{paths.name} is over, and was played by {kept.players}"
+        result = result_in(paths)
+        if end_mark(paths) is not None or result != "*":
+            is_so = "is over" if end_mark(paths) is not None else f"has the result {result}"
+            return f"{paths.name} {is_so}, and was played by {kept.players}"
         has_moves = others == len(PLAYERS) and game_of(hall.program, kept, files.existing(paths.capture)).plies
         return f"{paths.name} has moves of {kept.players}" if has_moves else ""
     except (Refused, OSError):
@@ -233,6 +236,7 @@ class Row:
         self._screen.needs_board = self._is_played
         self.board = Board(loop, hall.program, self._screen, paths, self)
         self.board.called = f"board {pairing.board}"
+        self._screen.is_settled = lambda: bool(self.board.forfeit) or self.board.result == self.pairing.result
         self._device = ""  # the line's device when the recording began
         self._of_line: Tuple[Optional[Pairing], Options] = (None, Options())  # a line, and its options
         self._wants_result = True

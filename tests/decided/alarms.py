@@ -65,6 +65,10 @@ class Child:
         self.told: List[bytes] = []
         self._undecided = undecided
 
+    def attends(self, hears: Any) -> Any:
+        """It goes on, for another one."""
+        return self
+
     def undecided(self) -> bytes:
         return self._undecided
 
@@ -85,9 +89,8 @@ def told_once() -> None:
         ("other bytes", b"ab", [b"xab"], [b"xab"]),
     ):
         child = Child(undecided)
-        course = SimpleNamespace(plies=[], result="1-0")
-        before: Any = SimpleNamespace(hand_over=lambda hears, child=child: child, course=course, played=0)
-        after = Afterwards(before, lambda look: None)
+        course: Any = SimpleNamespace(plies=[], result="1-0")
+        after = Afterwards(child.attends, course, 0, lambda look: None)
         same(f"{name}: undecided", after.undecided, undecided)
         for sent in comes:
             after.came(sent)

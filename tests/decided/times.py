@@ -49,7 +49,7 @@ def written() -> None:
 
 def cuts() -> None:
     """A game that was over gets other bytes behind so many, or goes on."""
-    text = f"{OF_A}0 begin 1\n12 heard 67\n20 asked 1\n30 heard 10\n40 over 78\n50 heard 5\n"
+    text = f"{OF_A}0 begin 1\n12 heard 67\n20 asked 1\n30 heard 10\n40 over 78\n50 heard 5\n60 ok\n"
     for size, left in cases("times", "cuts"):
         same(f"{size} bytes", times.cut(text.encode(), found_in(text), size, b"a"[:size]).decode(), whole(left))
 

@@ -36,7 +36,7 @@ export function written(counts, cases) {
 }
 
 export function cuts(counts, cases) {
-  const text = `${OF_A}0 begin 1\n12 heard 67\n20 asked 1\n30 heard 10\n40 over 78\n50 heard 5\n`;
+  const text = `${OF_A}0 begin 1\n12 heard 67\n20 asked 1\n30 heard 10\n40 over 78\n50 heard 5\n60 ok\n`;
   for (const [size, left] of cases("cuts")) {
     counts.same(`${size} bytes`, cut(text, kept(text), size, bytesOf("a".slice(0, size))), whole(left));
   }

@@ -20,6 +20,7 @@ from played.stage import (
     same,
     stop,
     until,
+    until_dumped,
     until_game,
     until_line,
 )
@@ -59,6 +60,79 @@ def played_on_after_the_sign(folder: pathlib.Path) -> None:
     until_game(folder / "round-2", "1. d4 *")
     same(stop(live), 0)
     same(movetext(folder / "round-1"), "1. e4 e5 2. Nf3 Nc6 3. Bb5 1-0")
+
+
+def opened_after_the_sign(folder: pathlib.Path) -> None:
+    """The kings are in the centre by mistake, and the recorder is killed: at once, when the game isn't over yet, and then once it is. Each
+    time it is started again, and the players go on: the second move is an alarm, and the game goes on with all moves. What somebody has
+    looked at between two games is no alarm again."""
+    board = a_board(folder)
+
+    def record() -> Live:
+        return Live(board.device, folder / "round", "--series", typed=True)
+
+    def plays_on(live: Live, text: str, *moves: str) -> None:
+        """The kings are put back, and two moves are made."""
+        play(board, ["d4e1", "d5e8"])
+        until_dumped(board, folder / "round-1")
+        for move in moves:
+            board.play(move)
+            until_dumped(board, folder / "round-1")
+        until_line(live, "2 moves were made, and the game is over: 1/2-1/2. Look at it, and type ok")
+        until_game(folder / "round-1", f"{text} 1/2-1/2")
+        live.type("ok")
+        until_line(live, "acknowledged: LOOK ")
+        live.type("*")
+        until_line(live, "goes on, without the result; played since: ")
+
+    live = record()
+    begun(live)
+    play(board, ["e2e4", "e7e5"])
+    until_game(folder / "round-1", "1. e4 e5 *")
+    rest(10.5)
+    board.play("e5e6")
+    until_line(live, "LOOK at 1... e6")
+    board.kings_in_centre("d4", "d5")
+    until_line(live, f"{words.RESULT}1/2-1/2")
+    kill(live)
+    same(bytes_of(folder / "round-1.end"), b"")
+    live = record()
+    until_line(live, f"{words.RESULT}1/2-1/2")
+    plays_on(live, "1. e4 e6", "g1f3", "b8c6")
+    board.kings_in_centre("d4", "d5")
+    until_line(live, f"round-2 {words.BEGINS}", 2)
+    kill(live)
+    live = record()
+    until_line(live, f"round-2 {words.BEGINS}")
+    plays_on(live, "1. e4 e6 2. Nf3 Nc6", "f1b5", "a7a6")
+    until_game(folder / "round-1", "1. e4 e6 2. Nf3 Nc6 3. Bb5 a6 *")
+    same((live.says("LOOK at 1... e6"), bytes_of(folder / "round-1.look")), (False, b""))
+    same(stop(live), 0)
+
+
+def looked_at_by_name(folder: pathlib.Path) -> None:
+    """A move of the game before was corrected late, and somebody looks only when the next game has begun: that is kept with the times of
+    the game that is meant."""
+    board = a_board(folder)
+    live = Live(board.device, folder / "round", "--series", typed=True)
+    begun(live)
+    play(board, ["e2e4", "e7e5"])
+    until_game(folder / "round-1", "1. e4 e5 *")
+    rest(10.5)
+    board.play("e5e6")
+    until_line(live, "LOOK at 1... e6")
+    board.kings_in_centre("d4", "d5")
+    until_line(live, f"round-2 {words.BEGINS}")
+    board.set_up([])
+    until_line(live, "LOOK at round-1")
+    live.type(f"ok {folder / 'round-1'}")
+    until_line(live, "acknowledged: LOOK at 1... e6")
+    same(bytes_of(folder / "round-1.look"), b"")
+    same([bytes_of(folder / f"round-{number}.times").count(b" ok\n") for number in (1, 2)], [1, 0])
+    live.type("ok")
+    until_line(live, "acknowledged: LOOK at round-1")
+    same(stop(live), 0)
+    same([bytes_of(folder / f"round-{number}.times").count(b" ok\n") for number in (1, 2)], [1, 1])
 
 
 def come_home(board: Board, pause: float = 0.02, kings_first: bool = False) -> None:

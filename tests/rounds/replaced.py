@@ -76,6 +76,11 @@ def result_of_the_kings_replaced(folder: pathlib.Path) -> None:
     for number in (1, 2, 3, 4):
         hall.until_over(again, number, "1-0")
     hall.until_over(again, 5, "1/2-1/2")
+    until_dumped(hall.boards[4], hall.name(5))
+    again.type("5 1-0")
+    until_line(again, f"5 refused: 1-0: {STANDS}")
+    kings_back(hall.boards[4])
+    until_dumped(hall.boards[4], hall.name(5))
     again.type("5 1-0")
     hall.until_text(5, WON)
     hall.until_round()

@@ -92,7 +92,7 @@ export function isOf(found, capture) {
 
 /**
  * A file of which only those events stay that account for the capture's first so many bytes, which begin with `first`; and no
- * end, since the game goes on, or has another one.
+ * end, since the game goes on, or has another one. If somebody has looked at its alarms later, that stays too.
  */
 export function cut(text, found, size, first) {
   const parts = [found.size <= size ? text.slice(0, found.begins) : heading(found.generation, first)];
@@ -101,7 +101,10 @@ export function cut(text, found, size, first) {
     const before = covered;
     covered = covers(covered, event);
     if (covered > size) {
-      if (event.what !== BEGIN && size > before) parts.push(line([event.at, event.what, size - before]));
+      const at = event.what === BEGIN ? 0 : event.at;
+      if (event.what !== BEGIN && size > before) parts.push(line([at, event.what, size - before]));
+      const later = [...eventsOf(text, event.ends)];
+      if (event.begins > found.begins && later.some(({ what }) => what === LOOKED)) parts.push(line([at, LOOKED, null]));
       break;
     }
     if (event.what !== OVER) parts.push(text.slice(event.begins, event.ends));
