@@ -125,6 +125,7 @@ def after_a_gap(folder: pathlib.Path) -> None:
     until_line(live, words.UNPLUGGED, 2)
     board.plug()
     until(lambda: last_state(live).endswith(words.AGREES), "that it agrees again")
+    until_dumped(board, live.name)
     same(stop(live), 0)
     assert "LOOK" not in last_state(live), live.lines()
     board.play("e6e5")
