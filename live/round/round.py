@@ -20,7 +20,7 @@ from live.broadcast.leaving import clock_in
 from live.broadcast.outputs import Outputs
 from live.game.answers import UNKNOWN, Said
 from live.game.file_names import ROUND
-from live.game.files import text_of
+from live.game.files import size_of, text_of
 from live.game.forfeits import NO_RESULT, score_of, typed_forfeit
 from live.game.log import Log, logged_at
 from live.game.reply import Answer, printable, refusal
@@ -300,8 +300,9 @@ class Round:
         return found
 
     def owner(self, number: str) -> Optional[Board]:
-        """The board that has this serial number, unless its game is over."""
-        return next((row.board for row in self.boards() if row.serial == number and not row.board.is_over), None)
+        """The board that has this serial number, unless its game is over; the mark of its end tells that before it is open."""
+        boards = (row.board for row in self.boards() if row.serial == number)
+        return next((board for board in boards if not board.is_over and not size_of(board.paths.end)), None)
 
     def came_back(self, number: int) -> None:
         """This board was away, and is there again: perhaps on the cable of another one that was away too."""
