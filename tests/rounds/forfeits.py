@@ -219,7 +219,7 @@ def without_a_board(folder: pathlib.Path) -> None:
     are(live, b1="*", b2=WHITE, b3=BOTH, b4=BLACK, b5=BOTH, b6=BOTH)
     for number in (4, 5):
         live.type(f"{number} *")
-    are(live, b1="*", b2=WHITE, b3=BOTH, b4="*", b5=BOTH, b6=BOTH)
+    are(live, b1="*", b2=WHITE, b3=BOTH, b4="*", b5="*", b6=BOTH)
     same((live.says("plug it in"), live.says("typed by mistake")), (False, False))
     same(stop(live), 0)
 
