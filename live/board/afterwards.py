@@ -39,7 +39,7 @@ class Afterwards:
             self._attending.tell(HEARD, news)
 
     def answered(self, told: Told, answer: Answer) -> None:
-        """The program answers what was told. What was played before it began is known."""
+        """Takes an answer of the program. Moves from before it began are known already."""
         if answer.played > self._played:
             self._played = answer.played
             if told.what != BEGIN:
@@ -62,7 +62,7 @@ def after_recording(before: Recording, looks: Callable[[Look], None]) -> Afterwa
 
 
 def after_kept(guard: Guard, game: Game, course: Course, looks: Callable[[Look], None]) -> Afterwards:
-    """Another child attends a game that was over before, and is told all that is kept of it."""
+    """Starts a child for a game that was over before this call, and tells it all that is kept."""
 
     def attends(hears: HearsAnswers) -> Attending:
         return Attending(guard, game.program, game.options.of_live(), Past(game.capture, 0, game.times), hears)

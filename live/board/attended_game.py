@@ -70,7 +70,7 @@ class AttendedGame:
         self.attending.tell(ADDED, sent)
 
     def looked(self) -> None:
-        """Somebody has looked at the alarms. Whoever attends the game later is told it too."""
+        """Somebody has looked at the alarms. A child that attends the game later hears of it too."""
         if self.attending.notes:
             self.attending.tell(LOOKED)
         else:

@@ -79,7 +79,7 @@ class Listening(AttendedGame):
             self._hears.set_up()
 
     def answered(self, told: Told, answer: Answer) -> None:
-        """The program answers what was told. Where the pieces were set up before this call, nothing is listened for."""
+        """Takes an answer of the program. If the pieces were set up before this call, listening ends."""
         super().answered(told, answer)
         if told.what == BEGIN and self._was_set_up and not self._is_closed:
             self._hears.set_up()
