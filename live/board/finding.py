@@ -7,6 +7,7 @@ from typing import Callable, Dict, FrozenSet, Optional, Protocol, Sequence, Set,
 
 from live.beside import Worker
 from live.device.serial_line import devices
+from live.game.program import Program
 from live.guard import traced
 from live.loop import Turns
 
@@ -30,7 +31,7 @@ class Seeks(Protocol):
         """Its board is on this device."""
 
 
-def on_free_devices(used: Set[str], asked: FrozenSet[str]) -> Found:
+def on_free_devices(program: Program, used: Set[str], asked: FrozenSet[str]) -> Found:
     """Asks the boards on the devices that aren't used, unless those are the ones that were asked before. It waits for up to two
     seconds."""
     free = {device: name or device for device, name in devices() if device not in used}
@@ -38,14 +39,14 @@ def on_free_devices(used: Set[str], asked: FrozenSet[str]) -> Found:
         return frozenset(free), {}
     from live.device.numbers import ask  # few boards are missing
 
-    return frozenset(free), {number: free[device] for device, number in ask(list(free)).numbers.items()}
+    return frozenset(free), {number: free[device] for device, number in ask(program, list(free)).numbers.items()}
 
 
 class Finder:
     """Looks for missing boards now and then, beside the loop. `trouble` gets errors that should never happen."""
 
-    def __init__(self, loop: Turns, seekers: Callable[[], Sequence[Seeks]], trouble: Callable[[str], None]) -> None:
-        self._loop, self._seekers, self._trouble = loop, seekers, trouble
+    def __init__(self, loop: Turns, program: Program, seekers: Callable[[], Sequence[Seeks]], trouble: Callable[[str], None]) -> None:
+        self._loop, self._program, self._seekers, self._trouble = loop, program, seekers, trouble
         self._worker: Optional[Worker] = None  # while it looks
         self._missing: Set[str] = set()
         self._asked: FrozenSet[str] = frozenset()  # the devices that have given none of these numbers
@@ -73,7 +74,7 @@ class Finder:
 
     def _job(self, used: Set[str], asked: FrozenSet[str]) -> "Found | Exception":
         try:
-            return on_free_devices(used, asked)
+            return on_free_devices(self._program, used, asked)
         except Exception as error:
             return error
 

@@ -114,7 +114,7 @@ class Single:
         if self._finder is None:
             from live.board.finding import Finder
 
-            self._finder = Finder(self._loop, lambda: [self.board], self.trouble)
+            self._finder = Finder(self._loop, self._program, lambda: [self.board], self.trouble)
 
     def close(self) -> None:
         """The loop has ended: the board isn't looked for any more."""

@@ -1,65 +1,138 @@
-"""The serial numbers of the boards that are plugged in, for a list: each board is asked once."""
+"""The serial numbers of the boards that are plugged in, for a list. A child attends each board for that: it says when the board is
+asked, and which number has come."""
 
 from __future__ import annotations
 
+import functools
 import os
-import select
-import time
 from dataclasses import dataclass, field
-from typing import Dict, List, Sequence, Set, Tuple
+from typing import Dict, List, Optional, Sequence, Set, Tuple
 
-from live.device.protocol import SERIAL_REQUEST, Frames, serial_of
 from live.device.serial_line import Busy, SerialLine, may_not_open
+from live.game.attended import NUMBER, OTHER, Answer
+from live.game.attending import Attending, Told
+from live.game.program import Program
+from live.game.times import HEARD, OPENED
+from live.guard import Guard
+from live.loop import Callback, Loop
 
 ANSWERS_IN = 2.0  # seconds that a board may take
+NOBODY = b"-----"  # no board's number: each one that comes is another board's
 
 
 @dataclass
 class Asked:
-    """What came of asking some devices: the serial numbers of the boards that answered, the devices that another call has, and
-    those that this user may not open."""
+    """What came of asking some devices: the serial numbers of the boards that answered, the devices that another call has, those that
+    this user may not open, and why one couldn't be asked."""
 
     numbers: Dict[str, str] = field(default_factory=dict)
     in_use: Set[str] = field(default_factory=set)
     shut: Set[str] = field(default_factory=set)
+    failed: Dict[str, str] = field(default_factory=dict)
 
 
-def ask(devices: Sequence[str], seconds: float = ANSWERS_IN) -> Asked:
-    """Asks the boards on these devices for their numbers, all at once, and waits this many seconds at most."""
+def ask(program: Program, devices: Sequence[str], seconds: float = ANSWERS_IN) -> Asked:
+    """Asks the boards on these devices for their numbers, all at once, and waits this many seconds at most. It has a loop of its own: call
+    it in a thread beside the recorder's."""
     asked = Asked()
-    lines: Dict[int, SerialLine] = {}
+    lines: List[SerialLine] = []
     try:
         for device in devices:
             line = SerialLine(device)
             try:
-                if line.open() and line.number is not None:
-                    lines[line.number] = line
-                    line.ask(SERIAL_REQUEST)
+                if line.open():
+                    lines.append(line)
                 elif os.path.exists(device) and not os.access(device, os.R_OK | os.W_OK):
                     asked.shut.add(device)
             except Busy:
                 asked.in_use.add(device)
-        asked.numbers = _answers(lines, seconds)
+        for board in _answers(program, lines, seconds) if lines else ():
+            if board.number:
+                asked.numbers[board.device] = board.number
+            elif board.why:
+                asked.failed[board.device] = board.why
     finally:
-        for line in lines.values():
+        for line in lines:
             line.close()
     return asked
 
 
-def _answers(lines: Dict[int, SerialLine], seconds: float) -> Dict[str, str]:
-    """The answers of the boards on these lines."""
-    found: Dict[str, str] = {}
-    frames = {number: Frames() for number in lines}
-    over = time.monotonic() + seconds
-    while frames and time.monotonic() < over:
-        for number in select.select(list(frames), [], [], max(0.0, over - time.monotonic()))[0]:
-            sent = lines[number].read()
-            for byte in sent or b"":
-                if frames[number].take(byte) and serial_of(frames[number].whole):
-                    found[lines[number].device] = serial_of(frames[number].whole)
-            if sent is None or lines[number].device in found:
-                del frames[number]
-    return found
+def _answers(program: Program, lines: Sequence[SerialLine], seconds: float) -> List[_Board]:
+    """The boards on these lines, once each has answered or the time is over."""
+    loop = Loop()
+    left = set(lines)
+
+    def ends(line: SerialLine) -> None:
+        left.discard(line)
+        if not left:
+            loop.stop()
+
+    boards = [_Board(loop, line, functools.partial(ends, line)) for line in lines]
+    try:
+        for board in boards:
+            board.begin(program)
+        if left:
+            loop.after(seconds, loop.stop)
+            loop.run()
+    finally:
+        for board in boards:
+            board.end()
+        loop.close()
+    return boards
+
+
+class _Board:
+    """What is on one line, and the child that attends it."""
+
+    def __init__(self, loop: Loop, line: SerialLine, ended: Callback) -> None:
+        self.device, self.number, self.why = line.device, "", ""
+        self._line, self._ended = line, ended
+        self._guard = Guard(loop, self._broke, self._broke)
+        self._attending: Optional[Attending] = None
+
+    def begin(self, program: Program) -> None:
+        """Asks it."""
+        self._guard.call(functools.partial(self._begin, program))
+
+    def _begin(self, program: Program) -> None:
+        assert self._line.number is not None
+        self._attending = attending = Attending(self._guard, program, (), None, self)
+        attending.tell(NUMBER, NOBODY)
+        attending.tell(OPENED)
+        self._guard.watch(self._line.number, lambda: self._readable(attending))
+
+    def _readable(self, attending: Attending) -> None:
+        sent = self._line.read()
+        if sent is None:
+            self.end()
+        elif sent:
+            attending.tell(HEARD, sent)
+
+    def answered(self, told: Told, answer: Answer) -> None:
+        """The child says this."""
+        self._line.ask(answer.asked)
+        if answer.handling == OTHER:
+            self.number = answer.other
+            self.end()
+
+    def says(self, text: str) -> None:
+        """The child is started again."""
+
+    def broken(self, what: str) -> None:
+        """The child ends again and again."""
+        self.why = what
+        self.end()
+
+    def _broke(self, error: Exception) -> None:
+        self.why = str(error)
+        self._ended()
+
+    def end(self) -> None:
+        """It isn't asked any more, and its child is ended."""
+        if self._attending and not self._guard.ended:
+            self._attending.close()
+        self._guard.end()
+        self._ended()
 
 
 def listing(found: Sequence[Tuple[str, str]], asked: Asked) -> List[str]:
@@ -74,6 +147,8 @@ def _state(device: str, asked: Asked) -> str:
     """A device's number, or why it gave none."""
     if device in asked.shut:
         return "may not be opened"
+    if device in asked.failed:
+        return f"can't be asked ({asked.failed[device]})"
     return "in use" if device in asked.in_use else asked.numbers.get(device, "")
 
 

@@ -215,12 +215,12 @@ def pack(call: Call, here: str) -> Outcome:
     return (FAILED if packed.left_out else DONE), packed.left_out
 
 
-def list_devices() -> Outcome:
+def list_devices(here: str) -> Outcome:
     """Prints the list of the devices that are plugged in."""
-    from live.device.numbers import ask, listing, told_of_shut
+    from live.device.numbers import Asked, ask, listing, told_of_shut
 
     found = serial_line.devices()
-    devices = ask([device for device, _ in found])
+    devices = ask(Program.find(here), [device for device, _ in found]) if found else Asked()
     print("\n".join(listing(found, devices)))
     shut = told_of_shut(devices, serial_line.login_name())
     return (FAILED if shut else DONE), shut
@@ -238,7 +238,7 @@ def main(arguments: Sequence[str], here: str) -> int:
             print(f"dgt_live {Program.find(here).version()}")
             return DONE, ()
         if asked.devices:
-            return list_devices()
+            return list_devices(here)
         check_name(asked.name)
         if asked.packs:
             return pack(asked, here)

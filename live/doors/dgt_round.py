@@ -274,7 +274,7 @@ def play(asked: Asked, program: Program, signals: Signals) -> Outcome:
     refuse_exchanged(asked.file, asked.folder)
     given = turned(recordable(asked.options, unknown))
     file = pathlib.Path(asked.file)
-    source = Source(file, round_of(asked.options.round), encoding=asked.encoding, no_matches=asked.no_matches)
+    source = Source(program, file, round_of(asked.options.round), encoding=asked.encoding, no_matches=asked.no_matches)
     source.in_tournament = asked.tournament is not None
     if asked.tournament and not asked.is_encoding_typed:
         source.encoding_set = asked.tournament.encoding
@@ -391,7 +391,7 @@ def main(arguments: Sequence[str], here: str) -> int:
             print(f"dgt_round {Program.find(here).version()}")
             return DONE, ()
         if asked.new:
-            print("\n".join(made(pathlib.Path(asked.file))))
+            print("\n".join(made(pathlib.Path(asked.file), lambda: Program.find(here))))
             return DONE, ()
         tournament = tournament_of(asked.file, asked.folder)
         if tournament:

@@ -129,7 +129,7 @@ class Round:
         loop.after(OPENS, self.remade)
         self._looker: Optional[Worker] = None  # finds out which boards are plugged in
         self._asker: Optional[Worker] = None  # asks the program about lines without a board's number
-        self._finder = Finder(loop, lambda: [row.board for row in self.boards()], self.trouble)
+        self._finder = Finder(loop, hall.program, lambda: [row.board for row in self.boards()], self.trouble)
         self._came_back: Dict[int, float] = {}  # the boards that are just heard again, and when each has shown how it stands
         self._ending = False
         self._leaving = Leaving(loop, self.outputs, self.say)

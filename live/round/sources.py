@@ -12,6 +12,7 @@ from live.device import serial_line
 from live.device.line import same_line
 from live.device.numbers import ask
 from live.game import files
+from live.game.program import Program
 from live.refused import REFUSED, Refused
 from live.round.encodings import told_of_reading
 from live.round.joining import joined, placed, serials_wanted
@@ -22,11 +23,11 @@ from live.round.trf import is_report, read_report
 BOARDS = "boards.csv"
 
 
-def plugged_in() -> Dict[str, str]:
+def plugged_in(program: Program) -> Dict[str, str]:
     """The device of each board that sends its number, under the name of its cable. It waits for up to two seconds."""
     found = serial_line.devices()
     names = {device: name or device for device, name in found}
-    return {number: names[device] for device, number in ask(list(names)).numbers.items()}
+    return {number: names[device] for device, number in ask(program, list(names)).numbers.items()}
 
 
 def without_twice(read: Pairings, had: Mapping[int, str] = MappingProxyType({})) -> Tuple[List[Pairing], List[Wrong]]:
@@ -50,15 +51,15 @@ class Source:
 
     def __init__(
         self,
+        program: Program,
         file: pathlib.Path,
         round_number: Optional[int] = None,
-        looks: Callable[[], Mapping[str, str]] = plugged_in,
         encoding: str = "",
         no_matches: bool = False,
     ) -> None:
         self.file = file
         self.boards = file.parent / BOARDS
-        self._round, self._looks = round_number, looks
+        self._program, self._round = program, round_number
         self.encoding_set: Callable[[], str] = lambda: ""  # the one that settings have now, where none is typed
         self._encoding = encoding  # of files that aren't Unicode; empty if none is given
         self._no_matches = no_matches  # the teams of a report play none
@@ -95,7 +96,7 @@ class Source:
 
     def look(self) -> Dict[str, str]:
         """The boards that are plugged in. It waits for up to two seconds, and changes nothing here."""
-        return dict(self._looks())
+        return plugged_in(self._program)
 
     def found(self, plugged: Mapping[str, str]) -> None:
         """Takes the boards that were found."""

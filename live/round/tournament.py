@@ -7,13 +7,14 @@ import os
 import pathlib
 import re
 from dataclasses import dataclass
-from typing import List, Optional, Tuple
+from typing import Callable, List, Optional, Tuple
 
 from live.device import serial_line
 from live.device.numbers import ask
 from live.game import files
 from live.game.files import text_of
 from live.game.options import TAG
+from live.game.program import Program
 from live.refused import FAILED, REFUSED, Refused
 from live.round import settings
 from live.round.encodings import encoding_in, loose_text
@@ -167,11 +168,11 @@ def tournament_of(file: str, folder: str) -> Optional[Tournament]:
     return Tournament(path, int(folder))
 
 
-def made(folder: pathlib.Path) -> List[str]:
-    """Makes the missing files of a tournament. Returns what to do with them."""
+def made(folder: pathlib.Path, find: Callable[[], Program]) -> List[str]:
+    """Makes the missing files of a tournament. Returns what to do with them. `find` finds the program, if boards are plugged in."""
     try:
         folder.mkdir(exist_ok=True)
-        contents = {SETTINGS: settings.TEMPLATE, BOARDS: boards_text(), "round1.csv": ROUND_HEADER + "\n"}
+        contents = {SETTINGS: settings.TEMPLATE, BOARDS: boards_text(find), "round1.csv": ROUND_HEADER + "\n"}
         new = [name for name in contents if not os.path.lexists(folder / name)]
         for name in new:
             files.put_in_place(folder / name, contents[name].encode("utf-8"))
@@ -188,10 +189,10 @@ def made(folder: pathlib.Path) -> List[str]:
     ]
 
 
-def boards_text() -> str:
+def boards_text(find: Callable[[], Program]) -> str:
     """A table of the plugged-in boards, in order of their serial numbers."""
     found = serial_line.devices()
-    numbers = ask([device for device, _ in found]).numbers
+    numbers = ask(find(), [device for device, _ in found]).numbers if found else {}
     lines = [BOARDS_HEADER]
     places = [(numbers.get(device, ""), name or device) for device, name in found]
     for board, (number, name) in enumerate(sorted(places, key=lambda place: (not place[0], place)), 1):

@@ -6,6 +6,7 @@ import tempfile
 from typing import Dict, List, Tuple
 
 from live.doors.dgt_round import VALUED, parse
+from live.game.program import Program
 from live.refused import Refused
 from live.round.encodings import ENCODING, encoding_in, known_encoding, text_of, told_of_reading
 from live.round.joining import joined, placed, with_some
@@ -386,7 +387,7 @@ def encodings() -> None:
         table = pathlib.Path(folder) / "round1.csv"
         table.write_bytes("board;device;white;black\n1;/dev/a;Koç;Smith\n".encode("cp1252"))
         for encoding, white, remarks in (("", "Koç", 1), ("cp852", "Koš", 0)):
-            of_table = Source(table, encoding=encoding).read()
+            of_table = Source(Program(""), table, encoding=encoding).read()
             same(f"a table in {encoding or 'no encoding'}", (of_table.boards[0].white, len(of_table.remarks)), (white, remarks))
     for name in ("Ben", *WESTERN_NAMES):
         same(f"nothing is told of {name}", told_of_reading(name.encode("cp1252"), ""), "")
