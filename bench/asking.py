@@ -24,7 +24,7 @@ from typing import Callable, Dict, List, Protocol, Tuple, Union
 from hands import INITIAL, Change, Hands, Way, hand, moves_of, program, random_game, updates
 
 from attending.asking_rules import DUMP_REQUEST, QUIET, START_REQUEST, Asking  # noqa: E402  (hands has put its folder on the path)
-from live.device.protocol import FrameKind, Frames  # noqa: E402
+from attending.frames import FrameKind, Frames  # noqa: E402
 from recovering.frames import dump  # noqa: E402
 
 RATE = 960  # bytes a second

@@ -30,7 +30,8 @@ import hurried
 import streams
 from hands import EMPTY, PROGRAM, Game, lognormal
 
-from live.device.protocol import LETTERS, UPDATE_ID, Picture  # noqa: E402  (hands has put its folder on the path)
+from attending.frames import UPDATE_ID  # noqa: E402  (hands has put its folder on the path)
+from live.device.protocol import LETTERS, Picture  # noqa: E402
 from live.game.attended import Answers, Doubt, entry  # noqa: E402
 from live.game.report import Agrees, Differs, Move, line_of  # noqa: E402
 from live.game.times import BEGIN, GONE, HEARD, OPENED  # noqa: E402

@@ -173,8 +173,9 @@ class Loop:
 
     def close(self) -> None:
         """Gives up what it has open. It runs no more."""
-        for one in (self._epoll, self._woken, self._wakes):
-            one.close()
+        self._epoll.close()
+        self._woken.close()
+        self._wakes.close()
 
     def run(self) -> None:
         """Runs until it is stopped."""

@@ -23,7 +23,7 @@ class AskedFirst:
         self._guard = guard
         self._events: List[Tuple[int, Event]] = []
         self._attending = Attending(guard, program, (), None, self)
-        self.connection = Connection(guard, device, self)
+        self.connection = Connection(guard, program, device, self)
         if number:
             self._attending.tell(NUMBER, number.encode("ascii"))
         self.connection.begin()

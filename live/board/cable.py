@@ -74,7 +74,7 @@ class Cable:
         self._unsure: List[bytes] = []  # what has come, while nobody knows whose it is
         self._foreign: List[bytes] = []  # what another board has sent and no game has taken
         self._asked = asked  # before its game was open
-        self._connection = asked.connection if asked else Connection(guard, device, self)
+        self._connection = asked.connection if asked else Connection(guard, program, device, self)
 
     @property
     def name(self) -> str:

@@ -5,7 +5,6 @@ from __future__ import annotations
 import math
 from typing import TYPE_CHECKING, Optional, Protocol
 
-from live.device.ended import Ends
 from live.device.line import Line, line_of
 from live.device.serial_line import BUSY_PATIENCE, Busy, SerialLine, cable_name
 from live.game.times import ANSWERED, ASKED, CALLED, GONE, OPENED
@@ -13,7 +12,9 @@ from live.guard import Guard
 from live.loop import Timer
 
 if TYPE_CHECKING:
+    from live.device.first_dump import FirstDump
     from live.device.trial import Trial
+    from live.game.program import Program
 
 LOOK_AGAIN = 0.5  # seconds between two tries to open a device that isn't there
 CONNECT_AGAIN = 2.0  # and to connect to a serial server
@@ -47,8 +48,8 @@ class Connection:
     answered, or is silent. If it stays silent, the server is called again from time to time, and nobody else gets the line
     meanwhile: socat, for one, may wait for ever for a byte that another call has taken."""
 
-    def __init__(self, guard: Guard, device: str, hears: Hears) -> None:
-        self._guard, self._hears = guard, hears
+    def __init__(self, guard: Guard, program: Program, device: str, hears: Hears) -> None:
+        self._guard, self._program, self._hears = guard, program, hears
         self._given = device
         self._line: Line = line_of(device)
         self._silent = False
@@ -57,7 +58,8 @@ class Connection:
         self._gone = False
         self._is_plugged = self._is_open = False
         self._trial: Optional[Trial] = None  # of a connection to a serial server
-        self._ends = Ends()  # of what it sends before a board has answered
+        self._first: Optional[FirstDump] = None  # as long as the server may have no board
+        self._ended: Optional[str] = None  # why the line has ended, while what has come before is tried
         self._busy_since = math.inf
         self._closed = False
         self.why = ""  # why a serial server isn't there
@@ -123,9 +125,10 @@ class Connection:
         if isinstance(self._line, SerialLine):
             self._plugged()
         else:
-            from live.device.trial import Trial  # of serial servers alone
+            from live.device.first_dump import FirstDump  # of serial servers alone
+            from live.device.trial import Trial
 
-            self._trial, self._ends = Trial(now), Ends()
+            self._trial, self._first = Trial(now), FirstDump(self._guard, self._program, self)
             self._call_again_later()
 
     def _plugged(self) -> None:
@@ -136,21 +139,44 @@ class Connection:
     def _readable(self) -> None:
         sent, now = self._line.read(), self._guard.now()
         if sent is None:
-            self._lost(self._line.why)
+            self._ends(self._line.why)
         elif sent and self._trial and self._trial.is_flood(now, len(sent)):
             self._lost(FLOOD)
-        elif sent and self._trial and not self._trial.has_answered:
-            self._tries(self._trial, sent)
+        elif sent and self._trial and self._first:
+            self._trial.came(sent)
+            self._first.came(sent)
         elif sent:
             self._hears.came(sent)
 
-    def _tries(self, trial: Trial, sent: bytes) -> None:
-        """A serial server has sent this: perhaps a board behind it."""
-        passed = trial.passes((sent, self._ends.take(sent)))
+    def tried(self, size: int, dumped: bool) -> None:
+        """The program has heard so many bytes more of what a serial server has sent: perhaps a board is behind it."""
+        assert self._trial
+        passed = self._trial.passes(size, dumped)
         if passed:
+            self._try_no_more()
             self._hears.happened(ANSWERED)
             self._plugged()
-            self._hears.came(b"".join(part for part, _ in passed))
+            self._hears.came(passed)
+        if self._ended is not None and (passed or self._trial.is_tried):
+            self._lost(self._ended)
+
+    def untried(self, why: str) -> None:
+        """The program doesn't say whether a board is behind a serial server."""
+        self._lost(why)
+
+    def _try_no_more(self) -> None:
+        first, self._first = self._first, None
+        if first:
+            first.close()
+
+    def _ends(self, why: str) -> None:
+        """The line has ended. A board may have sent something before."""
+        assert self._line.number is not None
+        if self._trial and self._first and not self._trial.is_tried:
+            self._ended = why
+            self._guard.forget(self._line.number)
+        else:
+            self._lost(why)
 
     def _lost(self, why: str) -> None:
         said = self._trial.said if self._trial and not self._trial.has_answered else ""
@@ -193,7 +219,8 @@ class Connection:
         self._timer = self._calls_again = None
         if self._line.number is not None:
             self._guard.forget(self._line.number)
-        self._trial = None
+        self._try_no_more()
+        self._trial = self._ended = None
 
     def _hang_up(self) -> None:
         self._disconnect()
@@ -218,7 +245,7 @@ class Connection:
     def last_words(self) -> None:
         """Takes what has come, once more, and closes the line for good."""
         self._closed = True
-        if self._line.number is not None and self._is_plugged:
+        if self._line.number is not None and self._is_plugged and not self._first:
             sent = self._line.read()
             if sent:
                 self._hears.came(sent)

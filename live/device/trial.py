@@ -7,14 +7,12 @@ capture before a board has answered. Whatever sends faster than a board's line c
 from __future__ import annotations
 
 from dataclasses import dataclass, field
-from typing import List, Tuple
+from typing import List
 
 RATE = 1920  # bytes a second: twice what a board's line carries
 AT_ONCE = 65536  # bytes that may come together after the network has held them up
-KEPT = 4096  # bytes that wait for the first dump; the oldest go first
+KEPT = 4096  # bytes that wait for the first dump, beside those that weren't tried yet; the oldest go first
 LONGEST_SHOWN = 60  # characters of what a server says
-
-Heard = Tuple[bytes, bool]  # what was sent, and whether a dump ended in it
 
 
 @dataclass
@@ -23,7 +21,8 @@ class Trial:
 
     begun_at: float
     has_answered: bool = False
-    _waits: List[Heard] = field(default_factory=list)
+    _waits: List[bytes] = field(default_factory=list)
+    _tried: int = 0  # bytes of these in which no dump has ended
     _level: float = 0.0  # bytes that came, less what the rate allows
     _level_at: float = 0.0
 
@@ -34,22 +33,28 @@ class Trial:
         self._level_at = now
         return self._level > AT_ONCE
 
-    def passes(self, heard: Heard) -> List[Heard]:
-        """What can be passed on now that this has come."""
-        if self.has_answered:
-            return [heard]
-        self._waits.append(heard)
-        if heard[1]:
+    def came(self, sent: bytes) -> None:
+        """This has come, and waits."""
+        self._waits.append(sent)
+
+    def passes(self, size: int, dumped: bool) -> bytes:
+        """What can be passed on now that the next bytes were tried, so many, and a dump has ended in them or not."""
+        self._tried += size
+        if dumped:
             self.has_answered = True
-            passed, self._waits = self._waits, []
+            passed, self._waits = b"".join(self._waits), []
             return passed
-        while sum(len(sent) for sent, _ in self._waits) > KEPT and len(self._waits) > 1:
-            self._waits.pop(0)
-        return []
+        while self._tried > KEPT and len(self._waits) > 1:
+            self._tried -= len(self._waits.pop(0))
+        return b""
+
+    @property
+    def is_tried(self) -> bool:
+        """Whether all that waits was tried."""
+        return self._tried == sum(map(len, self._waits))
 
     @property
     def said(self) -> str:
         """What came instead of a dump, if it is text: a serial server says so why it hangs up."""
-        sent = b"".join(sent for sent, _ in self._waits)
-        text = " ".join(sent.decode("ascii", "replace").split())
+        text = " ".join(b"".join(self._waits).decode("ascii", "replace").split())
         return text[:LONGEST_SHOWN] if text.isprintable() and "\ufffd" not in text else ""

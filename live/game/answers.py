@@ -6,7 +6,7 @@ import re
 from dataclasses import dataclass
 from typing import List, Optional, Sequence, Tuple
 
-from live.device.protocol import DUMP_BEGINS, DUMP_ID, SIZES
+from live.device.protocol import DUMP_BEGINS, DUMP_SIZE
 from live.game.options import RECOVER, Options
 from live.game.program import Program, ending_of
 from live.game.reply import OK, Refused
@@ -71,7 +71,7 @@ def dump_at_end(program: Program, options: Options, sent: bytes) -> bytes:
     begins = said.put.rfind(DUMP_BEGINS)
     if begins < 0:
         raise OSError(f"back: {said.kind}")
-    return said.put[begins : begins + SIZES[DUMP_ID]]
+    return said.put[begins : begins + DUMP_SIZE]
 
 
 def _asked(program: Program, options: Options, sent: bytes, command: str, word: str) -> Said:

@@ -7,8 +7,7 @@ import math
 from dataclasses import dataclass, field
 from typing import NamedTuple
 
-from live.device.protocol import HEADER, SERIAL_REQUEST
-from live.device.protocol import FrameKind, Frames, serial_of
+from attending.frames import HEADER, SERIAL_REQUEST, FrameKind, Frames, serial_of
 
 DUMP_REQUEST = b"B"  # 42: a board dump
 START_REQUEST = b"BK"  # 42 4B: a board dump, then field updates, and times when they change

@@ -36,7 +36,7 @@ while True:
     part = os.read(0, 65536)
     if not part:
         break
-    if {deadly!r} in part and not os.path.exists({died!r}):
+    if {deadly!r} in part and not ({once!r} and os.path.exists({died!r})):
         if {once!r}:
             open({died!r}, "w").close()
         os._exit(9)
@@ -44,6 +44,15 @@ while True:
 child.stdin.close()
 os._exit(child.wait())
 """
+
+
+def dying(folder: str, once: bool) -> str:
+    """The path of such a program."""
+    path = pathlib.Path(folder, f"dying once: {once}")
+    died = os.path.join(folder, "died")
+    path.write_text(DYING.format(python=sys.executable, program=program(), deadly=DEADLY, died=died, once=once))
+    path.chmod(0o755)
+    return str(path)
 
 
 def numbered(text: str) -> bytes:
@@ -189,12 +198,9 @@ def children_that_die() -> None:
     """A child that ends is started again, and told what it was told. One that ends again and again costs its own device."""
     with tempfile.TemporaryDirectory() as folder:
         for once in (True, False):
-            dying, died = pathlib.Path(folder, f"dying{once}"), os.path.join(folder, f"died{once}")
-            dying.write_text(DYING.format(python=sys.executable, program=program(), deadly=DEADLY, died=died, once=once))
-            dying.chmod(0o755)
             with plugged(Far([DUMP, numbered("00001")[:5], numbered("00001")[5:] + DEADLY]), Far([DUMP + numbered("00002")])) as fars:
                 first = {fars[0].device: "00001"} if once else {}
-                found = asked(f"dies once: {once}", fars, path=str(dying))
+                found = asked(f"dies once: {once}", fars, path=dying(folder, once))
                 same(f"dies once: {once}", found.numbers, {**first, fars[1].device: "00002"})
                 same(f"why, {once}", found.failed, {} if once else {fars[0].device: "live ended with status 9"})
         with plugged(Far(), Far()) as fars:

@@ -45,17 +45,40 @@ def addresses() -> None:
 
 
 def waits_for_a_dump() -> None:
-    """What is passed on after each thing that came."""
-    first, second, third = (b"\x8e\x00", False), (b"\x05\x0c", False), (b"dump", True)
+    """What is passed on after each thing that was tried."""
+    first, second, third = b"\x8e\x00", b"\x05\x0c", b"dump"
     trial = Trial(0.0)
-    same("nothing yet", [trial.passes(first), trial.passes(second)], [[], []])
-    same("all in order", trial.passes(third), [first, second, third])
-    same("and then at once", trial.passes(first), [first])
+    same("nothing yet", [tried(trial, first), tried(trial, second), trial.has_answered], [b"", b"", False])
+    same("all in order", (tried(trial, third, True), trial.has_answered), (first + second + third, True))
     trial = Trial(0.0)
     for number in range(100):
-        same(f"waits {number}", trial.passes((bytes([number]) * 1024, False)), [])
-    passed = trial.passes(third)
-    same("the last four kilobytes", [sent[:1] for sent, _ in passed], [bytes([number]) for number in (96, 97, 98, 99)] + [b"d"])
+        same(f"waits {number}", tried(trial, bytes([number]) * 1024), b"")
+    passed = tried(trial, third, True)
+    same("the last four kilobytes", passed, b"".join(bytes([number]) * 1024 for number in (96, 97, 98, 99)) + third)
+
+
+def tried(trial: Trial, sent: bytes, dumped: bool = False) -> bytes:
+    """This has come, and is tried at once."""
+    trial.came(sent)
+    return trial.passes(len(sent), dumped)
+
+
+def tried_later() -> None:
+    """More comes before the program has said what ended in it."""
+    trial = Trial(0.0)
+    same("nothing waits", trial.is_tried, True)
+    for number in range(20):
+        trial.came(bytes([number]) * 1000)
+    same("what wasn't tried stays", (trial.is_tried, trial.passes(1000, False), len(trial.said)), (False, b"", 0))
+    whole = b"".join(bytes([number]) * 1000 for number in range(20))
+    same("the oldest go once five thousand were tried", [trial.passes(1000, False) for _ in range(4)], [b""] * 4)
+    same("with all that has come behind the dump", trial.passes(1000, True), whole[1000:])
+    trial = Trial(0.0)
+    for _ in range(3):
+        trial.came(b"abc")
+    seen = [(trial.passes(size, False), trial.is_tried) for size in (3, 6)]
+    same("some of it tried together", seen, [(b"", False), (b"", True)])
+    same("it said", trial.said, "abcabcabc")
 
 
 def what_it_said() -> None:
@@ -69,7 +92,7 @@ def what_it_said() -> None:
         (b"", ""),
     ):
         trial = Trial(0.0)
-        trial.passes((sent, False))
+        tried(trial, sent)
         same(f"{sent!r}", trial.said, expected)
 
 
@@ -90,4 +113,4 @@ def floods() -> None:
             same(f"{number}: {size} at {second}", trial.is_flood(50.0 + second, size), expected)
 
 
-TABLES = [addresses, waits_for_a_dump, what_it_said, floods]
+TABLES = [addresses, waits_for_a_dump, tried_later, what_it_said, floods]

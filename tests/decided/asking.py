@@ -5,9 +5,8 @@ import math
 import random
 from typing import Any, Dict, List, Sequence, Tuple
 
-from live.device.protocol import Frames, FrameKind
-
 from attending.asking_rules import Asking
+from attending.frames import FrameKind, Frames
 from decided.cases import bytes_of, cases
 from decided.table import same
 

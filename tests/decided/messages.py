@@ -393,7 +393,7 @@ TOP = pathlib.Path(__file__).resolve().parents[2]
 AT_THE_START = {
     "": "beside descriptors guard later lock loop refused steps time_away",
     "board": "asked_first attended_game board cable disk on_the_way plan reasons recorder recording single standing state typed_lines whose",
-    "device": "connection ended line network_address protocol serial_line",
+    "device": "connection line network_address protocol serial_line",
     "doors": "calls dgt_live door",
     "game": "alarms attended attending began control course doubted edited file_names files forfeiting front game log looks making_pgn names opening options "
     "program reading reply report tags timed times",

@@ -1,9 +1,9 @@
 """Frames, dumps, placements: worked by hand from FORMATS, 'What the board sends'."""
 
-from live.device.protocol import FrameKind, Frames
-from live.device.protocol import differing, picture_of_placement, serial_of
+from live.device.protocol import differing, picture_of_placement
 
 from attending.asking_rules import DUMP_REQUEST, START_REQUEST
+from attending.frames import FrameKind, Frames, serial_of
 from decided.cases import bytes_of, cases
 from decided.table import refused, same
 

@@ -3,11 +3,12 @@
 import math
 from typing import Any, Dict, Optional
 
-from live.device.protocol import picture_of_dump, picture_of_placement
+from live.device.protocol import picture_of_placement
 from live.terminal.screen import PROMPT, Screen
 from live.game.report import Event, event_of
 from live.board.state import DISK_FULL, TURNED_ROUND, Kind, State, lasting
 
+from attending.frames import picture_of_dump
 from attending.state_rules import BoardState, turned_round
 from decided.cases import bytes_of, cases
 from decided.table import same

@@ -8,7 +8,9 @@ from __future__ import annotations
 from dataclasses import dataclass, field, replace
 from typing import Iterator, List, Optional, Sequence, Tuple
 
-from live.device.protocol import HEADER, TIME_ID, FrameKind, Frames, Picture
+from live.device.protocol import Picture
+
+from attending.frames import HEADER, TIME_ID, FrameKind, Frames
 from recovering.frames import dump
 from recovering.rules import BLACK, EMPTY, KING, Move, Position, is_white
 

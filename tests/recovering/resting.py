@@ -12,7 +12,7 @@ from dataclasses import dataclass
 from typing import Iterator, List, Sequence, Tuple
 
 import hurried
-from live.device.protocol import UPDATE_ID
+from attending.frames import UPDATE_ID
 from recovering.frames import dump
 from recovering.rules import BLACK, EMPTY, INITIAL, KING, Move, Picture, Position, is_black, is_white
 
