@@ -4,7 +4,6 @@ parts, and what is passed on. The program says when a board has answered."""
 import os
 import pathlib
 import socket
-import sys
 import tempfile
 from typing import Callable, List, Optional, Sequence, Tuple
 
@@ -58,8 +57,8 @@ class Played:
     """A server that sends these parts, one after the other. Then it hangs up, or not."""
 
     def __init__(self, parts: Sequence[Part], path: str = "") -> None:
-        self.heard, self.troubles = Heard(), list[Exception]()
-        self.loop = Loop()
+        self.heard, self.loop = Heard(), Loop()
+        self.troubles: List[Exception] = []
         self._parts = list(parts)
         self._listener = socket.create_server(("127.0.0.1", 0))
         self._call: Optional[socket.socket] = None
