@@ -191,6 +191,8 @@ def devices_listed() -> None:
     same("one may not be opened", listing(two, shut),
          ["/dev/ttyACM0  01234", "/dev/ttyUSB0  /dev/serial/by-id/board  may not be opened"])  # fmt: skip
     same("and what to do", told_of_shut(shut, "anna"), [may_not_open("/dev/ttyUSB0", "anna")])
+    failed = Asked({"/dev/ttyACM0": "01234"}, failed={"/dev/ttyUSB0": "live was killed"})
+    same("one can't be asked", listing(two, failed)[1], "/dev/ttyUSB0  /dev/serial/by-id/board  can't be asked (live was killed)")
     same("all may be opened", told_of_shut(Asked(), "anna"), [])
     same("two", listing(two, Asked()),
          ["/dev/ttyACM0", "/dev/ttyUSB0  /dev/serial/by-id/board"])  # fmt: skip
