@@ -8,7 +8,7 @@ from live.board.standing import Standing
 from live.game.attended import Answer, Doubt, Over
 from live.game.attending import Attending, HearsAnswers, Past, Told
 from live.game.game import Game
-from live.game.times import ADDED, BEGIN, HEARD, LOOKED
+from live.game.times import BEGIN, BROUGHT, HEARD, LOOKED
 from live.guard import Guard
 from live.loop import Timer
 
@@ -66,8 +66,8 @@ class AttendedGame:
 
     def lent(self, sent: bytes) -> None:
         """The game's board has sent this on another game's cable."""
-        self._keep(self._guard.now(), sent, ADDED)
-        self.attending.tell(ADDED, sent)
+        self._keep(self._guard.now(), sent, BROUGHT)
+        self.attending.tell(BROUGHT, sent)
 
     def looked(self) -> None:
         """Somebody has looked at the alarms. A child that attends the game later hears of it too."""
@@ -110,11 +110,11 @@ class AttendedGame:
         self._append(sent, what)
 
     def _append(self, sent: bytes, what: str) -> None:
-        """The capture gets this. What is added gets its line in the game's times when the program is told of it, if it is."""
+        """The capture gets this. What the program is told of has its line in the game's times by that."""
         kept = self._write(sent)
         if kept < len(sent) and not self.game.capture.at_limit:
             self._has_lost = True
-        if kept and not (what == ADDED and self.attending.notes):
+        if kept and (what == HEARD or not self.attending.notes):
             self.game.times.happened(what, kept)
 
     def _write(self, sent: bytes) -> int:

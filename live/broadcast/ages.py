@@ -8,7 +8,7 @@ from typing import List, Mapping, Optional
 
 from live.game import times
 from live.game.began import Began, Begin
-from live.game.times import ADDED, HEARD, OVER, Call, Kept
+from live.game.times import OF_BYTES, OVER, Call, Kept
 
 
 @dataclass(frozen=True)
@@ -41,7 +41,7 @@ def came(calls: List[Call], generation: int, began: Mapping[Begin, Began], start
         covered, last = call.size, 0
         for at, what, count in call.events:
             last = max(last, at)
-            if what in (HEARD, ADDED):
+            if what in OF_BYTES:
                 covered += count or 0
                 _add(found, Came(covered, min(begins + last, ends)))
     return found

@@ -235,7 +235,7 @@ class Attending(Child):
         if begun and begun.away is not None:
             self._tell(Told(now, times.AWAY, count=begun.away))
         if past and past.capture.pending:
-            self._tell(Told(now, times.ADDED, past.capture.pending))
+            self._tell(Told(now, times.BROUGHT, past.capture.pending))
             self._told[-1].is_noted = True  # when it came
 
     def _writes(self, number: int) -> bool:

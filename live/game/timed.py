@@ -380,7 +380,7 @@ class Times:
     def _begin_again(self) -> None:
         """What was lost has no times: from here on they count anew."""
         now = self._events[0][0] if self._events else self.clock()
-        grown = sum(count or 0 for _, what, count in self._events if what in (times.HEARD, times.ADDED))
+        grown = sum(count or 0 for _, what, count in self._events if what in times.OF_BYTES)
         self._events[:0] = self._beginning(now, max(0, self._capture.total - grown), 0, self._line)
 
     def _fails(self, error: Exception) -> None:

@@ -12,9 +12,10 @@ from typing import Iterator, List, Optional, Sequence, Tuple, Union
 VERSION = 1
 HEADED = 4096  # bytes of a capture that a new heading has the digest of, at most
 BEGIN, AWAY, OPENED, ANSWERED, GONE, CALLED = "begin", "away", "opened", "answered", "gone", "called"
-HEARD, ADDED, STOPPED, ASKED, TOOK, OVER = "heard", "added", "stopped", "asked", "took", "over"
+HEARD, BROUGHT, ADDED, STOPPED, ASKED, TOOK, OVER = "heard", "brought", "added", "stopped", "asked", "took", "over"
 LOOKED, BACK, REOPENED, SUSPECT = "ok", "back", "reopened", "suspect"
-COUNTS = (BEGIN, AWAY, HEARD, ADDED, STOPPED, ASKED, OVER, SUSPECT)  # words with a number
+OF_BYTES = (HEARD, BROUGHT, ADDED)  # the capture got so many bytes
+COUNTS = (BEGIN, AWAY, *OF_BYTES, STOPPED, ASKED, OVER, SUSPECT)  # words with a number
 ALONE = (OPENED, ANSWERED, GONE, CALLED, TOOK, LOOKED, BACK, REOPENED)
 TOO_LARGE = 2**64
 FNV_START, FNV_TIMES = 14695981039346656037, 1099511628211  # of FNV-1a with 64 bits
@@ -136,7 +137,7 @@ def _events(content: Content, start: int) -> Iterator[Tuple[int, str, int]]:
 
 def _covers(before: int, what: str, count: int) -> int:
     """How many bytes are accounted for, after an event."""
-    return count if what == BEGIN else before + count if what in (HEARD, ADDED) else before
+    return count if what == BEGIN else before + count if what in OF_BYTES else before
 
 
 def added_last(content: Content) -> range:

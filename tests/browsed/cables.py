@@ -202,6 +202,9 @@ def cables_exchanged(folder: pathlib.Path) -> None:
         play(stage, page, second, RUY[2:4], RUY_SANS[2:4])
         exchange(stage, first, second)
         stage.until(lambda: any("its own, 10001, is back" in line for line in page.messages), "a word that it is back")
+        for number in (1, 2):  # what came over the other cable is the board's, and nobody has added it
+            words = [line.split()[1] for line in "".join(page.kept_times(number)).splitlines()]
+            same(("brought" in words, "added" in words), (True, False))
         play(stage, page, first, RUY[4:6], RUY_SANS[4:6])
         text, capture = stage.saved(page, "#save-game"), stage.saved(page, "#save-capture")
         same(text, of_record(text, capture))

@@ -22,11 +22,13 @@ def ages_of_bytes() -> None:
     first = times.Call(50, 0, [(10, "heard", 67), (500, "asked", 3), (1000, "heard", 10), (900, "added", 5)])
     second = times.Call(200, 82, [(0, "away", 99999), (20, "heard", 8)])
     third = times.Call(300, 90, [(5, "opened", None)])
+    lent = times.Call(50, 0, [(10, "heard", 67), (1000, "brought", 15)])
     here, there = "this", "another"
     b1, b2, b3 = (0, 50), (0, 200), (0, 300)
     cases: List[Tuple[str, List[times.Call], int, Dict[Begin, Began], List[Tuple[int, int]]]] = [
         ("nothing is known", [], 90, {}, [(90, 10000)]),
         ("one call", [first], 82, {b1: Began(2000, here)}, [(67, 2010), (77, 3000), (82, 3000)]),
+        ("bytes over the cable of another game", [lent], 82, {b1: Began(2000, here)}, [(67, 2010), (82, 3000)]),
         ("bytes without a time", [first], 90, {b1: Began(2000, here)}, [(67, 2010), (77, 3000), (82, 3000), (90, 10000)]),
         ("it has fewer", [first], 70, {b1: Began(2000, here)}, [(67, 2010), (70, 3000)]),
         ("two calls, and `away` counts for nothing", [first, second], 90, {b1: Began(2000, here), b2: Began(7000, here)},
@@ -93,7 +95,7 @@ def no_byte_is_older() -> None:
                 began[0, call.offset] = Began(now - started, f"{starts:x}")
             for _ in range(draw.randint(0, 6)):
                 now += draw.randint(0, 500)
-                size, what = draw.randint(0, 3), draw.choice(["heard", "added", "asked"])
+                size, what = draw.randint(0, 3), draw.choice(["heard", "brought", "added", "asked"])
                 call.events.append((now - begins, what, size))
                 truth += [now] * (0 if what == "asked" else size)
             if loses and draw.random() < 0.4:

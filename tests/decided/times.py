@@ -59,7 +59,7 @@ def added() -> None:
     front = f"{OF_A}0 begin 1\n12 heard 67\n"
     for rest, begins, ends in (
         ("", 0, 0), ("20 added 30\n", 68, 98), ("20 added 30\n21 heard 5\n30 added 7\n31 heard 9\n", 103, 110),
-        ("20 added 30\n0 begin 200\n5 added 4\n", 200, 204), ("20 added 30\n0 begin 98\n", 68, 98), ("20 added 30\n21 added", 68, 98),
+        ("20 added 30\n21 brought 5\n", 68, 98), ("20 brought 5\n21 added 30\n", 73, 103), ("20 added 30\n0 begin 200\n5 added 4\n", 200, 204), ("20 added 30\n0 begin 98\n", 68, 98), ("20 added 30\n21 added", 68, 98),
     ):  # fmt: skip
         same(rest, times.added_last((front + rest).encode()), range(begins, ends))
     same("no file", len(times.added_last(b"")), 0)

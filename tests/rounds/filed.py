@@ -11,7 +11,7 @@ from rounds.swapped import AT_USB, SETTLED, Tables
 
 
 def filed_in_a_hall(folder: pathlib.Path) -> None:
-    """Two cables are swapped and stay so: what comes over another game's cable counts as added, there and in the file."""
+    """Two cables are swapped and stay so: what comes over another game's cable has a word of its own, there and in the file."""
     tap = Tap(folder)
     hall = Tables(folder, 2, start=tap.start)
     hall.begun()
@@ -26,7 +26,7 @@ def filed_in_a_hall(folder: pathlib.Path) -> None:
     for number in hall.seats:
         events = is_filed(hall.name(number), tap.calls_of(f"{number:02}"))
         found = [word for _, word, _ in events]
-        same((found.count("added") > 3, found.count("ok"), found.count("called") > 0), (True, 1, True))
+        same((found.count("brought") > 3, found.count("added"), found.count("ok"), found.count("called") > 0), (True, 0, 1, True))
 
 
 def filed_if_suspected(folder: pathlib.Path) -> None:

@@ -292,6 +292,45 @@ def found_on_a_free_socket(folder: pathlib.Path) -> None:
         other.end()
 
 
+def played_over_another_cable(folder: pathlib.Path) -> None:
+    """Two boards have changed cables. What is played on one of them counts as if it had come over its own: a move after a typed result
+    ends the game, and the next one is an alarm."""
+    cables = Cables(folder)
+    boards = [cables.board("DGT_A", 0), cables.board("DGT_B", 3)]
+    for board, number in zip(boards, (b"00001", b"00002")):
+        board.serial_number = number
+    Stage.boards[:] = boards
+    (folder / "round.csv").write_text("board,device\n" + "".join(f"{n},{board.device}\n" for n, board in enumerate(boards, 1)))
+    live = Live(folder / "round.csv", folder / "games", program=ROUND, typed=True, environment=cables.environment())
+    game, board = folder / "games" / "01", boards[0]
+    for number in (1, 2):
+        until_line(live, f"{number:>3}  agrees")
+    board.play("e2e4")
+    until_game(game, "1. e4 *")
+    until(lambda: bytes_of(f"{game}.serial") == b"00001\n", "its number")
+    for one in boards:
+        one.pull()
+    until_line(live, "UNPLUGGED", 2)
+    boards[0].cable, boards[1].cable = boards[1].cable, boards[0].cable
+    for one, place in zip(boards, (3, 0)):
+        cables.plug(one, place)
+    until_line(live, "  1  LOOK at the cable: it has the board of board 2, serial number 00002")
+    until_line(live, "  2  LOOK at the cable: it has the board of board 1, serial number 00001")
+    until(lambda: board.asked_for_updates, "a request on the other cable")
+    board.play("e7e5")
+    until_game(game, "1. e4 e5 *")
+    live.type("1 1-0")
+    until_game(game, "1. e4 e5 1-0")
+    board.play("g1f3")
+    until_line(live, f"  1  {game} is over: another move was made after its result")
+    board.play("b8c6")
+    until_line(live, "  1  LOOK after 1... e5: 2 moves were made, and the game is over: 1-0")
+    same(movetext(game), "1. e4 e5 1-0")
+    words = [line.split()[1] for line in bytes_of(f"{game}.times").decode().splitlines()]
+    same((words.count("added"), "brought" in words), (1, True))
+    same(stop(live), 0)
+
+
 def spare_board(folder: pathlib.Path) -> None:
     """A board that breaks is replaced by one that nobody knows: what it sends is kept back until the arbiter says ok, and then
     it is the game's; so it is when the call is started again."""
@@ -374,6 +413,7 @@ def answers_of_all_kinds(folder: pathlib.Path) -> None:
 CASES = [
     found_by_serial,
     found_on_a_free_socket,
+    played_over_another_cable,
     swapped_between_calls,
     left_swapped,
     spare_board,

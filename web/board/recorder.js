@@ -11,7 +11,7 @@ import { ProgramError } from '../game/program.js';
 import { NO_PLIES, hasAlone, newCourse, publishedOf, standsAt, textOf } from '../game/reading.js';
 import { codesOf, shortOf, shownOf, wordsOf } from '../game/report.js';
 import { ABSENT, Refused } from '../game/typed.js';
-import { ADDED, ASKED, BACK, HEARD, LOOKED, OVER, REOPENED, SUSPECT, isOf, kept as foundIn } from '../game/times.js';
+import { ADDED, ASKED, BACK, BROUGHT, HEARD, LOOKED, OVER, REOPENED, SUSPECT, isOf, kept as foundIn } from '../game/times.js';
 import { isAltered, reached, readBack, wentOn } from '../game/way_back.js';
 import { Capture, LARGEST } from '../kept/capture.js';
 import { spread, withMore } from '../kept/spread.js';
@@ -251,7 +251,7 @@ export class Recorder {
   }
 
   /** What its board has sent comes to the game. */
-  takeSent(bytes, at, now, isAdded = false) {
+  takeSent(bytes, at, now, isBrought = false) {
     const room = LARGEST - this.capture.size;
     if (room <= 0) return; // the game is over, and nobody has begun another one
     const unheard = this.guard.away() - this.away;
@@ -260,7 +260,7 @@ export class Recorder {
     this.boardIsThere(now, unheard > 0);
     const taken = bytes.slice(0, room);
     this.capture.append(taken, now);
-    if (!isAdded) this.times.note(HEARD, taken.length, at);
+    if (!isBrought) this.times.note(HEARD, taken.length, at);
     this.lookAtLimit();
   }
 
@@ -302,7 +302,7 @@ export class Recorder {
     this.attending.inTurn(() => {
       const at = this.guard.counted();
       this.takeSent(bytes, at, this.guard.now(), true);
-      this.attending.tellNow(ADDED, bytes, at);
+      this.attending.tellNow(BROUGHT, bytes, at);
     });
   }
 

@@ -5,11 +5,13 @@
 
 export const HEADED = 4096; // bytes of a capture that a new heading has the digest of, at most
 export const [BEGIN, AWAY, OPENED, ANSWERED, GONE, CALLED] = ['begin', 'away', 'opened', 'answered', 'gone', 'called'];
-export const [HEARD, ADDED, STOPPED, ASKED, TOOK, OVER] = ['heard', 'added', 'stopped', 'asked', 'took', 'over'];
+export const [HEARD, BROUGHT, ADDED] = ['heard', 'brought', 'added']; // the capture got so many bytes
+export const [STOPPED, ASKED, TOOK, OVER] = ['stopped', 'asked', 'took', 'over'];
 export const [LOOKED, BACK, REOPENED, SUSPECT] = ['ok', 'back', 'reopened', 'suspect'];
 
 const VERSION = 1;
-const COUNTS = [BEGIN, AWAY, HEARD, ADDED, STOPPED, ASKED, OVER, SUSPECT]; // words with a number
+const OF_BYTES = [HEARD, BROUGHT, ADDED];
+const COUNTS = [BEGIN, AWAY, ...OF_BYTES, STOPPED, ASKED, OVER, SUSPECT]; // words with a number
 const ALONE = [OPENED, ANSWERED, GONE, CALLED, TOOK, LOOKED, BACK, REOPENED];
 const TOO_LARGE = 2n ** 64n;
 const [FNV_START, FNV_TIMES] = [14695981039346656037n, 1099511628211n]; // of FNV-1a with 64 bits
@@ -61,7 +63,7 @@ function* eventsOf(text, start) {
 /** How many bytes are accounted for, after an event. */
 function covers(before, { what, count }) {
   if (what === BEGIN) return count;
-  return what === HEARD || what === ADDED ? before + count : before;
+  return OF_BYTES.includes(what) ? before + count : before;
 }
 
 /**
