@@ -3,6 +3,7 @@ asked, and which number has come."""
 
 from __future__ import annotations
 
+import contextlib
 import functools
 import os
 from dataclasses import dataclass, field
@@ -36,9 +37,10 @@ def ask(program: Program, devices: Sequence[str], seconds: float = ANSWERS_IN) -
     it in a thread beside the recorder's."""
     asked = Asked()
     lines: List[SerialLine] = []
-    try:
+    with contextlib.ExitStack() as opened:
         for device in devices:
             line = SerialLine(device)
+            opened.callback(line.close)
             try:
                 if line.open():
                     lines.append(line)
@@ -51,16 +53,12 @@ def ask(program: Program, devices: Sequence[str], seconds: float = ANSWERS_IN) -
                 asked.numbers[board.device] = board.number
             elif board.why:
                 asked.failed[board.device] = board.why
-    finally:
-        for line in lines:
-            line.close()
     return asked
 
 
 def _answers(program: Program, lines: Sequence[SerialLine], seconds: float) -> List[_Board]:
     """The boards on these lines, once each has answered or the time is over."""
-    loop = Loop()
-    left = set(lines)
+    loop, left = Loop(), set(lines)
 
     def ends(line: SerialLine) -> None:
         left.discard(line)
@@ -68,16 +66,14 @@ def _answers(program: Program, lines: Sequence[SerialLine], seconds: float) -> L
             loop.stop()
 
     boards = [_Board(loop, line, functools.partial(ends, line)) for line in lines]
-    try:
+    with contextlib.ExitStack() as opened:
+        opened.callback(loop.close)
         for board in boards:
+            opened.callback(board.end)
             board.begin(program)
         if left:
             loop.after(seconds, loop.stop)
             loop.run()
-    finally:
-        for board in boards:
-            board.end()
-        loop.close()
     return boards
 
 
