@@ -16,7 +16,9 @@ WAITS, UNSEEN = "WAITS", ("UNPLUGGED", "SILENT", "WAITS")  # states in which the
 HINTS = ("TURNED-ROUND", "OTHER-BOARD")
 END = re.compile(r"over ([A-Z-]+) (\S+) ([0-9]+) (sure|unsure)|played ([0-9]+)|begins ([0-9]+)")
 KEPT_LINE, GAME_LINE = b"kept ", b"game "  # behind which come as many bytes as they say
-OFTEN = re.compile(rb"keep\n(?:ask ([A-Z]+)\n)?done ([0-9]+|-)\n")  # the end of most answers
+DIGITS = b"0123456789"  # one of these begins each line of the report
+REPORT_ENDS = re.compile(rb"\n[^0-9]")
+OFTEN = re.compile(rb"keep\n(?:ask ([A-Z]+)\n)?(?:state ([^ \n]+ [^\n]+)\n)?done ([0-9]+|-)\n")  # the end of most answers
 HISTORY_ENDS = b"done -"  # the answer to a capture
 NO_HISTORY = re.compile(rb"^[^0-9d]", re.MULTILINE)  # a line that isn't in such an answer
 
@@ -101,11 +103,15 @@ class Answers:
         if self._known and not NO_HISTORY.search(come):
             found, at = self._skip(come)
         while (end := come.find(b"\n", at)) >= 0:
+            if come[at] in DIGITS:
+                ends = REPORT_ENDS.search(come, end)
+                end = ends.start() if ends else come.rfind(b"\n")
+                self._reports(come[at:end])
+                at = end + 1
+                continue
             often = OFTEN.match(come, at)
             if often:
-                answer, self._answer = self._answer, Answer()
-                answer.handling, answer.asked, answer.due = KEEP, often.group(1) or b"", _span(often.group(2).decode())
-                found.append(answer)
+                found.append(self._often(*often.groups()))
                 at = often.end()
                 continue
             behind = end + 1
@@ -135,15 +141,26 @@ class Answers:
         self._known -= count
         return [Answer() for _ in range(ended)], at
 
+    def _reports(self, reported: bytes) -> None:
+        """Takes lines of the report."""
+        lines = reported.decode("latin-1").split("\n")
+        if self._known:
+            known = min(self._known, len(lines))
+            self._known -= known
+            del lines[:known]
+        self._answer.report += lines
+
+    def _often(self, asked: Optional[bytes], state: Optional[bytes], due: bytes) -> Answer:
+        """The answer, given the parts of such an end."""
+        answer, self._answer = self._answer, Answer()
+        answer.handling, answer.asked, answer.due = KEEP, asked or b"", _span(due.decode())
+        if state:
+            answer.stood = _stood_of(state.decode("latin-1").split(" "))
+        return answer
+
     def _ends(self, line: str) -> bool:
-        """Takes a line. Returns whether the answer ends with it."""
-        answer, first = self._answer, line[:1]
-        if first.isdigit():
-            if self._known:
-                self._known -= 1
-            else:
-                answer.report.append(line)
-            return False
+        """Takes another line. Returns whether the answer ends with it."""
+        answer = self._answer
         word, *rest = line.split(" ")
         if word in (KEEP, HOLD, OTHER):
             answer.handling, answer.other = word, "".join(rest)
@@ -153,8 +170,7 @@ class Answers:
         elif word == "ask" and rest:
             answer.asked = rest[0].encode()
         elif word == "state" and len(rest) >= 2:
-            hint = rest.pop() if rest[-1] in HINTS else ""
-            answer.stood = Stood(rest[0], _span(rest[1]), tuple(rest[2:]), hint)
+            answer.stood = _stood_of(rest)
         elif word == NUMBER and rest:
             answer.number = rest[0]
         elif word == "look" and (doubt := DOUBT.fullmatch(line)):
@@ -166,6 +182,12 @@ class Answers:
         else:
             raise NoAnswer(line)
         return False
+
+
+def _stood_of(words: List[str]) -> Stood:
+    """How the board stands, by the words behind `state`."""
+    hint = words.pop() if words[-1] in HINTS else ""
+    return Stood(words[0], _span(words[1]), tuple(words[2:]), hint)
 
 
 def _doubt_of(suspect: Optional[str], number: str, where: str, plies: str, why: str, moves: Optional[str]) -> Doubt:
