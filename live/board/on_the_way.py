@@ -14,6 +14,7 @@ from live.game.times import CALLED, HEARD, TOOK, line_after
 LENDS = "lends"  # the game's board has sent this on another game's cable
 ANOTHER = "another"  # another board is on the cable, which the game's program attends no more
 NOTED = (*OF_THE_LINE, TOOK)  # news that the game's times have too
+PASSED_ON = (HEARD, LENDS, ANOTHER, *NOTED)  # what the program is told
 Happened = Tuple[str, bytes]  # what, and what the board has sent
 
 
@@ -51,7 +52,7 @@ class OnTheWay:
             self._line = line_after(self._line, what)
         elif what == ANOTHER:
             self._line = ()
-        if what not in (HEARD, LENDS, ANOTHER, *NOTED):
+        if what not in PASSED_ON:
             self._games.game.times.happened(what, count)
         elif self._held is None:
             self._passes(what, sent)
