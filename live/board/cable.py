@@ -8,9 +8,8 @@ from typing import TYPE_CHECKING, List, Optional, Protocol
 from live.board.asked_first import AskedFirst
 from live.board.on_the_way import ANOTHER
 from live.board.standing import Standing
-from live.board.state import Kind
 from live.device.connection import Connection
-from live.game.attended import KEEP, OTHER, WAKE, Answer
+from live.game.attended import KEEP, OTHER, SILENT, UNPLUGGED, WAITS, WAKE, Answer
 from live.game.attending import OF_THE_LINE, Told
 from live.game.files import MEMORY
 from live.game.program import Program
@@ -22,7 +21,7 @@ from live.terminal.screen import Screen
 if TYPE_CHECKING:
     from live.board.another_board import AnotherBoard
 
-NO_BOARD = (Kind.WAITS, Kind.UNPLUGGED)  # states that don't say whether the board answers
+NO_BOARD = (WAITS, UNPLUGGED)  # states that don't say whether the board answers
 
 
 class HearsCable(Protocol):
@@ -169,7 +168,7 @@ class Cable:
         if answer.asked:
             self._connection.ask(answer.asked)
         if answer.stood:
-            self._stands(Kind.of(answer.stood.kind))
+            self._stands(answer.stood.kind)
 
     def plays_elsewhere(self) -> None:
         """The game's board is on another cable: what is on this one isn't known."""
@@ -238,9 +237,9 @@ class Cable:
             self._foreign = []
             self._goes_on()
 
-    def _stands(self, kind: Kind) -> None:
+    def _stands(self, kind: str) -> None:
         """The board stands so: it is silent, or answers, or nothing is known of that."""
-        is_silent = kind is Kind.SILENT
+        is_silent = kind == SILENT
         if is_silent != self._silent and kind not in NO_BOARD:
             self.silence(is_silent)
 

@@ -12,7 +12,7 @@ KEPT, CAPTURE, NUMBER, LENT, WAKE, TEXT = "kept", "capture", "number", "lent", "
 AT, AFTER, SINCE, SUSPECT = "at", "after", "since", "SUSPECT"  # where somebody must look
 DOUBT = re.compile(f"look (?:({SUSPECT}) ([0-9]+)|({AT}|{AFTER}|{SINCE}) ([0-9]+) ([A-Z-]+)(?: ([0-9]+))?)")
 KEEP, HOLD, OTHER = "keep", "hold", "other"
-WAITS, UNSEEN = "WAITS", ("UNPLUGGED", "SILENT", "WAITS")  # states in which the board may have shown nothing
+UNPLUGGED, SILENT, WAITS = UNSEEN = "UNPLUGGED", "SILENT", "WAITS"  # states in which the board may have shown nothing
 HINTS = ("TURNED-ROUND", "OTHER-BOARD")
 END = re.compile(r"over ([A-Z-]+) (\S+) ([0-9]+) (sure|unsure)|played ([0-9]+)|begins ([0-9]+)")
 KEPT_LINE, GAME_LINE = b"kept ", b"game "  # behind which come as many bytes as they say
