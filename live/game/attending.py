@@ -257,7 +257,7 @@ class Attending(Child):
             self._out[0] = left
         else:
             self._out.popleft()
-        return True
+        return bool(self._out)
 
     # What it answers.
 
@@ -279,9 +279,10 @@ class Attending(Child):
         if told.what == times.HEARD and answer.handling == HOLD:
             self._held.append(told.sent)
         self.keeps = answer.handling == KEEP
-        self._wake_at(told.at, answer.due)
+        self._is_due = False
         self._look_at_state(answer)
         self._hears.answered(told, answer)
+        self._wake_at(told.at, answer.due)
         if answer.game is not None and self._gets_text:
             gets, self._gets_text = self._gets_text, None
             gets(answer.game)
@@ -301,8 +302,7 @@ class Attending(Child):
 
     def _wake_at(self, at: float, due: Optional[int]) -> None:
         """It wants to be woken so many milliseconds after this time; another answer says it anew."""
-        self._is_due = False
-        if due is None or self._told:
+        if due is None or self._told or self._is_closed:
             self._due = math.inf
             return
         self._due = at + due / 1000 + LATER
