@@ -24,14 +24,14 @@ from live.game.game import Game, forget_question, largest, mark_end, mebibytes
 from live.game.looks import Look, Looks
 from live.game.making_pgn import Made, Maker
 from live.game.opening import Opened
-from live.game.report import Clock, Differs, Event, Fault, Line, Move, Picture, Position, Recovered, Result, line_of
+from live.game.report import NEWS, Clock, Differs, Event, Fault, Line, Move, Picture, Position, Recovered, Result, event_of, parts_of
 from live.game.times import ADDED, BACK, HEARD, OVER, REOPENED
 from live.guard import Guard
 from live.steps import Resume, Steps
 from live.terminal.screen import Screen
 
 TICK = 1.0  # seconds between two looks at what waits
-OF_A_BYTE = operator.attrgetter("offset")  # lines of one byte have the same
+OF_A_BYTE = operator.itemgetter(0)  # the offset: lines of one byte have the same
 LARGE = 48 * 1024 * 1024  # bytes of a capture, at which somebody may still look at its board
 STANDS = 10  # seconds that a result stands before the program says that it ends a game
 
@@ -195,29 +195,34 @@ class Recording(AttendedGame):
     def _reports(self, at: float, texts: List[str]) -> None:
         """Takes the lines of its report about what came at this time."""
         if not self._is_heard:
-            for _, of_a_byte in itertools.groupby(filter(None, map(line_of, texts)), OF_A_BYTE):
-                self._hear(at, list(of_a_byte))
+            for offset, of_a_byte in itertools.groupby(map(parts_of, texts), OF_A_BYTE):
+                self._hear(at, offset, [words for _, words in of_a_byte])
 
-    def _hear(self, came: float, lines: Sequence[Line]) -> None:
-        """Takes the lines of a byte, which came then. What changes the game is printed first, since somebody waits for it."""
+    def _hear(self, came: float, offset: int, lines: Sequence[str]) -> None:
+        """Takes the words of the lines of a byte, which came then. What changes the game is printed first, before the others are read,
+        since somebody waits for it."""
         if self._begins_anew:
             return
         is_changed = False
-        if self.end is not None and lines[0].offset >= self.end:  # the game is over with this many bytes
-            self._dropped += [line.event for line in lines if isinstance(line.event, Move)]
-            lines = [line for line in lines if line.is_picture]
-            self.is_set_up = self.is_set_up or any(self._shows_start(line.event) for line in lines)
-        for line in lines:
-            if isinstance(line.event, (Move, Result, Recovered)):
-                self._screen.told(line.event.shown, line.offset < self._old)
-                is_changed = is_changed or line.offset >= self._maker.made_of
+        if self.end is not None and offset >= self.end:  # the game is over with this many bytes
+            events = [event_of(words) for words in lines]
+            self._dropped += [event for event in events if isinstance(event, Move)]
+            lines = [words for words, event in zip(lines, events) if isinstance(event, Picture)]
+            self.is_set_up = self.is_set_up or any(map(self._shows_start, events))
+        for words in lines:
+            event = event_of(words) if words.startswith(NEWS) else None
+            if isinstance(event, (Move, Result, Recovered)):
+                self._screen.told(event.shown, offset < self._old)
+                is_changed = offset >= self._maker.made_of
         if is_changed:
             self._maker.want()
             os.sched_yield()  # whoever reads these lines need not wait for what follows
-        for line in lines:
-            self._take(line, came)
+        for words in lines:
+            event = event_of(words)
+            if event:
+                self._take(Line(offset, event), came)
 
-    def _shows_start(self, event: Event) -> bool:
+    def _shows_start(self, event: Optional[Event]) -> bool:
         return isinstance(event, Picture) and event.placement == self.game.options.start
 
     def _take(self, line: Line, came: float) -> None:

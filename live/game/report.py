@@ -116,6 +116,7 @@ class Recovered:
         return self.text
 
 
+NEWS = ("move ", "correction ", "result ", "recovered ")  # how the words begin of what changes the game
 Change = Union[Move, Result]
 News = Union[Move, Result, Recovered]
 Event = Union[Move, Result, Differs, Agrees, Fault, Picture, Position, Clock, Recovered]
@@ -127,17 +128,18 @@ class Line(NamedTuple):
     offset: int
     event: Event
 
-    @property
-    def is_picture(self) -> bool:
-        """Whether it says what the board shows, and not what that means for the game."""
-        return isinstance(self.event, Picture)
-
 
 def line_of(text: str) -> Optional[Line]:
     """A line of `watch`, `follow` or `recover`; None for the last line, `rest N`, and for anything else that a program may print."""
+    offset, words = parts_of(text)
+    event = event_of(words)
+    return Line(offset, event) if event else None
+
+
+def parts_of(text: str) -> Tuple[int, str]:
+    """The offset and the words of a line; no words if it is none."""
     offset, _, words = text.partition(" ")
-    event = event_of(words) if offset.isascii() and offset.isdigit() and len(offset) < 16 else None
-    return Line(int(offset), event) if event else None
+    return (int(offset), words) if offset.isascii() and offset.isdigit() and len(offset) < 16 else (-1, "")
 
 
 @functools.lru_cache(maxsize=4096)
