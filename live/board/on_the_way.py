@@ -60,6 +60,14 @@ class OnTheWay:
             self._held.append((what, sent))
             limit(self._held)
 
+    def heard(self, sent: bytes) -> None:
+        """The board has sent this: the shortest way, since somebody waits for what follows from it."""
+        now = self._games.attended
+        if now and self._held is None:
+            now.came(sent)
+        else:
+            self.comes(HEARD, sent)
+
     def _passes(self, what: str, sent: bytes) -> None:
         now = self._games.attended
         if what in NOTED and not (now and now.attending.notes):

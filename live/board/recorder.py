@@ -32,7 +32,6 @@ from live.game.making_pgn import Made
 from live.game.opening import Opened
 from live.game.reading import nothing_old
 from live.game.reply import Answer as Reply
-from live.game.times import HEARD
 from live.guard import Guard
 from live.loop import Callback
 from live.refused import DONE, FAILED, Broken, Refused
@@ -314,7 +313,7 @@ class Recorder:
 
     def heard(self, sent: bytes) -> None:
         """The board has sent this on its own cable."""
-        self._on_the_way.comes(HEARD, sent)
+        self._on_the_way.heard(sent)
 
     def takes(self, sent: bytes) -> None:
         """The board has sent this on another game's cable."""

@@ -136,7 +136,7 @@ class Recording(AttendedGame):
         if self.standing.was_away or unheard:
             self._comes_back(unheard)
         self._heard_at = at
-        super()._keep(at, sent, what)
+        self._append(sent, what)
 
     def _comes_back(self, unheard: float) -> None:
         """The board is heard again. Nobody listened for so many of the last seconds."""

@@ -5,7 +5,7 @@ from __future__ import annotations
 
 import re
 from dataclasses import dataclass, field
-from typing import List, Optional, Tuple
+from typing import List, NamedTuple, Optional, Tuple
 
 # What is told, beside the words of NAME.times.
 KEPT, CAPTURE, NUMBER, LENT, WAKE, TEXT = "kept", "capture", "number", "lent", "wake", "text"
@@ -32,8 +32,7 @@ def entry(at: int, what: str, count: Optional[int] = None, sent: bytes = b"") ->
     return f"{at} {what}{'' if count is None else f' {count}'}\n".encode() + sent
 
 
-@dataclass(frozen=True)
-class Stood:
+class Stood(NamedTuple):
     """How the board stands: a word; for how many milliseconds, if that is known; the squares that differ, and a hint."""
 
     kind: str

@@ -100,8 +100,8 @@ class Attending(Child):
         elif what == NUMBER:
             self._number = sent.decode("ascii")
         self._tell(Told(self._guard.now(), what, sent, count))
-        self._note_lines()
         self._feed()
+        self._note_lines()  # while the child reads
 
     def _tell(self, told: Told) -> None:
         if told.what not in OF_THE_PAST:
