@@ -2,8 +2,6 @@
 
 from __future__ import annotations
 
-import itertools
-import operator
 import os
 from typing import Callable, List, Optional, Protocol, Sequence
 
@@ -24,14 +22,13 @@ from live.game.game import Game, forget_question, largest, mark_end, mebibytes
 from live.game.looks import Look, Looks
 from live.game.making_pgn import Made, Maker
 from live.game.opening import Opened
-from live.game.report import NEWS, Clock, Differs, Event, Fault, Line, Move, Picture, Position, Recovered, Result, event_of, parts_of
+from live.game.report import NEWS, Clock, Differs, Event, Fault, Line, Move, Picture, Position, Recovered, Result, by_byte, event_of
 from live.game.times import ADDED, BACK, HEARD, OVER, REOPENED
 from live.guard import Guard
 from live.steps import Resume, Steps
 from live.terminal.screen import Screen
 
 TICK = 1.0  # seconds between two looks at what waits
-OF_A_BYTE = operator.itemgetter(0)  # the offset: lines of one byte have the same
 LARGE = 48 * 1024 * 1024  # bytes of a capture, at which somebody may still look at its board
 STANDS = 10  # seconds that a result stands before the program says that it ends a game
 
@@ -195,8 +192,8 @@ class Recording(AttendedGame):
     def _reports(self, at: float, texts: List[str]) -> None:
         """Takes the lines of its report about what came at this time."""
         if not self._is_heard:
-            for offset, of_a_byte in itertools.groupby(map(parts_of, texts), OF_A_BYTE):
-                self._hear(at, offset, [words for _, words in of_a_byte])
+            for offset, lines in by_byte(texts):
+                self._hear(at, offset, lines)
 
     def _hear(self, came: float, offset: int, lines: Sequence[str]) -> None:
         """Takes the words of the lines of a byte, which came then. What changes the game is printed first, before the others are read,

@@ -4,7 +4,7 @@ from __future__ import annotations
 
 import functools
 from dataclasses import dataclass
-from typing import NamedTuple, Optional, Tuple, Union
+from typing import List, NamedTuple, Optional, Sequence, Tuple, Union
 
 from live.device import protocol
 
@@ -131,15 +131,28 @@ class Line(NamedTuple):
 
 def line_of(text: str) -> Optional[Line]:
     """A line of `watch`, `follow` or `recover`; None for the last line, `rest N`, and for anything else that a program may print."""
-    offset, words = parts_of(text)
-    event = event_of(words)
-    return Line(offset, event) if event else None
-
-
-def parts_of(text: str) -> Tuple[int, str]:
-    """The offset and the words of a line; no words if it is none."""
     offset, _, words = text.partition(" ")
-    return (int(offset), words) if offset.isascii() and offset.isdigit() and len(offset) < 16 else (-1, "")
+    event = event_of(words) if is_offset(offset) else None
+    return Line(int(offset), event) if event else None
+
+
+def is_offset(word: str) -> bool:
+    """Whether a line of a report begins so."""
+    return word.isascii() and word.isdigit() and len(word) < 16
+
+
+def by_byte(texts: Sequence[str]) -> List[Tuple[int, List[str]]]:
+    """The lines of a report, byte by byte: its offset, and the words behind it of each line."""
+    found: List[Tuple[int, List[str]]] = []
+    before: Optional[str] = None
+    for text in texts:
+        offset, _, words = text.partition(" ")
+        if offset == before:
+            found[-1][1].append(words)
+        elif is_offset(offset):
+            found.append((int(offset), [words]))
+            before = offset
+    return found
 
 
 @functools.lru_cache(maxsize=4096)
