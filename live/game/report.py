@@ -116,7 +116,7 @@ class Recovered:
         return self.text
 
 
-NEWS = ("move ", "correction ", "result ", "recovered ")  # how the words begin of what changes the game
+NEWS = ("move ", "correction ", "result ", "recovered")  # how the words begin of what changes the game
 Change = Union[Move, Result]
 News = Union[Move, Result, Recovered]
 Event = Union[Move, Result, Differs, Agrees, Fault, Picture, Position, Clock, Recovered]

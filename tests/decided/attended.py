@@ -34,6 +34,10 @@ WRITTEN = [
         b"151 move 1. e4\ngame 14\nkeep\ndone 1\n\n\nkeep\ndone 5\n",
         [Answer(game=b"keep\ndone 1\n\n\n", report=["151 move 1. e4"], handling="keep", due=5)],
     ),
+    (
+        b"kept 5\n74 k\n151 move 1. e4\n151 agrees\nkeep\nask B\nstate IN-HAND 0 e4 d5\ndone 85\n",
+        [Answer(b"74 k\n", None, ["151 move 1. e4", "151 agrees"], "keep", asked=b"B", stood=Stood("IN-HAND", 0, ("e4", "d5")), due=85)],
+    ),
     (b"kept 2\n\n\ngame 5\nkeep\nhold\ndone 5\n", [Answer(b"\n\n", b"keep\n", handling="hold", due=5)]),
     (
         b"keep\nlook at 27 LATE\nlook since 24 STOPPED 3\nlook SUSPECT 5\ndone 5\n",

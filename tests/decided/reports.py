@@ -9,7 +9,7 @@ from live.device.protocol import SQUARES, picture_of_placement
 from live.game.course import Course, clocks_of
 from live.game.options import Options
 from live.game.reading import wanted
-from live.game.report import Line, Move, Recovered, line_of
+from live.game.report import NEWS, Line, Move, Recovered, Result, by_byte, line_of
 from live.refused import Refused
 
 from decided.cases import cases
@@ -42,6 +42,21 @@ def lines() -> None:
         same(f"{count} times {digit}", line_of(digit * count + rest), None)
     for text, shown in cases("reports", "shown"):
         same(f"{text} as it is shown", getattr(a_line(text).event, "shown"), shown)
+
+
+def news() -> None:
+    """What changes the game is known by how its words begin, before they are read; and the lines of a byte stay together."""
+    for text, line in cases("reports", "lines"):
+        if line is not None:
+            changes = isinstance(a_line(text).event, (Move, Result, Recovered))
+            same(text[:60], text.partition(" ")[2].startswith(NEWS), changes)
+    for texts, expected in [
+        ([], []),
+        (["0 position start"], [(0, ["position start"])]),
+        (["9 picture a", "9 move 1. e4", "12 agrees"], [(9, ["picture a", "move 1. e4"]), (12, ["agrees"])]),
+        (["9 agrees", "rest 5", "9 agrees", "12", ""], [(9, ["agrees", "agrees"]), (12, [""])]),
+    ]:
+        same(f"{texts}", by_byte(texts), expected)
 
 
 def course_of(texts: Sequence[str], seconds: float = 1.0) -> Course:
@@ -155,4 +170,4 @@ def options() -> None:
     refused("a NUL", Refused, Options.of_text, "--white\nAn\0na\n")
 
 
-TABLES = [lines, courses, ends, enough, options]
+TABLES = [lines, news, courses, ends, enough, options]
