@@ -50,13 +50,13 @@ def news() -> None:
         if line is not None:
             changes = isinstance(a_line(text).event, (Move, Result, Recovered))
             same(text[:60], text.partition(" ")[2].startswith(NEWS), changes)
-    for texts, expected in [
-        ([], []),
-        (["0 position start"], [(0, ["position start"])]),
-        (["9 picture a", "9 move 1. e4", "12 agrees"], [(9, ["picture a", "move 1. e4"]), (12, ["agrees"])]),
-        (["9 agrees", "rest 5", "9 agrees", "12", ""], [(9, ["agrees", "agrees"]), (12, [""])]),
+    for report, expected in [
+        ("", []),
+        ("0 position start", [(0, ["position start"])]),
+        ("9 picture a\n9 move 1. e4\n12 agrees", [(9, ["picture a", "move 1. e4"]), (12, ["agrees"])]),
+        ("9 agrees\nrest 5\n9 agrees\n12\n", [(9, ["agrees", "agrees"]), (12, [""])]),
     ]:
-        same(f"{texts}", by_byte(texts), expected)
+        same(f"{report!r}", by_byte(report.split("\n")), expected)
 
 
 def course_of(texts: Sequence[str], seconds: float = 1.0) -> Course:
