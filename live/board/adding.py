@@ -14,10 +14,12 @@ from live.game.answers import BOARD, ILLEGAL, LONG, Said, meaning, whose_move
 from live.game.changing import add_and_make, add_by_name, told_of_next
 from live.game.course import Course
 from live.game.files import Paths
-from live.game.game import Game, end_mark, forget_question, result_in
+from live.game.forfeiting import is_unended
+from live.game.game import Game, end_mark, forget_question
 from live.game.reading import game_of
 from live.game.reply import Answer, Refused
 from live.game.way_back import NO_RESULT
+from live.game.which_game import UNENDED, UNPLAYED, which_game
 from live.refused import DONE
 from live.steps import Steps
 
@@ -56,14 +58,13 @@ def add(obeying: Obeying, line: str, sure: bool) -> Steps[Answer]:
 
 
 def _be_sure(obeying: Obeying, outcome: str, before: Paths) -> Steps[None]:
-    """Asks which game is meant if the result may be that of the game before: that has none, or this one has no move."""
+    """Asks which game is meant if the result may be that of the game before."""
     games = obeying.games
     name = games.game.paths.name
-    which = f"Type {outcome} {before.name}, or {outcome} {name}"
-    if not games.course.plies:
-        raise Refused(f"{name} has no move yet. {which}")
-    if (yield from obeying.beside(functools.partial(result_in, before))) == NO_RESULT:
-        raise Refused(f"{before.name} has no result yet. {which}")
+    meant = which_game(len(games.course.plies), (yield from obeying.beside(functools.partial(is_unended, before))))
+    why = {UNPLAYED: f"{name} has no move yet", UNENDED: f"{before.name} has no result yet"}.get(meant)
+    if why:
+        raise Refused(f"{why}. Type {outcome} {before.name}, or {outcome} {name}")
 
 
 def _refusal(game: Game, course: Course, said: Said, line: str) -> Refused:
@@ -93,7 +94,7 @@ def _add_last(obeying: Obeying, line: str) -> Steps[Answer]:
     """Adds to the game that is over while its board is watched, or while the pieces are set up."""
     games = obeying.games
     now, name = games.now, games.game.paths.name
-    what, course = yield from obeying.changed(ADDED, functools.partial(_added, games.game, line, obeying.listens))
+    what, course = yield from obeying.changed(ADDED, functools.partial(_added, games.game, line, obeying.is_there))
     obeying.screen.say(f"added by hand to {name}: {what}")
     if now:
         now.close()
@@ -108,6 +109,6 @@ def _said_of(game: Game, line: str, sent: bytes) -> Said:
     return answers.add(game.program, game.options, sent, line)
 
 
-def _added(game: Game, line: str, listens: bool) -> Tuple[str, Course]:
+def _added(game: Game, line: str, is_there: bool) -> Tuple[str, Course]:
     """What was added to a game that is over, and its course then."""
-    return add_and_make(game, line, listens), game_of(game.program, game.options, game.capture.bytes(0, end_mark(game.paths)))
+    return add_and_make(game, line, is_there), game_of(game.program, game.options, game.capture.bytes(0, end_mark(game.paths)))

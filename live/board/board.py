@@ -251,12 +251,13 @@ class Board:
             self._hears.ended(None)
         self._hears.changed()
 
-    def came_back(self, heard_at: float) -> None:
+    def came_back(self, heard_at: Optional[float], unheard: float) -> None:
         """Its board was unplugged or silent, and is heard again."""
-        from live.board.exchanged import Return
+        from live.board.exchanged import came_back
 
-        self._back = Return(heard_at, self._loop.now())
-        self._hears.came_back()
+        if back := came_back(heard_at, unheard, self._loop.now()):
+            self._back = back
+            self._hears.came_back()
 
     @property
     def returned(self) -> Optional[Returned]:

@@ -3,7 +3,7 @@
 from __future__ import annotations
 
 from dataclasses import dataclass
-from typing import Sequence
+from typing import Optional, Sequence
 
 from live.board.whose import WHERE
 from live.device.protocol import differing, picture_of_placement
@@ -28,6 +28,12 @@ class Returned:
     back: Return
     number: str
     placement: str
+
+
+def came_back(heard_at: Optional[float], unheard: float, now: float) -> Optional[Return]:
+    """A board that was heard last at this time, if it was, is heard again now. When it was away; None if nobody knows that: the recorder
+    had not heard it before, or has listened to nothing for so many of the last seconds."""
+    return None if heard_at is None or unheard > 0 else Return(heard_at, now)
 
 
 def may_be_exchanged(one: Returned, other: Returned) -> bool:

@@ -95,10 +95,10 @@ class Obeying:
         return beside(self._worker, job)
 
     @property
-    def listens(self) -> bool:
-        """Whether what the board of a game that is over shows counts for what is typed. Nobody can set pieces right on a board that isn't
-        there."""
-        return bool(self.games.holds) or not isinstance(self.games.now, Listening)
+    def is_there(self) -> bool:
+        """Whether the board's device is there. What the board of a game that is over shows counts for what is typed only then: nobody can
+        set pieces right on a board that isn't there."""
+        return bool(self.games.holds)
 
     def recorded(self, done: str) -> Recording:
         """The recording of the game. Refused if it is just being ended, or if its capture can't be written: then nothing can be

@@ -3,7 +3,7 @@
 from __future__ import annotations
 
 import os
-from typing import Callable, List, Optional, Protocol, Sequence
+from typing import Callable, List, Optional, Protocol, Sequence, Tuple
 
 from live.beside import Worker
 from live.board.attended_game import PATIENCE, AttendedGame, HearsGame
@@ -48,8 +48,9 @@ class HearsRecording(HearsGame, Protocol):
     def restored(self) -> None:
         """The capture was removed, and is written anew."""
 
-    def came_back(self, heard_at: float) -> None:
-        """The board, which was unplugged or silent and had been heard last at this time, is heard again."""
+    def came_back(self, heard_at: Optional[float], unheard: float) -> None:
+        """The board, which was unplugged or silent and had been heard last at this time, if it was, is heard again. Nobody listened for so
+        many of the last seconds."""
 
 
 class Recording(AttendedGame):
@@ -82,7 +83,7 @@ class Recording(AttendedGame):
         self._heard_at: Optional[float] = None  # when the board was heard last in this call
         self._away = guard.away.seconds  # for how long this recorder was away by then
         self._was_away = False  # and no dump has come since
-        self._left_at: Optional[float] = None  # when it was heard last before it was unplugged or silent
+        self._left: Tuple[Optional[float], float] = (None, 0.0)  # when it was heard last before that, and how long nobody listened
         self._is_large = False  # and that was said
         self._suspected: List[int] = []  # the boards with which its cable may have been exchanged, until somebody has looked
         self._by_hand = range(0)  # the bytes that were added last
@@ -103,6 +104,7 @@ class Recording(AttendedGame):
             self._goes_on()
         elif opened.is_reopened:  # as the times of the calls before say, if they could be written
             self.attending.tell(REOPENED)
+            self.attending.tell(BACK)
             self._goes_on()
 
     def _goes_on(self) -> None:
@@ -138,7 +140,7 @@ class Recording(AttendedGame):
     def _comes_back(self, unheard: float) -> None:
         """The board is heard again. Nobody listened for so many of the last seconds."""
         self._away = self._guard.away.seconds
-        self._left_at = None if unheard else self._heard_at
+        self._left = self._heard_at, unheard
         if unheard:
             self._screen.say(f"this computer slept, or the recorder was stopped, for {lasting(unheard)}: the board wasn't heard")
         self._was_away, self.standing.was_away = True, False
@@ -160,8 +162,7 @@ class Recording(AttendedGame):
         """The board, which was away, is heard again."""
         if self._was_away and self.standing.board.is_seen and not self._late:
             self._was_away = False
-            if self._left_at is not None:
-                self._hears.came_back(self._left_at)
+            self._hears.came_back(*self._left)
 
     def remake(self) -> None:
         """Makes the text anew, whatever is there."""

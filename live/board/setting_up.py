@@ -11,6 +11,7 @@ from live.board.recording import Recording
 from live.board.standing import Standing
 from live.device.protocol import DUMP_BEGINS
 from live.game.alarms import keep_looks, kept_looks
+from live.game.afterwards import is_read_anew, next_begins
 from live.game.answers import dump_at_end
 from live.game.course import Course
 from live.game.files import LARGEST, text_of
@@ -29,6 +30,8 @@ LOOKED_BACK = 65536  # bytes before the end that are searched for the last dump
 
 class HearsSettingUp(HearsGame, Protocol):
     """Is called when the pieces are at the start."""
+
+    course: Course  # of the game that is over
 
     def ready(self, content: bytes) -> bool:
         """The next game's capture may begin with this. Returns whether it could begin; if not, this is called again."""
@@ -74,9 +77,9 @@ class SettingUp(AttendedGame):
         dump = before.rfind(DUMP_BEGINS)
         options = self.game.options
         if dump >= 0:
-            # A picture is reported if it differs from the one before: so also the start, unless the board shows it already.
+            # A picture is reported if it differs from the one before: so the start is, unless the board shows it already.
             shown = self.game.program.lines("pictures", *options.of_pictures(), given=before[dump:])
-            if shown[-1:] != [options.start]:
+            if not is_read_anew("".join(shown[-1:]), options.start, len(self._hears.course.plies)):
                 self._from = looks_at + dump
         self._late.clear()
         self._has_lost = False
@@ -132,18 +135,19 @@ class SettingUp(AttendedGame):
         self.standing.lasts()
 
     def _reports(self, at: float, texts: List[str]) -> None:
+        pictures = []
         for line in filter(None, map(line_of, texts)):
             if isinstance(line.event, Differs):
                 self.standing.board.differs = line.event.squares
-            if not isinstance(line.event, Picture) or self._from + line.offset < self._end:
-                continue
-            if line.event.placement == self.game.options.start:
-                self._begins(line.offset)
-                return
+            elif isinstance(line.event, Picture):
+                pictures.append((self._from + line.offset, line.event.placement))
+        begins = next_begins(pictures, self._end, self.game.options.start)
+        if begins is not None:
+            self._begins(begins)
 
     def _begins(self, offset: int) -> None:
-        """The start is shown at this byte: the game begins with it."""
-        behind = self._from + offset + 1
+        """The start is shown at this byte of the capture: the game begins with it."""
+        behind = offset + 1
         start = dump_at_end(self.game.program, self.game.options, self.game.capture.bytes(self._from, behind))
         if not self._hears.ready(start + self.game.capture.bytes(behind)) and not self._is_closed and self._tries is None:
             self._tries = self._guard.after(TICK, self._try_again)

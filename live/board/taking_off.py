@@ -35,8 +35,8 @@ def take_result_off(obeying: Obeying) -> Steps[Answer]:
         if course.result == NO_RESULT and not course.plies and kept_forfeit(game.paths):
             return DONE, _unforfeited(obeying, course.plies)  # its board may be away
         return DONE, (yield from _put(obeying, ALL))
-    listens = obeying.listens
-    said = yield from obeying.changed(TAKEN_OFF, lambda: reopen(game, listens))
+    is_there = obeying.is_there
+    said = yield from obeying.changed(TAKEN_OFF, lambda: reopen(game, is_there))
     yield from _go_on(obeying, said)
     return DONE, said
 
@@ -48,7 +48,8 @@ def go_back(obeying: Obeying, typed: Back) -> Steps[Answer]:
     game, now = games.game, games.now
     if isinstance(now, Recording):
         return DONE, (yield from _put(obeying, typed.to))
-    listens, may_stay = obeying.listens, isinstance(now, SettingUp)
+    may_stay = isinstance(now, SettingUp)
+    listens = obeying.is_there or may_stay
     done = yield from obeying.changed(TAKEN_OFF, lambda: go_back_closed(game, typed.to, listens, may_stay))
     if end_mark(game.paths) is None:
         yield from _go_on(obeying, done)

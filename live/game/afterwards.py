@@ -1,9 +1,9 @@
-"""Moves on a board whose game is over: what somebody must look at. Pure: events are passed in."""
+"""A board whose game is over: what somebody must look at, and where the next game begins. Pure: what the program reports is passed in."""
 
 from __future__ import annotations
 
 from dataclasses import dataclass
-from typing import Optional
+from typing import Optional, Sequence, Tuple
 
 from live.game.looks import OVER, Look
 from live.game.report import Event, Move
@@ -13,12 +13,25 @@ SURE = 2  # moves: one alone may be a piece that somebody sets straight
 
 def went_on(after: str, moves: int, result: str) -> Look:
     """The program says that so many moves were made after a game with this last move and this result."""
-    return Look(f"after {after}", f"{moves} moves were made, and the game is over: {result}", OVER)
+    over = "the game is over without a result" if result == "*" else f"the game is over: {result}"
+    return Look(f"after {after}", f"{moves} moves were made, and {over}", OVER)
 
 
 def corrected(ply: str) -> Look:
     """This ply corrects the last one of a game after its result, with which the game is over."""
     return Look(f"at {ply}", "it corrects the last move after its result: compare with the score sheets")
+
+
+def is_read_anew(stood: str, start: str, plies: int) -> bool:
+    """Whether what a board shows behind the end of its game is read by itself, since it stood at the start last before that: then the
+    next dump begins the next game. A game without a move was forfeited, and the start is its own."""
+    return plies > 0 and stood == start
+
+
+def next_begins(pictures: Sequence[Tuple[int, str]], end: int, start: str) -> Optional[int]:
+    """The byte with which the next game begins, of these pictures with their offsets: the first start from the end on; None if there is
+    none."""
+    return next((offset for offset, placement in pictures if offset >= end and placement == start), None)
 
 
 @dataclass

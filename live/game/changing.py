@@ -31,7 +31,7 @@ from live.refused import DONE, FAILED
 LONGEST_NUMBER = 10  # digits of the number of a game in a series
 
 
-def add_to_closed(game: Game, line: str, listens: bool = False) -> Tuple[Said, str]:
+def add_to_closed(game: Game, line: str, is_there: bool = False) -> Tuple[Said, str]:
     """Adds to a game that nobody records now, after its last byte; what came after that byte stays after it. A typed result takes the
     place of that of the kings. Returns what was added, and more of the message. Refused if nothing was; OSError if a file can't be
     written."""
@@ -39,7 +39,7 @@ def add_to_closed(game: Game, line: str, listens: bool = False) -> Tuple[Said, s
     end = game.capture.size if mark is None else mark
     sent = game.capture.bytes(0, end)
     said = answers.add(game.program, game.options, sent, line)
-    replaced = replace_result(game, line, listens) if said.kind == BOARD else None
+    replaced = replace_result(game, line, is_there) if said.kind == BOARD else None
     if replaced:
         return replaced[0], f". {replaced[1]}"
     if not said.put:
@@ -64,10 +64,10 @@ def add_to_closed(game: Game, line: str, listens: bool = False) -> Tuple[Said, s
     return said, ""
 
 
-def add_and_make(game: Game, line: str, listens: bool = False) -> str:
+def add_and_make(game: Game, line: str, is_there: bool = False) -> str:
     """Adds to a game that nobody records now, and makes its text. Returns in words what was added."""
     before = result_in(game.paths)
-    said, more = add_to_closed(game, line, listens)
+    said, more = add_to_closed(game, line, is_there)
     made = made_of(game, Text(game).make(end_mark(game.paths)))
     gone = "" if said.outcome else "".join(f"; {told}" for told in told_of_result(before, result_in(game.paths)))
     plies = game_of(game.program, game.options, game.capture.bytes(0, end_mark(game.paths))).plies if said.outcome else []

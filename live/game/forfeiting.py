@@ -6,7 +6,7 @@ from __future__ import annotations
 import contextlib
 from typing import List, Optional
 
-from live.game.files import Paths, beginning, put_in_place, remove
+from live.game.files import Paths, beginning, existing, put_in_place, remove
 from live.game.game import is_unplayed, result_of
 
 LONGEST = 16  # bytes of the file, whoever wrote it
@@ -38,6 +38,15 @@ def forfeit_of(paths: Paths, pgn: bytes) -> str:
     from live.game.forfeits import fits  # few games are forfeited
 
     return kind if fits(kind, result_of(pgn), pgn) else ""
+
+
+def is_unended(paths: Paths) -> bool:
+    """Whether a game has no result, as far as its text can be read, and wasn't forfeited by both players."""
+    try:
+        pgn = existing(paths.pgn)
+    except OSError:
+        return True
+    return result_of(pgn) == "*" and not forfeit_of(paths, pgn)
 
 
 def keep_forfeit(paths: Paths, kind: str, size: int) -> None:

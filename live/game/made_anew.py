@@ -24,8 +24,9 @@ from live.game.making_pgn import Made, Text
 from live.game.reading import game_of, read_game
 from live.game.reply import Asked, Refused
 from live.game.report import Move, Picture, line_of
-from live.game.times import OVER, REOPENED
-from live.game.way_back import ALL, NO_RESULT, PLIES, SIGNED, STILL_SHOWN, Way, nothing_goes, played_since, refuse, stays_of, way_of
+from live.game.times import BACK, OVER, REOPENED
+from live.game.way_back import ALL, ANEW, AS_IT_IS, CUT, NO_RESULT, PLIES, SIGNED, STILL_SHOWN, Way
+from live.game.way_back import asked_of, nothing_goes, played_since, refuse, stays_of, taken_up, way_of
 
 NO_LINKS = (errno.EPERM, errno.EOPNOTSUPP, errno.EMLINK)  # a file system without hard links
 
@@ -131,36 +132,40 @@ def go_back_closed(game: Game, to: str, listens: bool = False, may_stay: bool = 
     return _put_closed(game, way, len(way.content) if is_over else None) + (". The game begins with the moves made since the start" if anew else more)
 
 
-def reopen(game: Game, listens: bool = False) -> str:
+def reopen(game: Game, is_there: bool = False) -> str:
     """Takes the result off a game; if that result ended it, what was played after it belongs to the game from now on. Returns the
     message. Refused if the game has no result and isn't over, if it ended by mate, or if the board itself shows the result and
-    is watched; OSError if a file can't be written."""
+    its device is there; OSError if a file can't be written."""
     mark, course = end_mark(game.paths), _course(game)
     had, total, goes_on = course.result, len(course.plies), f"{game.paths.name} goes on"
     if mark is None and had == NO_RESULT:
         return unforfeited(game.paths, course.plies)
-    said = _said(game, game.capture.bytes(), str(total) if had == NO_RESULT else ALL)
-    if said.put and said.words[-1] == NO_RESULT != had:
+    said = _said(game, game.capture.bytes(), asked_of(had, total))
+    how = taken_up(had, said, is_there)
+    if how == AS_IT_IS:
         more = _open_again(game)
-        return f"{goes_on}, without the result{played_since(_course(game).plies[total:])}{more}"
-    way = Way(course.plies, total, had, said.put) if said.put else None
-    if way is None and said.kind in STILL_SHOWN and not listens:
+        return f"{goes_on}, without the result{played_since(course.plies, _course(game).plies)}{more}"
+    way = None
+    if how == ANEW:
+        way = Way(course.plies, total, had, said.put)
+    elif how == CUT:
         way = _cut(game, course, total)
     if way is None:
         raise refuse(said, ALL, course.plies)
-    if mark is None or had == NO_RESULT or not said.put:
+    if mark is None or had == NO_RESULT or how == CUT:
         return f"{goes_on}: {_put_closed(game, way)}"
-    return f"{goes_on}, without the result. {_put_closed(game, way, says=False)}"
+    kept = _put_closed(game, way, says=False)
+    return f"{goes_on}, without the result{played_since(course.plies, _course(game).plies)}. {kept}"
 
 
-def replace_result(game: Game, line: str, listens: bool) -> Optional[Tuple[Said, str]]:
+def replace_result(game: Game, line: str, is_there: bool) -> Optional[Tuple[Said, str]]:
     """Puts a typed result in the place of the one that the kings gave to a game that is over: it ends with its last ply then. Returns
     what was added, and where the old capture is; None if the line is no result, or the game has none. Refused while the kings stand
-    in the centre of a board that is watched."""
+    in the centre of a board whose device is there."""
     mark, course = end_mark(game.paths), _course(game)
     if course.result == NO_RESULT or not answers.result_typed(game.program, line):
         return None
-    if listens:
+    if is_there:
         shown = _said(game, game.capture.bytes(), ALL)
         if shown.kind == SIGNED:
             raise refuse(shown, ALL, course.plies)
@@ -224,6 +229,7 @@ def _open_again(game: Game) -> str:
     unmark_end(game.paths)
     game.times.begin()
     game.times.note(REOPENED)
+    game.times.note(BACK)
     return made_of(game, text.make(None))
 
 

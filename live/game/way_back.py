@@ -16,6 +16,7 @@ PLIES, NEAREST, NO_PLY, MOVED, ENDED, SIGNED, BOARD, UNSEEN = "plies", "nearest"
 STILL_SHOWN = (MOVED, SIGNED, BOARD, UNSEEN)  # it can't be as long as the board stands as it does
 NO_RESULT = "*"
 WITHOUT_A_QUESTION = 2  # plies that may go without a question
+AS_IT_IS, ANEW, CUT, REFUSED = "as it is", "anew", "cut", "refused"  # how a game that is over goes on with `*`
 
 
 def stays_of(said: Said) -> int:
@@ -107,6 +108,23 @@ def hint(kept: Sequence[Move]) -> str:
     )
 
 
+def asked_of(had: str, plies: int) -> str:
+    """How far the program is asked to go back, given all that the board has sent, if a game with this result and so many plies is
+    over and goes on. What was played since stays, but behind no result: then that may be a set-up, or what was taken off."""
+    return str(plies) if had == NO_RESULT else ALL
+
+
+def taken_up(had: str, said: Said, is_there: bool) -> str:
+    """How that game goes on, by what the program says then: `as it is`, since the board has taken the result off itself; with a
+    capture that is made `anew`; `cut` behind its last ply; or `refused`. What a board shows forbids it only as long as the board's
+    device is there: nobody can set pieces right on another one."""
+    if said.kind == PLIES and said.words[-1] == NO_RESULT != had:
+        return AS_IT_IS
+    if said.kind == PLIES:
+        return ANEW
+    return CUT if said.kind in STILL_SHOWN and not is_there else REFUSED
+
+
 def nothing_goes(way: Way, to: str) -> Refused:
     """The message if there is nothing to take off in a game that goes on."""
     if to == ALL:
@@ -114,9 +132,13 @@ def nothing_goes(way: Way, to: str) -> Refused:
     return Refused(f"the game ends with {reached(way.plies)} already" if way.plies else "the game has no move")
 
 
-def played_since(plies: Sequence[Move]) -> str:
-    """More of the message that a game goes on: the plies that were made after its result."""
-    return f"; played since: {moves_of(plies)}" if plies else ""
+def played_since(before: Sequence[Move], now: Sequence[Move]) -> str:
+    """More of the message that a game goes on: how its last ply was corrected after its result, and the plies that were made since."""
+    told, last = "", len(before) - 1
+    if 0 <= last < len(now) and before[last].san != now[last].san:
+        told = f"; {before[last].short} was corrected to {now[last].short}"
+    since = now[len(before) :]
+    return f"{told}; played since: {moves_of(since)}" if since else told
 
 
 def moves_of(plies: Sequence[Move]) -> str:

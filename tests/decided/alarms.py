@@ -5,8 +5,7 @@ from types import SimpleNamespace
 from typing import Any, List, Tuple
 
 from live.board.afterwards import Afterwards
-from live.game.afterwards import FromTheStart, corrected, went_on
-from live.game.looks import Looks
+from live.game.afterwards import FromTheStart
 from live.game.report import line_of
 
 from attending.state_rules import Agreement
@@ -49,15 +48,6 @@ def from_the_start() -> None:
              [f"LOOK after 38. Kf2: {count} moves were made from the start, and the game is over without a result" for count in expected])  # fmt: skip
 
 
-def afterwards() -> None:
-    """Moves after a result, as the program counts them."""
-    same("two moves", went_on("38. Kf2", 2, "1-0").text, "LOOK after 38. Kf2: 2 moves were made, and the game is over: 1-0")
-    same("more replace it", Looks().with_one_more(went_on("38. Kf2", 2, "1-0")).with_one_more(went_on("38. Kf2", 3, "1-0")).all,
-         "LOOK after 38. Kf2: 3 moves were made, and the game is over: 1-0")  # fmt: skip
-    same("a correction", corrected("38. Kf2").text,
-         "LOOK at 38. Kf2: it corrects the last move after its result: compare with the score sheets")  # fmt: skip
-
-
 class Child:
     """The program that attended a game."""
 
@@ -97,4 +87,4 @@ def told_once() -> None:
         same(name, child.told, expected)
 
 
-TABLES = [from_the_start, afterwards, told_once, agreements]
+TABLES = [from_the_start, told_once, agreements]

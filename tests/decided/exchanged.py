@@ -1,6 +1,6 @@
 """Whether the cables of two boards may have been exchanged, though nothing shows it, and what is said then."""
 
-from live.board.exchanged import Return, Returned, may_be_exchanged, told_of_exchange
+from live.board.exchanged import Return, Returned, came_back, may_be_exchanged, told_of_exchange
 
 from decided.cases import cases
 from decided.table import same
@@ -8,6 +8,12 @@ from decided.table import same
 
 def returned(heard_at: float, came_at: float, number: str, placement: str) -> Returned:
     return Returned(Return(heard_at, came_at), number, placement)
+
+
+def returns() -> None:
+    """When a board was away."""
+    for name, heard_at, unheard, now, expected in cases("exchanged", "returns"):
+        same(name, came_back(heard_at, unheard, now), expected and Return(*expected))
 
 
 def boards() -> None:
@@ -24,4 +30,4 @@ def told() -> None:
         same("one alarm", look.about, told_of_exchange([*others, 99]).about)
 
 
-TABLES = [boards, told]
+TABLES = [returns, boards, told]

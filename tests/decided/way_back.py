@@ -5,7 +5,7 @@ from live.game.answers import Said, read_answer
 from live.game.looks import OVER, Look, Looks
 from live.game.report import Move
 from live.game.typed import numbered
-from live.game.way_back import Way, nothing_goes, refuse, stays_of, way_of
+from live.game.way_back import Way, asked_of, nothing_goes, played_since, refuse, stays_of, taken_up, way_of
 
 from decided.cases import cases
 from decided.table import same
@@ -51,4 +51,15 @@ def looks() -> None:
     same("after a result that is gone", over.without(Way(PLIES, 9, "1-0", b"").settled), Looks())
 
 
-TABLES = [answers, plies, looks]
+def taken_up_again() -> None:
+    """A game that is over goes on with `*`."""
+    for had, count, expected in cases("way_back", "asked_of"):
+        same(f"{had} of {count}", asked_of(had, count), expected)
+    for name, had, text, is_there, expected in cases("way_back", "taken_up"):
+        same(f"{name}: {text}", taken_up(had, said_of(text), is_there), expected)
+    for count, stand, more, expected in cases("way_back", "played_since"):
+        now = [*PLIES[:stand], *(Move(*ply) for ply in more)]
+        same(expected, played_since(PLIES[:count], now), expected)
+
+
+TABLES = [answers, plies, looks, taken_up_again]

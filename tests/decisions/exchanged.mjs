@@ -1,9 +1,15 @@
 /** Whether the cables of two boards may have been exchanged, and what is said then. */
 import { toldOfExchange } from "/web/game/alarms.js";
 import { textOfLook } from "/web/game/looks.js";
-import { mayBeExchanged } from "/web/hall/exchanged.js";
+import { cameBack, mayBeExchanged } from "/web/hall/exchanged.js";
 
 const returned = ([heardAt, cameAt, number, placement]) => ({ heardAt, cameAt, number, placement });
+
+export function returns(counts, cases) {
+  for (const [name, heardAt, unheard, now, expected] of cases("returns")) {
+    counts.same(name, cameBack(heardAt, unheard, now), expected && { heardAt: expected[0], cameAt: expected[1] });
+  }
+}
 
 export function boards(counts, cases) {
   for (const [name, first, second, expected] of cases("boards")) {

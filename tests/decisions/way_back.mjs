@@ -1,7 +1,6 @@
 /** The way back: what is asked and told. The program finds the ply and makes the capture anew. */
-import { Course } from "/web/game/course.js";
 import { Looks, OVER } from "/web/game/looks.js";
-import { isAltered, question, readBack, refuseBack, refuseNothing, settled, wentOn as hasGoneOn, wordsOfBack, wordsOfGoingOn } from "/web/game/way_back.js";
+import { askedOf, playedSince, question, readBack, refuseBack, refuseNothing, settled, takenUp, wordsOfBack } from "/web/game/way_back.js";
 
 const moveOf = ([number, san, clock]) => ({ kind: "move", number, san, clock, corrects: false });
 const read = (status, said) => readBack({ status, errors: new TextEncoder().encode(`${said}\n`), output: new Uint8Array(2) });
@@ -21,11 +20,6 @@ export function plies(counts, cases) {
     const stays = count === 0 || to === "*" ? count : game.length;
     counts.same(to, counts.refused(to, "Refused", () => refuseNothing(game.slice(0, count), stays, "*", to)), expected);
   }
-  const corrected = "back to 6. Nf3; no ply is taken off; the result 1-0 is gone; moved on the board since then: 6... Qxe4+";
-  counts.same("a correction since then", wordsOfBack(game.slice(0, 11), 11, "1-0", game.slice(11)), corrected);
-  counts.same("it goes on", wordsOfGoingOn("board 1", []), "board 1 goes on, without the result");
-  const goesOn = "board 1 goes on, without the result, and with the moves made since: 5... Qd4 6. Nf3 Qxe4+";
-  counts.same("it goes on with moves", wordsOfGoingOn("board 1", game.slice(9)), goesOn);
   counts.same("a result goes", refuseNothing(game, 12, "1-0", "*"), undefined);
   counts.same("a ply goes", refuseNothing(game, 11, "*", ""), undefined);
 }
@@ -44,8 +38,8 @@ export function looks(counts, cases) {
 
 export function answers(counts) {
   for (const [status, said, expected] of [
-    [0, "back: plies 27, gone 3, result 1-0", { kind: "back", stays: 27, put: [0, 0] }],
-    [0, "back: plies 0, gone 0, result *", { kind: "back", stays: 0, put: [0, 0] }],
+    [0, "back: plies 27, gone 3, result 1-0", { kind: "back", stays: 27, result: "1-0", put: [0, 0] }],
+    [0, "back: plies 0, gone 0, result *", { kind: "back", stays: 0, result: "*", put: [0, 0] }],
     [1, "back: nearest 14. Bxf6+", { kind: "nearest", stays: 0, rest: "14. Bxf6+" }],
     [1, "back: none", { kind: "none", stays: 0, rest: "" }],
     [1, "back: moved 27 14... Qd7", { kind: "moved", stays: 27, rest: "14... Qd7" }],
@@ -62,30 +56,14 @@ export function answers(counts) {
   }
 }
 
-/** Of a game of six plies with a result: what came since, whether it goes on with that, and whether its last move is another one. */
-export function wentOn(counts) {
-  const move = (corrects) => ({ kind: "move", number: "4.", san: "Bxc6", clock: "", corrects });
-  const result = (outcome) => ({ kind: "result", outcome });
-  const game = [...Array(6).fill(move(false)), result("1-0")];
-  const courseOf = (events) => {
-    const course = new Course(Array(64).fill(0));
-    events.forEach((event, at) => course.take({ offset: 100 + at, event }));
-    return course;
-  };
-  for (const [name, events, expected, altered] of [
-    ["nothing came", [], false, false],
-    ["the result is taken back", [result("*")], true, false],
-    ["another result", [result("0-1")], false, false],
-    ["it is taken back, and given again", [result("*"), result("1-0")], false, false],
-    ["moves", [result("*"), move(false), move(false)], true, false],
-    ["moves and another result", [move(false), result("1/2-1/2")], true, false],
-    ["the last move is another one", [result("*"), move(true)], false, true],
-    ["the last move is another one, and a move", [result("*"), move(true), move(false)], false, true],
-    ["a later move is another one", [move(false), move(true)], true, false],
-  ]) {
-    const [ended, all] = [courseOf(game), courseOf([...game, ...events])];
-    counts.same(name, [hasGoneOn(ended, all), isAltered(ended, all)], [expected, altered]);
+/** A game that is over goes on with `*`. */
+export function takenUpAgain(counts, cases) {
+  for (const [had, plies, expected] of cases("asked_of")) counts.same(`${had} of ${plies}`, askedOf(had, plies), expected);
+  for (const [name, had, said, isThere, expected] of cases("taken_up")) {
+    counts.same(`${name}: ${said}`, takenUp(had, read(said.startsWith("plies") ? 0 : 1, `back: ${said}`), isThere), expected);
   }
-  const [empty, moved] = [courseOf([]), courseOf([move(false)])];
-  counts.same("no move, and one came", [hasGoneOn(empty, moved), isAltered(empty, moved)], [true, false]);
+  const game = cases("plies").map(moveOf);
+  for (const [count, stand, more, expected] of cases("played_since")) {
+    counts.same(expected, playedSince(game.slice(0, count), [...game.slice(0, stand), ...more.map(moveOf)]), expected);
+  }
 }

@@ -1,23 +1,27 @@
 // The games of one board while it is recorded. What came is kept first, then reported; and when the game has changed, the program
 // that attends its board gives its PGN.
 
-import { dumpsIn, joined, same } from '../device/protocol.js';
-import { Alarms, ISNT_OVER, acknowledged, lookAfterEnd, lookCorrected } from '../game/alarms.js';
+import { dumpsIn, joined } from '../device/protocol.js';
+import { ISNT_OVER, corrected, wentOn } from '../game/afterwards.js';
+import { Alarms, acknowledged } from '../game/alarms.js';
 import { countingForfeit } from '../game/forfeits.js';
 import { textOfLook } from '../game/looks.js';
 import { dayOf } from '../game/names.js';
 import { ofLive } from '../game/options.js';
 import { ProgramError } from '../game/program.js';
-import { NO_PLIES, hasAlone, newCourse, publishedOf, standsAt, textOf } from '../game/reading.js';
-import { codesOf, shortOf, shownOf, wordsOf } from '../game/report.js';
+import { NO_PLIES, hasAlone, newCourse, publishedOf, textOf } from '../game/reading.js';
+import { shortOf, shownOf, wordsOf } from '../game/report.js';
 import { ABSENT, Refused } from '../game/typed.js';
 import { ADDED, ASKED, BACK, BROUGHT, HEARD, LOOKED, OVER, REOPENED, SUSPECT, isOf, kept as foundIn } from '../game/times.js';
-import { isAltered, reached, readBack, wentOn } from '../game/way_back.js';
+import { reached, readBack } from '../game/way_back.js';
+import { THIS, UNPLAYED, whichGame } from '../game/which_game.js';
+import { cameBack } from '../hall/exchanged.js';
 import { Capture, LARGEST } from '../kept/capture.js';
 import { spread, withMore } from '../kept/spread.js';
 import { Times } from '../kept/times.js';
 import { Attending } from './attending.js';
 import { Cable } from './cable.js';
+import { NextGame } from './next_game.js';
 import { DISK_FULL, Kind, lasting, stateOf } from './state.js';
 import { Typing } from './typing.js';
 import { another, back as backAgain, mayTake } from './whose.js';
@@ -39,12 +43,10 @@ const WHY = {
   'SET-UP': 'it has a result',
   [UNFINISHED]: 'the pieces are at the start again. Give its result beside the next game',
 };
-// The same, as the page does: it keeps no more, or somebody wants another game.
+// The same, as the page does: it keeps no more.
 const Reason = {
-  RESULT: 'it has a result',
   LIMIT: 'its capture has 64 MiB, and none may have more',
   LIMIT_OF_RECOVER: 'its capture has 63 MiB, and with Recover moves none may have more',
-  NEXT: 'the next one was asked for',
 };
 
 export class Recorder {
@@ -74,10 +76,9 @@ export class Recorder {
     this.differs = []; // the squares that the report has named last
     this.isUnkept = false; // whether the game's record couldn't be kept
     this.keeping = null; // a promise that ends when it was last kept, or couldn't be
-    this.isLate = false; // whether the next game couldn't be begun
-    this.nextTry = null; // when that is tried again
     guard.opened(() => this.times.close()); // after the cable
     this.typing = new Typing(this);
+    this.next = new NextGame(this);
     this.attending = new Attending(hall, guard, this);
     this.cable = new Cable(guard, kept.board.serial || '', this);
     guard.opened(() => this.keepUnanswered());
@@ -150,9 +151,8 @@ export class Recorder {
     this.old = this.attending.known; // bytes whose report isn't news
     this.isOld = true;
     this.course = newCourse(this.options);
-    this.all = this.isOver ? newCourse(this.options) : this.course; // of all that came: more than the game's, if that is over
     this.alarms = new Alarms(this.game.looks);
-    this.nextAt = null; // where the start was shown first after the game's end
+    this.next.readAgain();
     this.endsAt = Infinity; // how many bytes are the game's, once the program has said so
     this.attending.begin();
     this.wantText();
@@ -161,7 +161,7 @@ export class Recorder {
   /** All lines have been heard. */
   heardAll() {
     if (this.isOld) this.tellOld();
-    if (this.nextAt !== null) this.guard.call(() => this.tryNext());
+    this.next.heardAll();
     this.hears.changed();
   }
 
@@ -172,12 +172,9 @@ export class Recorder {
     const isOld = offset < this.old;
     if (this.isOld && !isOld) this.tellOld();
     if (event.kind === 'differs') this.differs = event.squares;
-    if (this.isOver && offset >= this.game.end) {
-      if (offset >= this.overTo) this.hearAfter(line);
-      return;
-    }
+    this.next.hear(line);
+    if (this.isOver && offset >= this.game.end) return;
     this.course.take(line);
-    if (this.all !== this.course) this.all.take(line);
     this.course.news.length = 0; // it is reported below
     if (isOld || offset >= this.endsAt) return;
     if (event.kind === 'recovered') {
@@ -193,33 +190,9 @@ export class Recorder {
     if (change.kind === 'result' && change.outcome !== '*') this.hears.says(offset < this.typedTo ? TYPED_STANDS : RESULT_STANDS);
   }
 
-  /** A line about what came after the end of the game. */
-  hearAfter(line) {
-    const { offset, event } = line;
-    this.all.take(line);
-    const isStart = event.kind === 'picture' && same(codesOf(event.placement), this.course.start);
-    if (isStart && this.nextAt === null) this.nextAt = offset;
-  }
-
-  /** Whether the game, which is over, goes on with what came since as it is, if it shall go on. */
-  get wentOn() {
-    return this.isOver && this.nextAt === null && wentOn(this.course, this.all);
-  }
-
   /** Whether there is something to look at since moves were made after the game's end. */
   get isPlayedOn() {
     return this.isOver && (this.game.played || 0) > 0 && this.alarms.hasPlayed;
-  }
-
-  /** The moves that were made since the end of a game that is over; the first one may correct its last move. */
-  get movesSince() {
-    const { plies } = this.course;
-    return this.all.plies.slice(this.isAltered ? plies.length - 1 : plies.length);
-  }
-
-  /** Whether the game is over, and its last move is another one since then. */
-  get isAltered() {
-    return this.isOver && isAltered(this.course, this.all);
   }
 
   /** Takes over what was played earlier. */
@@ -257,20 +230,20 @@ export class Recorder {
     const unheard = this.guard.away() - this.away;
     this.away += unheard;
     if (unheard > 0) this.sayUnheard(unheard);
-    this.boardIsThere(now, unheard > 0);
+    this.boardIsThere(now, unheard);
     const taken = bytes.slice(0, room);
     this.capture.append(taken, now);
     if (!isBrought) this.times.note(HEARD, taken.length, at);
     this.lookAtLimit();
   }
 
-  /** The board is heard now. If the page slept too, nobody knows how long the board was away. */
-  boardIsThere(now, hasSlept) {
-    const { leftAt } = this;
+  /** The board is heard now. Nobody listened for so many of the last seconds. */
+  boardIsThere(now, unheard) {
+    const back = cameBack(this.leftAt, unheard, now);
     this.leftAt = null;
     this.heardAt = now;
-    if (leftAt === null || hasSlept) return;
-    this.gap = { heardAt: leftAt, cameAt: now };
+    if (!back) return;
+    this.gap = back;
     this.hears.cameBack();
   }
 
@@ -489,6 +462,7 @@ export class Recorder {
     if (this.capture.isUnkept) this.capture.write();
     if (this.isUnkept) this.keepGame();
     this.sayState();
+    this.next.look();
     this.hears.changed();
   }
 
@@ -574,7 +548,7 @@ export class Recorder {
     const { plies, settledAt } = this.course;
     this.alarms.end(bytes);
     if (why === UNFINISHED) this.tellSetUp(plies.filter((_, at) => settledAt[at] >= bytes), isSure);
-    if (why === CORRECTED) this.tellLook(this.alarms.add(lookCorrected(reached(plies))));
+    if (why === CORRECTED) this.tellLook(this.alarms.add(corrected(reached(plies))));
     this.closeGame(bytes, WHY[why] || why);
   }
 
@@ -589,7 +563,7 @@ export class Recorder {
     const { plies, result } = this.course;
     if (this.played <= (this.game.played || 0)) return;
     this.game = { ...this.game, played: this.played };
-    this.tellLook(this.alarms.add(lookAfterEnd(reached(plies), this.played, result)), `; ${ISNT_OVER}`);
+    this.tellLook(this.alarms.add(wentOn(reached(plies), this.played, result)), `; ${ISNT_OVER}`);
   }
 
   /** The game is not over any more. */
@@ -669,63 +643,6 @@ export class Recorder {
     return joined(dumpsIn(put).at(-1), content.slice(bytes));
   }
 
-  /** The next game begins with the start, which the board has shown since this byte. */
-  beginNext(offset) {
-    return this.typing.exclusively(async () => {
-      if (!this.isOver || this.nextAt !== offset) return;
-      await this.begin(await this.fromStart(offset + 1), this.board.next || {});
-      this.hears.says(`the pieces are at the start: ${this.game.name} begins`);
-    });
-  }
-
-  /** Begins the next game. If that fails, what comes is kept with the game that is over, after its end. */
-  async tryNext() {
-    try {
-      await this.beginNext(this.nextAt);
-      this.isLate = false;
-    } catch (error) {
-      if (!this.isLate) this.hears.says(`the next game can't be begun (${error.message}). Make room: it is tried again`);
-      this.isLate = true;
-      if (!this.nextTry) {
-        this.nextTry = this.guard.after(TICK, () => {
-          this.nextTry = null;
-          this.heardAll();
-        });
-      }
-    }
-  }
-
-  /**
-   * Somebody wants the next game, whatever the board shows; with { options, name }, if given. If the pieces stand as after
-   * a first move, the game begins with it only if `takesMove`; else, or if the kings show a result, it waits until they are set up.
-   */
-  async nextGame(given = {}, takesMove = false) {
-    await this.typing.exclusively(async () => {
-      if (!this.isOver && this.course.result !== '*') this.closeGame(this.capture.size, Reason.RESULT);
-      const { dump, shows } = await standsAt(this.calls, given.options || this.options, this.capture.bytes());
-      if (!dump || (shows && !takesMove)) {
-        this.awaitStart(given, shows);
-        return;
-      }
-      const ended = this.isOver ? this.game : { ...this.game, end: this.capture.size };
-      await this.begin(dump, given, ended);
-      this.hears.says(`${this.game.name} begins`);
-    });
-  }
-
-  /** The next game, with { options, name } if given, begins when the pieces are set up. */
-  awaitStart(given, shows) {
-    this.knows({ next: given });
-    if (!this.isOver) this.closeGame(this.capture.size, Reason.NEXT);
-    this.hears.says(`the board ${shows}: set up the pieces, and the next game begins`);
-    this.hears.changed();
-  }
-
-  /** What the next game has, { options, name }, if it waits until the pieces are set up; else null. */
-  get awaited() {
-    return this.isOver ? this.board.next || null : null;
-  }
-
   /** The next game begins with this. It has the same options, unless others are given. The game before it has ended so. */
   async begin(content, { options: given = this.options, name: wanted = '' } = {}, before = this.game) {
     const pgn = await this.textOf(before);
@@ -776,11 +693,10 @@ export class Recorder {
    */
   askWhichGame(outcome) {
     const before = this.hears.gameBefore;
-    if (!before) return '';
+    const meant = whichGame(this.course.plies.length, before && before.isUnended);
+    if (meant === THIS) return '';
     const isThat = `If it is the result of ${before.name}, press ${outcome} beside that name`;
-    if (this.course.plies.length > 0) {
-      return before.isUnended ? `${before.name} has no result yet. ${isThat}; if it is that of ${this.game.name}, type ${outcome} again` : '';
-    }
+    if (meant !== UNPLAYED) return `${before.name} has no result yet. ${isThat}; if it is that of ${this.game.name}, type ${outcome} again`;
     const how = before.isUnended ? `. ${isThat}` : '';
     throw new Refused(`${this.game.name} has no move yet, so it has no result${how}. If a player hasn't come, type ${ABSENT}`);
   }

@@ -6,10 +6,10 @@ import { meaning, readAnswer, refuse, whoseMove } from '../game/answers.js';
 import { BOTH, resultOf, whyPlayed, wordsOfForfeit } from '../game/forfeits.js';
 import { shortOfLook } from '../game/looks.js';
 import { optionsOf } from '../game/options.js';
-import { NO_PLIES } from '../game/reading.js';
+import { NO_PLIES, gameOf } from '../game/reading.js';
 import { shortOf } from '../game/report.js';
 import { Asked, HELP, Refused, readWords, refusal } from '../game/typed.js';
-import { isStillShown, question, reached, readBack, refuseBack, refuseNothing, settled, wordsOfBack, wordsOfGoingOn } from '../game/way_back.js';
+import { AS_IT_IS, CUT, REFUSED, askedOf, isStillShown, playedSince, question, reached, readBack, refuseBack, refuseNothing, settled, takenUp, wordsOfBack } from '../game/way_back.js';
 import { DISK_FULL } from './state.js';
 
 const TRIES = 4; // calls for one line, if the board sends something while each of them runs; the last one lets it wait
@@ -219,7 +219,7 @@ export class Typing {
       return { shown, cut, added, stood };
     };
     return this.decided(decide, async ({ shown, cut, added, stood }) => {
-      if (shown.kind === 'signed') throw refuseBack(shown, outcome, plies);
+      if (shown.kind === 'signed' && this.recorder.isConnected) throw refuseBack(shown, outcome, plies);
       if (cut === null || !added.put || !stood) throw refuse({ kind: 'board', words: [] }, outcome, '');
       await this.recorder.endsAnew(cut, added.put, dumpsIn(stood).at(-1));
       return `added by hand: ${meaning(added, outcome, plies.map(shortOf))}; the result ${result} is gone. ${KEPT}`;
@@ -233,16 +233,16 @@ export class Typing {
       this.asked = '';
       return PLAYED_AFTER_ALL; // the forfeit goes with whatever else is typed
     }
-    const decide = ({ capture, size, end }) =>
-      recorder.calls.back(recorder.options, capture.bytes(recorder.isAltered ? end : size), this.plyOf(to));
+    const decide = ({ capture, size }) => recorder.calls.back(recorder.options, capture.bytes(size), this.plyOf(to));
     return this.asking((asked) => this.decided(decide, (answer) => this.goBack(readBack(answer), to, asked)));
   }
 
-  /** How far the program is to go back. In a game that is over moves may have been made since, and they aren't meant. */
+  /** How far the program is to go back. In a game that is over moves may have been made since; they aren't meant, but by `*`. */
   plyOf(to) {
     const { isOver, course } = this.recorder;
-    if (!isOver || (to !== '' && to !== '*') || course.plies.length === 0) return to;
-    return String(course.plies.length - (to === '*' ? 0 : 1));
+    const { plies, result } = course;
+    if (isOver && to === '*') return askedOf(result, plies.length);
+    return isOver && to === '' && plies.length > 0 ? String(plies.length - 1) : to;
   }
 
   /** Does what the program has answered to `back`. */
@@ -250,12 +250,8 @@ export class Typing {
     const { recorder } = this;
     const { plies, result } = recorder.course;
     const { stays } = said;
-    if (to === '*' && recorder.isOver && recorder.wentOn) {
-      const { movesSince } = recorder;
-      await recorder.goOn();
-      return wordsOfGoingOn(recorder.game.name, movesSince);
-    }
-    const staysOver = recorder.isOver && to !== '*' && isStillShown(said);
+    if (to === '*' && recorder.isOver) return this.goOn(said);
+    const staysOver = recorder.isOver && isStillShown(said);
     if (recorder.isOver && stays > plies.length) throw refuseBack({ kind: 'nearest', rest: reached(plies) }, to, plies);
     const end = staysOver ? await recorder.endBehind(stays) : null;
     if (!said.put && end === null) throw refuseBack(said, to, plies);
@@ -264,12 +260,32 @@ export class Typing {
     if (asks && asks !== asked) throw new Asked(asks);
     const { looks } = recorder.alarms;
     const left = looks.without(settled(plies, stays));
-    const since = to === '*' && recorder.isAltered ? recorder.movesSince : [];
-    const done = wordsOfBack(plies, stays, result, since);
+    const done = wordsOfBack(plies, stays, result);
     if (staysOver) await recorder.endWith(end, left.open);
     else await recorder.renew(said.put, true, { end: null, typedTo: said.put.length, looks: left.open, goneBack: recorder.goneBack + 1 });
     const gone = looks.open.filter((look) => !left.open.includes(look)).map(shortOfLook);
     const about = gone.length > 0 ? ` Settled: ${gone.join(', ')}.` : '';
     return `${done}.${about} ${staysOver ? STAYS_OVER : KEPT}`;
+  }
+
+  /** A game that is over goes on, with what was played on its board after its result, as the program has answered to `back`. */
+  async goOn(said) {
+    const { recorder } = this;
+    const { calls, options, capture, alarms } = recorder;
+    const { plies, result } = recorder.course;
+    const how = takenUp(result, said, recorder.isConnected);
+    const cut = how === CUT ? await recorder.endBehind(plies.length) : null;
+    if (how === REFUSED || (how === CUT && cut === null)) throw refuseBack(said, '*', plies);
+    const content = how === CUT ? capture.bytes(cut) : said.put;
+    const now = await gameOf(calls, options, how === AS_IT_IS ? capture.bytes() : content);
+    const [since, goesOn] = [playedSince(plies, now.plies), `${recorder.name} goes on`];
+    if (how === AS_IT_IS) {
+      await recorder.goOn();
+      return `${goesOn}, without the result${since}`;
+    }
+    const changes = { end: null, typedTo: content.length, looks: alarms.looks.open, goneBack: recorder.goneBack + 1 };
+    await recorder.renew(content, true, changes);
+    const done = result === '*' || how === CUT ? `: ${wordsOfBack(plies, plies.length, result)}` : `, without the result${since}`;
+    return `${goesOn}${done}. ${KEPT}`;
   }
 }

@@ -47,19 +47,6 @@ export function lookOf({ where, plies: count, why, moves }, plies) {
   return lookAt(`${where} ${name}`, `${made} made while the clock was stopped: ${tried}`, `${CLOCK} ${name}`);
 }
 
-/** So many moves were made in a game that is over, with this last ply and this result. A later count replaces it. */
-export function lookAfterEnd(last, count, result) {
-  const over = result === '*' ? 'the game is over' : `the game is over: ${result}`;
-  return lookAt(`after ${last}`, `${count} moves were made, and ${over}`, OVER);
-}
-
-export const ISNT_OVER = "if the game isn't over, press No result: it goes on with these moves"; // beside such an alarm
-
-/** This ply corrects the last one of a game after its result, with which the game is over. */
-export function lookCorrected(ply) {
-  return lookAt(`at ${ply}`, 'it corrects the last move after its result: compare with the score sheets');
-}
-
 /** The byte with which an alarm came, by those that settled the plies; the one behind the ply if it came later. */
 function byteOf({ where, plies: count }, settledAt) {
   if (where === SINCE) return settledAt[count] || 0;

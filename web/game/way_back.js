@@ -5,21 +5,23 @@ import { ProgramError } from './program.js';
 import { shortOf } from './report.js';
 import { Refused, WHICH_PLY } from './typed.js';
 
+const NO_RESULT = '*';
 const WITHOUT_A_QUESTION = 2; // plies that may go without a question
 const DONE = /^plies ([0-9]+), gone ([0-9]+), result (\S+)$/;
 const STILL_SHOWN = ['moved', 'signed', 'board', 'unseen']; // why it can't be as long as the board stands as it does
+export const [AS_IT_IS, ANEW, CUT, REFUSED] = ['as it is', 'anew', 'cut', 'refused']; // how a game that is over goes on with `*`
 const FULL = 'the new capture would be too long. Nothing was changed';
 const UNSEEN = 'the board has shown nothing yet. Type it again when it has';
 
 /**
- * What `back` has answered: { kind: 'back', stays, put } with the new capture; or { kind, stays, rest }, where `stays` is how
- * many plies were to stay. Throws ProgramError if it gave no answer.
+ * What `back` has answered: { kind: 'back', stays, result, put } with the result that goes, and the new capture; or
+ * { kind, stays, rest }, where `stays` is how many plies were to stay. Throws ProgramError if it gave no answer.
  */
 export function readBack({ status, errors, output }) {
   const said = new TextDecoder().decode(errors).trim();
   const [, rest] = /^back: ([^]+)$/.exec(said) || [];
   const done = DONE.exec(rest || '');
-  if (status === 0 && done) return { kind: 'back', stays: Number(done[1]), put: output };
+  if (status === 0 && done) return { kind: 'back', stays: Number(done[1]), result: done[3], put: output };
   const [kind, ...words] = (rest || '').split(' ');
   if (status === 1 && said === 'input: too long') return { kind: 'long', stays: 0, rest: '' };
   if (status !== 1 || !kind) throw new ProgramError(`back ended with status ${status}: ${said}`);
@@ -88,23 +90,38 @@ export function reached(plies) {
   return plies.length > 0 ? shortOf(plies[plies.length - 1]) : 'the start';
 }
 
-/**
- * What was done: `back to 14. Bxf6; taken off: 14... Qd7 15. Rd1`. The result is the earlier one. `since` are moves on the board since
- * then, which the game doesn't take over.
- */
-export function wordsOfBack(plies, stays, result, since = []) {
+/** What was done: `back to 14. Bxf6; taken off: 14... Qd7 15. Rd1`. The result is the earlier one. */
+export function wordsOfBack(plies, stays, result) {
   const gone = plies.slice(stays);
   const parts = [`back to ${reached(plies.slice(0, stays))}`];
   parts.push(gone.length > 0 ? `taken off: ${movesOf(gone)}` : 'no ply is taken off');
   if (result !== '*') parts.push(`the result ${result} is gone`);
-  if (since.length > 0) parts.push(`moved on the board since then: ${movesOf(since)}`);
   return parts.join('; ');
 }
 
-/** A game with this name goes on, with these moves that were made while it was over. */
-export function wordsOfGoingOn(name, since) {
-  const moves = since.length > 0 ? `, and with the moves made since: ${movesOf(since)}` : '';
-  return `${name} goes on, without the result${moves}`;
+/**
+ * How far the program is asked to go back, given all that the board has sent, if a game with this result and so many plies is over
+ * and goes on. What was played since stays, but behind no result: then that may be a set-up, or what was taken off.
+ */
+export const askedOf = (had, plies) => (had === NO_RESULT ? String(plies) : NO_RESULT);
+
+/**
+ * How that game goes on, by what the program says then: `as it is`, since the board has taken the result off itself; with a
+ * capture that is made `anew`; `cut` behind its last ply; or `refused`. What a board shows forbids it only as long as the board's
+ * device is there: nobody can set pieces right on another one.
+ */
+export function takenUp(had, said, isThere) {
+  if (said.kind === 'back') return said.result === NO_RESULT && had !== NO_RESULT ? AS_IT_IS : ANEW;
+  return isStillShown(said) && !isThere ? CUT : REFUSED;
+}
+
+/** More of the message that a game goes on: how its last ply was corrected after its result, and the plies that were made since. */
+export function playedSince(before, now) {
+  const last = before.length - 1;
+  const isOther = last >= 0 && last < now.length && before[last].san !== now[last].san;
+  const corrected = isOther ? `; ${shortOf(before[last])} was corrected to ${shortOf(now[last])}` : '';
+  const since = now.slice(before.length);
+  return since.length > 0 ? `${corrected}; played since: ${movesOf(since)}` : corrected;
 }
 
 /**
@@ -115,19 +132,4 @@ export function settled(plies, stays) {
   const gone = plies.slice(stays).map(shortOf);
   if (gone.length === 0) return [];
   return [...gone.map((ply) => `at ${ply}`), ...[reached(plies.slice(0, stays)), ...gone].map((ply) => `since ${ply}`)];
-}
-
-/**
- * Whether the last ply of a game that is over is another one since then: this is the course up to its end, and the one of all that
- * came.
- */
-export function isAltered(ended, all) {
-  const last = ended.plies.length - 1;
-  return last >= 0 && all.settledAt[last] !== ended.settledAt[last];
-}
-
-/** Whether such a game lacks its result by what came since, or has more plies: then it goes on with that as it is. */
-export function wentOn(ended, all) {
-  if (isAltered(ended, all)) return false;
-  return all.plies.length > ended.plies.length || (all.result === '*' && ended.result !== '*');
 }

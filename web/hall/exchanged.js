@@ -12,6 +12,14 @@ function standAlike(one, other) {
 }
 
 /**
+ * A board that was heard last at this time, if it was, is heard again now. When it was away; null if nobody knows that: the page had not
+ * heard it before, or has listened to nothing for so many of the last seconds.
+ */
+export function cameBack(heardAt, unheard, now) {
+  return heardAt === null || unheard > 0 ? null : { heardAt, cameAt: now };
+}
+
+/**
  * Whether two boards went within a minute, both were away at a time, nothing tells them apart, and both stand alike. Each is
  * { heardAt, cameAt, number, placement }: when it was heard last, and again; its serial number, empty if it has none; what it shows now.
  */

@@ -4,7 +4,7 @@ import { Recorder } from '../board/recorder.js';
 import { mendOfOver, resting, standing, viewOf } from '../board/view.js';
 import { joined } from '../device/protocol.js';
 import { lockedDevice, systemOf } from '../device/systems.js';
-import { ISNT_OVER } from '../game/alarms.js';
+import { ISNT_OVER } from '../game/afterwards.js';
 import { dayOf } from '../game/names.js';
 import { forfeitOf, isUnplayed, wordsOfForfeit } from '../game/forfeits.js';
 import { optionsOf } from '../game/options.js';
@@ -238,16 +238,16 @@ export class Seat {
 
   /** Whether the next game waits until the pieces are set up. */
   get awaitsStart() {
-    return this.recorder.awaited !== null;
+    return this.recorder.next.awaited !== null;
   }
 
   nextGame(given) {
-    return this.recorder.nextGame(given);
+    return this.recorder.next.want(given);
   }
 
   /** The next game, which waits, begins with the move that the board shows. */
   takeMove() {
-    return this.recorder.nextGame(this.recorder.awaited, true);
+    return this.recorder.next.want(this.recorder.next.awaited, true);
   }
 
   /** What its card shows; the last view if a new one can't be made. */
@@ -274,8 +274,8 @@ export class Seat {
       return { ...resting(`NOT RECORDED: ${recorder.trouble}`), alarm: true, mend: lockedDevice(systemOf(navigator)) };
     }
     const looks = recorder.alarms.looks.short;
-    const over = recorder.awaited ? 'over: set up the pieces for the next game' : 'over';
-    const mend = recorder.awaited || recorder.isFull || recorder.isPlayedOn ? '' : mendOfOver(recorder.course);
+    const over = recorder.next.awaited ? 'over: set up the pieces for the next game' : 'over';
+    const mend = recorder.next.awaited || recorder.isFull || recorder.isPlayedOn ? '' : mendOfOver(recorder.course);
     if (recorder.forfeit && !recorder.capture.trouble) return resting(wordsOfForfeit(recorder.forfeit), looks);
     if (recorder.isOver && !recorder.capture.trouble) return resting(over, looks, mend);
     if (recorder.isStopped) return resting('stopped', looks);

@@ -1,0 +1,147 @@
+// The next game of a board. It begins with the first start that the board shows behind the end of the game before, or when somebody wants
+// it.
+
+import { isReadAnew, nextBegins } from '../game/afterwards.js';
+import { ofBoard, startOf } from '../game/options.js';
+import { standsAt } from '../game/reading.js';
+import { lineOf } from '../game/report.js';
+
+const TICK = 1.0; // seconds until it is tried again
+const Reason = { RESULT: 'it has a result', NEXT: 'the next one was asked for' }; // why the game before is over
+
+const isPicture = (line) => line !== null && line.event.kind === 'picture';
+const pictureOf = ({ offset, event }) => [offset, event.placement];
+
+export class NextGame {
+  /** `recorder` records the game that is on, and gets begin(content, given, before) when another one takes its place. */
+  constructor(recorder) {
+    this.recorder = recorder;
+    this.isLate = false; // whether the next game couldn't be begun
+    this.nextTry = null; // when that is tried again
+    this.isReading = false;
+    this.readAgain();
+  }
+
+  /** All lines are heard again. */
+  readAgain() {
+    this.at = null; // the byte with which the next game begins, once it is known
+    this.stood = ''; // what the board showed last before the end
+    this.hasShown = false; // whether it has shown anything since
+  }
+
+  /** Where the game ends, and with it all that counts no more. */
+  get end() {
+    const { game, overTo, isOver } = this.recorder;
+    return isOver ? Math.max(game.end, overTo) : Infinity;
+  }
+
+  /** The next line of the report. */
+  hear(line) {
+    if (!isPicture(line)) return;
+    if (line.offset < this.end) {
+      this.stood = line.event.placement;
+    } else {
+      this.hasShown = true;
+      this.begins([pictureOf(line)]);
+    }
+  }
+
+  /** These pictures were shown. */
+  begins(pictures) {
+    if (this.at === null) this.at = nextBegins(pictures, this.end, startOf(this.recorder.options));
+  }
+
+  /** All lines have been heard. */
+  heardAll() {
+    if (this.at !== null) this.recorder.guard.call(() => this.tryIt());
+  }
+
+  /**
+   * Once a second: if the board stood at the start already, the report doesn't say that it still does. So a call reads what came behind
+   * the end, as if the board had shown nothing before.
+   */
+  look() {
+    const { isOver, options, course, capture, guard } = this.recorder;
+    if (!isOver || this.at !== null || this.hasShown || this.isReading) return;
+    if (!isReadAnew(this.stood, startOf(options), course.plies.length) || capture.size <= this.end) return;
+    guard.call(() => this.read());
+  }
+
+  async read() {
+    const { calls, options, capture, attending } = this.recorder;
+    const { end } = this;
+    const { epoch } = attending;
+    this.isReading = true;
+    try {
+      const lines = await calls.lines(['watch', ...ofBoard(options)], capture.bytes().slice(end));
+      if (epoch !== attending.epoch) return;
+      const pictures = lines.map(lineOf).filter(isPicture).map(pictureOf);
+      this.begins(pictures.map(([offset, placement]) => [end + offset, placement]));
+    } finally {
+      this.isReading = false;
+    }
+    this.heardAll();
+  }
+
+  /** Begins the next game. If that fails, what comes is kept with the game that is over, after its end. */
+  async tryIt() {
+    const { recorder } = this;
+    try {
+      await this.begin(this.at);
+      this.isLate = false;
+    } catch (error) {
+      if (!this.isLate) recorder.hears.says(`the next game can't be begun (${error.message}). Make room: it is tried again`);
+      this.isLate = true;
+      if (!this.nextTry) {
+        this.nextTry = recorder.guard.after(TICK, () => {
+          this.nextTry = null;
+          recorder.heardAll();
+        });
+      }
+    }
+  }
+
+  /** The next game begins with the start, which the board has shown since this byte. */
+  begin(offset) {
+    const { recorder } = this;
+    return recorder.typing.exclusively(async () => {
+      if (!recorder.isOver || this.at !== offset) return;
+      await recorder.begin(await recorder.fromStart(offset + 1), recorder.board.next || {});
+      recorder.hears.says(`the pieces are at the start: ${recorder.game.name} begins`);
+    });
+  }
+
+  /**
+   * Somebody wants the next game, whatever the board shows; with { options, name }, if given. If the pieces stand as after
+   * a first move, the game begins with it only if `takesMove`; else, or if the kings show a result, it waits until they are set up.
+   */
+  async want(given = {}, takesMove = false) {
+    const { recorder } = this;
+    await recorder.typing.exclusively(async () => {
+      const { capture, course } = recorder;
+      if (!recorder.isOver && course.result !== '*') recorder.closeGame(capture.size, Reason.RESULT);
+      const { dump, shows } = await standsAt(recorder.calls, given.options || recorder.options, capture.bytes());
+      if (!dump || (shows && !takesMove)) {
+        this.wait(given, shows);
+        return;
+      }
+      const ended = recorder.isOver ? recorder.game : { ...recorder.game, end: capture.size };
+      await recorder.begin(dump, given, ended);
+      recorder.hears.says(`${recorder.game.name} begins`);
+    });
+  }
+
+  /** The next game, with { options, name } if given, begins when the pieces are set up. */
+  wait(given, shows) {
+    const { recorder } = this;
+    recorder.knows({ next: given });
+    if (!recorder.isOver) recorder.closeGame(recorder.capture.size, Reason.NEXT);
+    recorder.hears.says(`the board ${shows}: set up the pieces, and the next game begins`);
+    recorder.hears.changed();
+  }
+
+  /** What it has, { options, name }, if it waits until the pieces are set up; else null. */
+  get awaited() {
+    return this.recorder.isOver ? this.recorder.board.next || null : null;
+  }
+}

@@ -1,0 +1,34 @@
+// A board whose game is over: what somebody must look at, and where the next game begins. Pure: what the program reports is passed in.
+
+import { OVER, lookAt } from './looks.js';
+import { codesOf } from './report.js';
+import { same } from '../device/protocol.js';
+
+export const ISNT_OVER = "if the game isn't over, press No result: it goes on with these moves"; // beside an alarm about moves
+
+/** So many moves were made after a game with this last move and this result. A later count replaces it. */
+export function wentOn(after, moves, result) {
+  const over = result === '*' ? 'the game is over without a result' : `the game is over: ${result}`;
+  return lookAt(`after ${after}`, `${moves} moves were made, and ${over}`, OVER);
+}
+
+/** This ply corrects the last one of a game after its result, with which the game is over. */
+export function corrected(ply) {
+  return lookAt(`at ${ply}`, 'it corrects the last move after its result: compare with the score sheets');
+}
+
+const isSame = (one, other) => same(codesOf(one), codesOf(other));
+
+/**
+ * Whether what a board shows behind the end of its game is read by itself, since it stood at the start last before that: then the
+ * next dump begins the next game. A game without a move was forfeited, and the start is its own.
+ */
+export function isReadAnew(stood, start, plies) {
+  return plies > 0 && stood !== '' && isSame(stood, start);
+}
+
+/** The byte with which the next game begins, of these pictures, [[offset, placement], ..]: the first start from the end on; null if there is none. */
+export function nextBegins(pictures, end, start) {
+  const found = pictures.find(([offset, placement]) => offset >= end && isSame(placement, start));
+  return found ? found[0] : null;
+}
