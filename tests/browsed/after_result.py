@@ -9,7 +9,6 @@ from browsed.hall import Hall, Port
 from browsed.page import Page
 from browsed.series import movetext_of
 from browsed.stage import with_chromium
-from play_board import KING
 from played.stage import same
 
 GOES_ON = "If the game goes on, press No result."
@@ -52,7 +51,7 @@ def moves_after_the_result(folder: pathlib.Path) -> None:
         raised = f"{look}. Look at it, and press OK; if the game isn't over, press No result: it goes on with these moves"
         same(said(page, OTHER), [raised])
         page.click("[data-says='*']")
-        goes_on = "board 1 goes on, without the result, and with the moves made since: 3. Bb5 a6"
+        goes_on = "board 1 goes on, without the result; played since: 3. Bb5 a6"
         stage.until_text(page, "#answer", goes_on)
         stage.until_moves(page, RUY_SANS[:6])
         stage.until_text(page, "#ask", look)
@@ -65,8 +64,8 @@ def moves_after_the_result(folder: pathlib.Path) -> None:
 
 @with_chromium
 def corrected_and_played_on(folder: pathlib.Path) -> None:
-    """The last move is corrected after the result, and White replies. No result takes up the game as it was; the page names the moves on
-    the board, which it doesn't take over, and the arbiter types them."""
+    """The last move is corrected after the result, and White replies. With No result the game goes on with both moves, as the page says,
+    and is played on."""
     with Hall(folder) as stage:
         page, port = four_plies(stage)
         answered(stage, page, "0-1", "added by hand")
@@ -78,16 +77,13 @@ def corrected_and_played_on(folder: pathlib.Path) -> None:
         assert not any(line.startswith("correction") for line in said(page, "2... Nc6")), page.messages
         port.board.play("d2d4")
         stage.until_dumped(page, port)
-        back = "back to 2... Nc6; no ply is taken off; the result 0-1 is gone; moved on the board since then: 2... Na6 3. d4. "
-        answered(stage, page, "*", back + "What the board had sent is kept")
-        port.board.lift("e1")
-        stage.until_dumped(page, port)
-        answered(stage, page, "back", "back to 2. Nf3; taken off: 2... Nc6")
-        answered(stage, page, "Na6 d4", "added by hand: Na6 d4")
-        port.board.put("e1", KING)
+        answered(stage, page, "*", "board 1 goes on, without the result; 2... Nc6 was corrected to 2... Na6; played since: 3. d4")
         stage.until_moves(page, [*RUY_SANS[:3], "Na6", "d4"])
+        page.click("#ok")
+        until_agrees(stage, page)
+        play(stage, page, port, ["e5d4"], ["exd4"])
         game, capture = stage.saved(page, "#save-game"), stage.saved(page, "#save-capture")
-        same((movetext_of(game), game), ("1. e4 e5 2. Nf3 Na6 3. d4 *", of_record(game, capture)))
+        same((movetext_of(game), game), ("1. e4 e5 2. Nf3 Na6 3. d4 exd4 *", of_record(game, capture)))
 
 
 @with_chromium

@@ -103,6 +103,93 @@ def plays_on(folder: pathlib.Path) -> None:
 
 
 @with_chromium
+def pieces_home_after_the_result(folder: pathlib.Path) -> None:
+    """Two knights go home after the result, and the game goes on with that, as No result says. So the set-up that follows at once takes
+    these plies off no more."""
+    with Hall(folder) as stage:
+        page, port = begin(stage)
+        until_agrees(stage, page)
+        play(stage, page, port, RUY[:4], RUY_SANS[:4])
+        answered(stage, page, "1-0", "added by hand: the result 1-0")
+        port.board.play("f3g1")
+        until_over(stage, page)
+        port.board.play("c6b8")
+        stage.until_dumped(page, port)
+        answered(stage, page, "*", "board 1 goes on, without the result; played since: 3. Ng1 Nb8")
+        port.board.set_up([])
+        stage.until_moves(page, [])
+        until_agrees(stage, page)
+        texts = stage.saved(page, "#save-round").decode().replace("\n", " ")
+        assert "1. e4 e5 2. Nf3 Nc6 3. Ng1 Nb8 *" in texts, texts
+
+
+@with_chromium
+def start_stands_already(folder: pathlib.Path) -> None:
+    """A move is taken back, and a result is typed while the start stands there: the next game begins with the board's next dump. A game
+    that was forfeited is over too while the start stands there; that is its own, so it stays. Who comes late plays, and it goes on."""
+    with Hall(folder) as stage:
+        page, port = begin(stage)
+        until_agrees(stage, page)
+        play(stage, page, port, RUY[:1], RUY_SANS[:1])
+        port.board.play("e4e2")
+        stage.until_dumped(page, port)
+        answered(stage, page, "0-1", "added by hand: the result 0-1 after 1. e4, 1 ply")
+        stage.until(lambda: "the pieces are at the start: board 1-2 begins" in [line[13:] for line in page.messages], "the next game")
+        stage.until_moves(page, [])
+        until_agrees(stage, page)
+        play(stage, page, port, QUEENS[:2], QUEENS_SANS[:2])
+        texts = stage.saved(page, "#save-round").decode().replace("\n", " ")
+        assert "1. e4 0-1" in texts and "1. d4 d5 *" in texts, texts
+        page.click("[data-says='1-0']")
+        until_over(stage, page)
+        port.board.set_up([])
+        stage.until_moves(page, [])
+        until_agrees(stage, page)
+        answered(stage, page, "+-", "forfeit 1-0: it isn't played")
+        stage.until(lambda: "board 1-3 is over: it has a result" in [line[13:] for line in page.messages], "the end of the third game")
+        for _ in range(3):
+            stage.until_dumped(page, port)
+            stage.rest(1)
+        same((page.text("#state"), page.moves), ("forfeit 1-0", []))
+        for move in RUY[:2]:
+            port.board.play(move)
+            stage.until_dumped(page, port)
+        stage.until(lambda: any("LOOK after the start: 2 moves were made, and the game is over: 1-0" in line for line in page.messages), "an alarm")
+        answered(stage, page, "*", "board 1-3 goes on, without the result; played since: 1. e4 e5")
+        stage.until_moves(page, RUY_SANS[:2])
+        page.click("#ok")
+        until_agrees(stage, page)
+
+
+@with_chromium
+def kings_on_a_board_that_is_away(folder: pathlib.Path) -> None:
+    """The kings were in the centre when the cable was pulled out: while it is in, no other result is taken, and none is taken off. Once
+    it is out nobody can put the kings back: then both can be."""
+    with Hall(folder) as stage:
+        page, port = begin(stage)
+        until_agrees(stage, page)
+        play(stage, page, port, RUY[:2], RUY_SANS[:2])
+        port.board.kings_in_centre("d4", "d5")
+        stage.until_part(page, "#at", "\u00bd\u2013\u00bd")
+        until_over(stage, page)
+        stage.until_dumped(page, port)
+        still = "the board still shows the result 1/2-1/2. Put the kings where they belong, and type it again"
+        for text in ("1-0", "*"):
+            answered(stage, page, text, f"refused: {text}: {still}")
+        stage.pull(port)
+        stage.until(lambda: not port.holders, "the board to be left")
+        answered(stage, page, "1-0", "added by hand: the result 1-0 after 1... e5, 2 plies; the result 1/2-1/2 is gone")
+        stage.until(lambda: movetext_of(stage.saved(page, "#save-game")) == "1. e4 e5 1-0", "another result")
+        answered(stage, page, "*", "board 1 goes on: back to 1... e5; no ply is taken off; the result 1-0 is gone. What the board had sent is kept")
+        stage.until(lambda: movetext_of(stage.saved(page, "#save-game")) == "1. e4 e5 *", "no result")
+        for move in ("d4e1", "d5e8"):
+            port.board.play(move)
+        stage.plug(port)
+        until_agrees(stage, page)
+        play(stage, page, port, RUY[2:3], RUY_SANS[2:3])
+
+
+@with_chromium
 def corrected_after_the_result(folder: pathlib.Path) -> None:
     """The last move is corrected on the board after its result was typed: the game is over as it was, and somebody must look."""
     with Hall(folder) as stage:

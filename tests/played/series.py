@@ -62,6 +62,93 @@ def played_on_after_the_sign(folder: pathlib.Path) -> None:
     same(movetext(folder / "round-1"), "1. e4 e5 2. Nf3 Nc6 3. Bb5 1-0")
 
 
+def pieces_home_after_the_result(folder: pathlib.Path) -> None:
+    """Two knights go home after the result, and the game goes on with that, as `*` says. So the set-up that follows at once takes these
+    plies off no more."""
+    board = a_board(folder)
+    live = Live(board.device, folder / "round", "--series", typed=True)
+    begun(live)
+    play(board, ["e2e4", "e7e5", "g1f3", "b8c6"])
+    until_game(folder / "round-1", "1. e4 e5 2. Nf3 Nc6 *")
+    live.type("1-0")
+    until_game(folder / "round-1", "1. e4 e5 2. Nf3 Nc6 1-0")
+    board.play("f3g1")
+    until_line(live, "round-1 is over: another move was made after its result")
+    board.play("c6b8")
+    until_dumped(board, folder / "round-1")
+    live.type("*")
+    until_line(live, "goes on, without the result; played since: 3. Ng1 Nb8")
+    board.set_up([])
+    until(lambda: len(bytes_of(folder / "round-2.dgt")) >= 67, "the second game")
+    same(movetext(folder / "round-1"), "1. e4 e5 2. Nf3 Nc6 3. Ng1 Nb8 *")
+    same(stop(live), 0)
+
+
+def start_stands_already(folder: pathlib.Path) -> None:
+    """A move is taken back, and a result is typed while the start stands there: the next game begins with the board's next dump. A game
+    that was forfeited is over too while the start stands there; that is its own, so it stays. Who comes late plays, and it goes on."""
+    board = a_board(folder)
+    live = Live(board.device, folder / "round", "--series", typed=True)
+    begun(live)
+    play(board, ["e2e4"])
+    until_game(folder / "round-1", "1. e4 *")
+    board.play("e4e2")
+    until_dumped(board, folder / "round-1")
+    live.type("0-1")
+    until_game(folder / "round-1", "1. e4 0-1")
+    until(lambda: len(bytes_of(folder / "round-2.dgt")) >= 67, "the second game")
+    play(board, ["d2d4", "d7d5"])
+    until_game(folder / "round-2", "1. d4 d5 *")
+    live.type(f"1-0 {folder}/round-2")
+    until_line(live, f"round-3 {words.BEGINS}")
+    board.set_up([])
+    until(lambda: len(bytes_of(folder / "round-3.dgt")) >= 67, "the third game")
+    live.type("+-")
+    until_line(live, f"round-4 {words.BEGINS}")
+    for _ in range(3):
+        until_dumped(board, folder / "round-3")
+        rest(1)
+    for move in ("e2e4", "e7e5"):
+        board.play(move)
+        until_dumped(board, folder / "round-3")
+    until_line(live, "LOOK after the start: 2 moves were made, and the game is over: 1-0")
+    live.type("*")
+    until_line(live, "round-3 goes on, without the result; played since: 1. e4 e5")
+    until_game(folder / "round-3", "1. e4 e5 *")
+    same(stop(live), 0)
+    assert not (folder / "round-4.dgt").exists()
+    same([movetext(folder / f"round-{number}") for number in (1, 2)], ["1. e4 0-1", "1. d4 d5 1-0"])
+
+
+def kings_on_a_board_that_is_away(folder: pathlib.Path) -> None:
+    """The kings were in the centre when the cable was pulled out: while it is in, no other result is taken, and none is taken off. Once
+    it is out nobody can put the kings back: then both can be."""
+    board = a_board(folder)
+    live = Live(board.device, folder / "round", "--series", typed=True)
+    begun(live)
+    play(board, ["e2e4", "e7e5"])
+    until_game(folder / "round-1", "1. e4 e5 *")
+    board.kings_in_centre("d4", "d5")
+    until_line(live, f"round-2 {words.BEGINS}")
+    until_dumped(board, folder / "round-1")
+    for text in ("1-0", "*"):
+        live.type(text)
+        until_line(live, f"refused: {text}: the board still shows the result 1/2-1/2. Put the kings where they belong")
+    board.pull()
+    until_line(live, words.UNPLUGGED)
+    live.type("1-0")
+    until_game(folder / "round-1", "1. e4 e5 1-0")
+    live.type("*")
+    until_line(live, "round-1 goes on: back to 1... e5; no ply is taken off; the result 1-0 is gone. What the board had sent is kept in")
+    until_game(folder / "round-1", "1. e4 e5 *")
+    play(board, ["d4e1", "d5e8"])
+    board.plug()
+    until(lambda: board.asked_for_updates, "a request for updates")
+    board.play("g1f3")
+    until_game(folder / "round-1", "1. e4 e5 2. Nf3 *")
+    same(stop(live), 0)
+
+
 def opened_after_the_sign(folder: pathlib.Path) -> None:
     """The kings are in the centre by mistake, and the recorder is killed: at once, when the game isn't over yet, and then once it is. Each
     time it is started again, and the players go on: the second move is an alarm, and the game goes on with all moves. What somebody has

@@ -247,7 +247,7 @@ def corrected_after_it(folder: pathlib.Path) -> None:
     same((movetext(live.name), live.says("it corrects the last move", 2)), ("1. e4 e5 1-0", False))
     answered(live, "ok", "acknowledged: LOOK at 1... e6")
     until_line(live, "  over 1-0\n")
-    answered(live, "*", f"{live.name} goes on, without the result")
+    answered(live, "*", f"{live.name} goes on, without the result; 1... e5 was corrected to 1... e6")
     until_game(live.name, "1. e4 e6 *")
     same(stop(live), 0)
     is_whole(live)
