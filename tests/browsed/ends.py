@@ -111,6 +111,7 @@ def pieces_home_after_the_result(folder: pathlib.Path) -> None:
         until_agrees(stage, page)
         play(stage, page, port, RUY[:4], RUY_SANS[:4])
         answered(stage, page, "1-0", "added by hand: the result 1-0")
+        stage.rest(1.5)
         port.board.play("f3g1")
         until_over(stage, page)
         port.board.play("c6b8")

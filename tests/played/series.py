@@ -72,6 +72,7 @@ def pieces_home_after_the_result(folder: pathlib.Path) -> None:
     until_game(folder / "round-1", "1. e4 e5 2. Nf3 Nc6 *")
     live.type("1-0")
     until_game(folder / "round-1", "1. e4 e5 2. Nf3 Nc6 1-0")
+    rest(1.5)
     board.play("f3g1")
     until_line(live, "round-1 is over: another move was made after its result")
     board.play("c6b8")
