@@ -251,11 +251,11 @@ class Board:
             self._hears.ended(None)
         self._hears.changed()
 
-    def came_back(self, heard_at: Optional[float], unheard: float) -> None:
+    def came_back(self, heard_at: Optional[float], has_slept: bool) -> None:
         """Its board was unplugged or silent, and is heard again."""
         from live.board.exchanged import came_back
 
-        if back := came_back(heard_at, unheard, self._loop.now()):
+        if back := came_back(heard_at, has_slept, self._loop.now()):
             self._back = back
             self._hears.came_back()
 

@@ -30,10 +30,10 @@ class Returned:
     placement: str
 
 
-def came_back(heard_at: Optional[float], unheard: float, now: float) -> Optional[Return]:
+def came_back(heard_at: Optional[float], has_slept: bool, now: float) -> Optional[Return]:
     """A board that was heard last at this time, if it was, is heard again now. When it was away; None if nobody knows that: the recorder
-    had not heard it before, or has listened to nothing for so many of the last seconds."""
-    return None if heard_at is None or unheard > 0 else Return(heard_at, now)
+    had not heard it before, or has slept too."""
+    return None if heard_at is None or has_slept else Return(heard_at, now)
 
 
 def may_be_exchanged(one: Returned, other: Returned) -> bool:

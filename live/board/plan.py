@@ -74,7 +74,7 @@ class HearsRecorder(Protocol):
     def stopped(self, refused: Optional[Refused]) -> None:
         """The recording has ended; with the reason if that was an error."""
 
-    def came_back(self, heard_at: Optional[float], unheard: float) -> None:
+    def came_back(self, heard_at: Optional[float], has_slept: bool) -> None:
         """Its board, which was unplugged or silent and was heard last at this time, is heard again."""
 
     def missing(self) -> None:

@@ -364,9 +364,9 @@ class Recorder:
         """Whether its game is over with a result: then another board on its cable is no alarm, unless that is the board of a game."""
         return bool(self.now) and not self.standing and self.course.result != "*"
 
-    def came_back(self, heard_at: Optional[float], unheard: float) -> None:
+    def came_back(self, heard_at: Optional[float], has_slept: bool) -> None:
         """Its board was away, and is heard again."""
-        self._hears.came_back(heard_at, unheard)
+        self._hears.came_back(heard_at, has_slept)
 
     def missing(self) -> None:
         """Its own board isn't on its cable any more."""

@@ -48,9 +48,9 @@ class HearsRecording(HearsGame, Protocol):
     def restored(self) -> None:
         """The capture was removed, and is written anew."""
 
-    def came_back(self, heard_at: Optional[float], unheard: float) -> None:
-        """The board, which was unplugged or silent and had been heard last at this time, if it was, is heard again. Nobody listened for so
-        many of the last seconds."""
+    def came_back(self, heard_at: Optional[float], has_slept: bool) -> None:
+        """The board, which was unplugged or silent and had been heard last at this time, if it was, is heard again. The recorder may have
+        slept too."""
 
 
 class Recording(AttendedGame):
@@ -83,7 +83,7 @@ class Recording(AttendedGame):
         self._heard_at: Optional[float] = None  # when the board was heard last in this call
         self._away = guard.away.seconds  # for how long this recorder was away by then
         self._was_away = False  # and no dump has come since
-        self._left: Tuple[Optional[float], float] = (None, 0.0)  # when it was heard last before that, and how long nobody listened
+        self._left: Tuple[Optional[float], bool] = (None, False)  # when it was heard last before that; and whether this recorder slept
         self._is_large = False  # and that was said
         self._suspected: List[int] = []  # the boards with which its cable may have been exchanged, until somebody has looked
         self._by_hand = range(0)  # the bytes that were added last
@@ -140,7 +140,7 @@ class Recording(AttendedGame):
     def _comes_back(self, unheard: float) -> None:
         """The board is heard again. Nobody listened for so many of the last seconds."""
         self._away = self._guard.away.seconds
-        self._left = self._heard_at, unheard
+        self._left = self._heard_at, unheard > 0
         if unheard:
             self._screen.say(f"this computer slept, or the recorder was stopped, for {lasting(unheard)}: the board wasn't heard")
         self._was_away, self.standing.was_away = True, False

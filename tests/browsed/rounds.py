@@ -205,6 +205,30 @@ def answers_at_once(port: Port) -> None:
 
 
 @with_chromium
+def left_for_the_next(folder: pathlib.Path) -> None:
+    """The next game is asked for by mistake, and waits until the pieces are set up; the players go on. With `*` the game has their moves,
+    and the next one begins when the pieces are set up."""
+    with Hall(folder) as stage:
+        page, port = begin(stage)
+        until_agrees(stage, page)
+        play(stage, page, port, RUY[:1], RUY_SANS[:1])
+        stage.until_dumped(page, port)
+        page.click("#next-game")
+        page.click("#next-game")
+        stage.until_part(page, "#state", "over: set up the pieces for the next game")
+        port.board.play(RUY[1])
+        stage.until_dumped(page, port)
+        answered(stage, page, "*", "board 1 goes on; played since: 1... e5")
+        stage.until_moves(page, RUY_SANS[:2])
+        play(stage, page, port, RUY[2:4], RUY_SANS[2:4])
+        stage.rest(3)
+        port.board.set_up([])
+        stage.until_moves(page, [])
+        until_agrees(stage, page)
+        same([game["moves"] for game in games(stage.saved(page, "#save-round"))], ["1. e4 e5 2. Nf3 Nc6 *"])
+
+
+@with_chromium
 def next_game_as_it_stands(folder: pathlib.Path) -> None:
     """The next game is asked for. It begins with the board as it stands, though the last dump is older; and it waits if the board shows
     a first move, though bytes that are no dump came since, or a result."""

@@ -12,8 +12,8 @@ def returned(heard_at: float, came_at: float, number: str, placement: str) -> Re
 
 def returns() -> None:
     """When a board was away."""
-    for name, heard_at, unheard, now, expected in cases("exchanged", "returns"):
-        same(name, came_back(heard_at, unheard, now), expected and Return(*expected))
+    for name, heard_at, has_slept, now, expected in cases("exchanged", "returns"):
+        same(name, came_back(heard_at, has_slept, now), expected and Return(*expected))
 
 
 def boards() -> None:

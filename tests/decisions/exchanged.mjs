@@ -6,8 +6,8 @@ import { cameBack, mayBeExchanged } from "/web/hall/exchanged.js";
 const returned = ([heardAt, cameAt, number, placement]) => ({ heardAt, cameAt, number, placement });
 
 export function returns(counts, cases) {
-  for (const [name, heardAt, unheard, now, expected] of cases("returns")) {
-    counts.same(name, cameBack(heardAt, unheard, now), expected && { heardAt: expected[0], cameAt: expected[1] });
+  for (const [name, heardAt, hasSlept, now, expected] of cases("returns")) {
+    counts.same(name, cameBack(heardAt, hasSlept, now), expected && { heardAt: expected[0], cameAt: expected[1] });
   }
 }
 

@@ -215,8 +215,8 @@ class Again:
         return self.text in self.wanted
 
     def _timed(self) -> List[pathlib.Path]:
-        """The times that this start has written."""
-        return [path for path in self._folder.glob("game*.times") if bytes_of(path) != self.files.get(path.name)]
+        """The times that this start has written. A file that was just begun may be empty."""
+        return [path for path in self._folder.glob("game*.times") if bytes_of(path) not in (b"", self.files.get(path.name))]
 
     def is_timed(self) -> bool:
         """Times are written, unless the game was over."""

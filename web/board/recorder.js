@@ -230,16 +230,16 @@ export class Recorder {
     const unheard = this.guard.away() - this.away;
     this.away += unheard;
     if (unheard > 0) this.sayUnheard(unheard);
-    this.boardIsThere(now, unheard);
+    this.boardIsThere(now, unheard > 0);
     const taken = bytes.slice(0, room);
     this.capture.append(taken, now);
     if (!isBrought) this.times.note(HEARD, taken.length, at);
     this.lookAtLimit();
   }
 
-  /** The board is heard now. Nobody listened for so many of the last seconds. */
-  boardIsThere(now, unheard) {
-    const back = cameBack(this.leftAt, unheard, now);
+  /** The board is heard now. The page may have slept too. */
+  boardIsThere(now, hasSlept) {
+    const back = cameBack(this.leftAt, hasSlept, now);
     this.leftAt = null;
     this.heardAt = now;
     if (!back) return;

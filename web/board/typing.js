@@ -273,7 +273,8 @@ export class Typing {
     const { recorder } = this;
     const { calls, options, capture, alarms } = recorder;
     const { plies, result } = recorder.course;
-    const how = takenUp(result, said, recorder.isConnected);
+    const isLeft = result === '*' && recorder.next.awaited !== null; // for the next game, which somebody has asked for
+    const how = isLeft ? AS_IT_IS : takenUp(result, said, recorder.isConnected);
     const cut = how === CUT ? await recorder.endBehind(plies.length) : null;
     if (how === REFUSED || (how === CUT && cut === null)) throw refuseBack(said, '*', plies);
     const content = how === CUT ? capture.bytes(cut) : said.put;
@@ -281,7 +282,7 @@ export class Typing {
     const [since, goesOn] = [playedSince(plies, now.plies), `${recorder.name} goes on`];
     if (how === AS_IT_IS) {
       await recorder.goOn();
-      return `${goesOn}, without the result${since}`;
+      return `${goesOn}${isLeft ? '' : ', without the result'}${since}`;
     }
     const changes = { end: null, typedTo: content.length, looks: alarms.looks.open, goneBack: recorder.goneBack + 1 };
     await recorder.renew(content, true, changes);

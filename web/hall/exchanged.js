@@ -13,10 +13,10 @@ function standAlike(one, other) {
 
 /**
  * A board that was heard last at this time, if it was, is heard again now. When it was away; null if nobody knows that: the page had not
- * heard it before, or has listened to nothing for so many of the last seconds.
+ * heard it before, or has slept too.
  */
-export function cameBack(heardAt, unheard, now) {
-  return heardAt === null || unheard > 0 ? null : { heardAt, cameAt: now };
+export function cameBack(heardAt, hasSlept, now) {
+  return heardAt === null || hasSlept ? null : { heardAt, cameAt: now };
 }
 
 /**
