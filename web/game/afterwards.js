@@ -27,7 +27,7 @@ export function isReadAnew(stood, start, plies) {
   return plies > 0 && stood !== '' && isSame(stood, start);
 }
 
-/** The byte with which the next game begins, of these pictures, [[offset, placement], ..]: the first start from the end on; null if there is none. */
+/** The byte with which the next game begins, of these pictures, [[offset, placement], ..]: the first start from the end on; else null. */
 export function nextBegins(pictures, end, start) {
   const found = pictures.find(([offset, placement]) => offset >= end && isSame(placement, start));
   return found ? found[0] : null;
