@@ -2,11 +2,11 @@
 use Rattle.std.proofs.Common.{◌≡◌, ℕ, Bool, true, false, List, [], ◌∷◌, ◌++◌, Option, Some, None, refl, sym, ap, ◌∙◌}
 use Rattle.std.proofs.lemmas.List.{append_assoc, append-nil}
 use Rattle.board_times.specs.declared.words.Word.{Word}
-use Rattle.board_times.specs.declared.words.Word.TheVariants.{Version, Digest, Begin, Away, Opened, Answered, Gone, Called, Heard, Added, Stopped, Asked, Took, Over, Looked, Back, Reopened, Suspect, Wake, Lent, Number, Kept, Capture, Text}
+use Rattle.board_times.specs.declared.words.Word.TheVariants.{Version, Digest, Begin, Away, Opened, Answered, Gone, Called, Heard, Added, Brought, Stopped, Asked, Took, Over, Looked, Back, Reopened, Suspect, Wake, Lent, Number, Kept, Capture, Text}
 use Rattle.board_times.specs.declared.lines.Tail.{Tail}
 use Rattle.board_times.specs.declared.lines.Line.{Line}
 use Rattle.board_times.specs.declared.events.What.{What}
-use Rattle.board_times.specs.declared.events.What.TheVariants.{Begins, IsAway, Opens, Answers, Goes, Calls, Hears, Adds, Stops, Asks, Takes, Ends, Looks, PutsBack, Reopens, Suspects}
+use Rattle.board_times.specs.declared.events.What.TheVariants.{Begins, IsAway, Opens, Answers, Goes, Calls, Hears, Adds, Brings, Stops, Asks, Takes, Ends, Looks, PutsBack, Reopens, Suspects}
 use Rattle.board_times.specs.declared.events.Event.{Event}
 use Rattle.board_times.specs.Lines.{Fits, line_text}
 use Rattle.board_times.specs.Times.{AllFit, BeginsNoEvent, line_of, lines_of, tail_of}
@@ -22,6 +22,7 @@ what_back Goes = refl
 what_back Calls = refl
 what_back (Hears n) = refl
 what_back (Adds n) = refl
+what_back (Brings n) = refl
 what_back (Stops n) = refl
 what_back (Asks n) = refl
 what_back Takes = refl
@@ -66,6 +67,8 @@ tail_is Heard None = refl
 tail_is Heard (Some n) = refl
 tail_is Added None = refl
 tail_is Added (Some n) = refl
+tail_is Brought None = refl
+tail_is Brought (Some n) = refl
 tail_is Stopped None = refl
 tail_is Stopped (Some n) = refl
 tail_is Asked None = refl

@@ -9,7 +9,7 @@ use Rattle.std.proofs.lemmas.Bool.{and_parts, cases_eq, eq-eqb, ne_eqb}
 use Rattle.std.proofs.lemmas.Fmt.{decimal_injective, decimal_is_IsNumeral}
 use Rattle.std.proofs.lemmas.List.{append_assoc, append-nil}
 use Rattle.board_times.specs.declared.words.Word.{Word}
-use Rattle.board_times.specs.declared.words.Word.TheVariants.{Version, Digest, Begin, Away, Opened, Answered, Gone, Called, Heard, Added, Stopped, Asked, Took, Over, Looked, Back, Reopened, Suspect, Wake, Lent, Number, Kept, Capture, Text}
+use Rattle.board_times.specs.declared.words.Word.TheVariants.{Version, Digest, Begin, Away, Opened, Answered, Gone, Called, Heard, Added, Brought, Stopped, Asked, Took, Over, Looked, Back, Reopened, Suspect, Wake, Lent, Number, Kept, Capture, Text}
 use Rattle.board_times.specs.declared.lines.Tail.{Tail}
 use Rattle.board_times.specs.declared.lines.Line.{Line}
 use Rattle.board_times.specs.Words.{word_text}
@@ -103,6 +103,7 @@ word_back Gone = refl
 word_back Called = refl
 word_back Heard = refl
 word_back Added = refl
+word_back Brought = refl
 word_back Stopped = refl
 word_back Asked = refl
 word_back Took = refl
@@ -129,6 +130,7 @@ word_lacks_blank Gone = refl
 word_lacks_blank Called = refl
 word_lacks_blank Heard = refl
 word_lacks_blank Added = refl
+word_lacks_blank Brought = refl
 word_lacks_blank Stopped = refl
 word_lacks_blank Asked = refl
 word_lacks_blank Took = refl
@@ -155,6 +157,7 @@ word_lacks_feed Gone = refl
 word_lacks_feed Called = refl
 word_lacks_feed Heard = refl
 word_lacks_feed Added = refl
+word_lacks_feed Brought = refl
 word_lacks_feed Stopped = refl
 word_lacks_feed Asked = refl
 word_lacks_feed Took = refl
@@ -193,6 +196,7 @@ word_text_read text =
     text_step text (bytes_eq text (codes "called")) Called _ (bytes_eq-Decides text (codes "called")).0 (
     text_step text (bytes_eq text (codes "heard")) Heard _ (bytes_eq-Decides text (codes "heard")).0 (
     text_step text (bytes_eq text (codes "added")) Added _ (bytes_eq-Decides text (codes "added")).0 (
+    text_step text (bytes_eq text (codes "brought")) Brought _ (bytes_eq-Decides text (codes "brought")).0 (
     text_step text (bytes_eq text (codes "stopped")) Stopped _ (bytes_eq-Decides text (codes "stopped")).0 (
     text_step text (bytes_eq text (codes "asked")) Asked _ (bytes_eq-Decides text (codes "asked")).0 (
     text_step text (bytes_eq text (codes "took")) Took _ (bytes_eq-Decides text (codes "took")).0 (
@@ -207,7 +211,7 @@ word_text_read text =
     text_step text (bytes_eq text (codes "kept")) Kept _ (bytes_eq-Decides text (codes "kept")).0 (
     text_step text (bytes_eq text (codes "capture")) Capture _ (bytes_eq-Decides text (codes "capture")).0 (
     text_step text (bytes_eq text (codes "text")) Text _ (bytes_eq-Decides text (codes "text")).0 (
-    refl))))))))))))))))))))))))
+    refl)))))))))))))))))))))))))
 
 pub word_is : (text : List ℕ) (word : Word) → word_read text ≡ Some word → text ≡ word_text word
 unfolding text_or

@@ -1,7 +1,7 @@
 -- Whether a file of times belongs to a capture. Events stand in their order.
 use Rattle.std.specs.Prelude.{◌+◌, ◌-◌, ◌*◌, ◌%◌, ◌^◌, ◌==◌, nat_lt, min, bit_xor, ℕ, List, [], ◌∷◌, length, take, if◌then◌else◌}
 use Rattle.board_times.specs.declared.events.What.{What}
-use Rattle.board_times.specs.declared.events.What.TheVariants.{Begins, Hears, Adds}
+use Rattle.board_times.specs.declared.events.What.TheVariants.{Begins, Hears, Adds, Brings}
 use Rattle.board_times.specs.declared.events.Event.{Event}
 use Rattle.board_times.specs.declared.reading.Kept.{Kept}
 use Rattle.board_times.specs.declared.fitting.Fit.{Fit}
@@ -25,6 +25,7 @@ abbrev pub covered_after : What → ℕ → ℕ
 covered_after (Begins size) before = size
 covered_after (Hears count) before = min (before + count) 18446744073709551615
 covered_after (Adds count) before = min (before + count) 18446744073709551615
+covered_after (Brings count) before = min (before + count) 18446744073709551615
 covered_after _ before = before
 
 abbrev pub covered : ℕ → List Event → ℕ

@@ -2,7 +2,7 @@
 -- stand in their order.
 use Rattle.std.specs.Prelude.{ℕ, ◌+◌, ◌-◌, ◌/◌, ◌%◌, ◌==◌, nat_lt, List, [], ◌∷◌, ◌++◌, codes, decimal, if◌then◌else◌}
 use Rattle.board_times.specs.declared.events.What.{What}
-use Rattle.board_times.specs.declared.events.What.TheVariants.{Begins, IsAway, Opens, Answers, Goes, Calls, Hears, Adds, Stops, Asks, Takes, Ends, Looks, PutsBack, Reopens, Suspects}
+use Rattle.board_times.specs.declared.events.What.TheVariants.{Begins, IsAway, Opens, Answers, Goes, Calls, Hears, Adds, Brings, Stops, Asks, Takes, Ends, Looks, PutsBack, Reopens, Suspects}
 use Rattle.board_times.specs.declared.events.Event.{Event}
 use Rattle.board_times.specs.declared.events.Heading.{Heading}
 use Rattle.board_times.specs.declared.reading.Kept.{Kept}
@@ -33,6 +33,7 @@ words_of Goes before behind = codes "the line has gone away"
 words_of Calls before behind = codes "the serial server is called again"
 words_of (Hears count) before behind = bytes_text before behind ++ codes " came"
 words_of (Adds count) before behind = bytes_text before behind ++ codes " were added by hand"
+words_of (Brings count) before behind = bytes_text before behind ++ codes " came over the cable of another game"
 words_of (Stops time) before behind = codes "nobody had listened for " ++ clock_text time
 words_of (Asks count) before behind = codes "the board is asked, bytes sent: " ++ decimal count
 words_of Takes before behind = codes "the arbiter takes the board on the cable"

@@ -1,10 +1,10 @@
 -- The file of times: a heading, and a line for each event. Events stand in their order.
 use Rattle.std.specs.Prelude.{◌≡◌, ◌≢◌, ◌<◌, ◌^◌, ℕ, List, [], ◌∷◌, ◌++◌, Option, Some, None, length, ⊤}
-use Rattle.board_times.specs.declared.words.Word.TheVariants.{Version, Digest, Begin, Away, Opened, Answered, Gone, Called, Heard, Added, Stopped, Asked, Took, Over, Looked, Back, Reopened, Suspect}
+use Rattle.board_times.specs.declared.words.Word.TheVariants.{Version, Digest, Begin, Away, Opened, Answered, Gone, Called, Heard, Added, Brought, Stopped, Asked, Took, Over, Looked, Back, Reopened, Suspect}
 use Rattle.board_times.specs.declared.lines.Tail.{Tail}
 use Rattle.board_times.specs.declared.lines.Line.{Line}
 use Rattle.board_times.specs.declared.events.What.{What}
-use Rattle.board_times.specs.declared.events.What.TheVariants.{Begins, IsAway, Opens, Answers, Goes, Calls, Hears, Adds, Stops, Asks, Takes, Ends, Looks, PutsBack, Reopens, Suspects}
+use Rattle.board_times.specs.declared.events.What.TheVariants.{Begins, IsAway, Opens, Answers, Goes, Calls, Hears, Adds, Brings, Stops, Asks, Takes, Ends, Looks, PutsBack, Reopens, Suspects}
 use Rattle.board_times.specs.declared.events.Event.{Event}
 use Rattle.board_times.specs.declared.events.Heading.{Heading}
 use Rattle.board_times.specs.declared.reading.Found.{Found}
@@ -21,6 +21,7 @@ tail_of Goes = record { word = Gone; number = None }
 tail_of Calls = record { word = Called; number = None }
 tail_of (Hears n) = record { word = Heard; number = Some n }
 tail_of (Adds n) = record { word = Added; number = Some n }
+tail_of (Brings n) = record { word = Brought; number = Some n }
 tail_of (Stops n) = record { word = Stopped; number = Some n }
 tail_of (Asks n) = record { word = Asked; number = Some n }
 tail_of Takes = record { word = Took; number = None }

@@ -1,7 +1,7 @@
 -- The words of the file of times, and behind them those of a host alone.
 use Rattle.std.specs.Prelude.{ℕ, List, codes}
 use Rattle.board_times.specs.declared.words.Word.{Word}
-use Rattle.board_times.specs.declared.words.Word.TheVariants.{Version, Digest, Begin, Away, Opened, Answered, Gone, Called, Heard, Added, Stopped, Asked, Took, Over, Looked, Back, Reopened, Suspect, Wake, Lent, Number, Kept, Capture, Text}
+use Rattle.board_times.specs.declared.words.Word.TheVariants.{Version, Digest, Begin, Away, Opened, Answered, Gone, Called, Heard, Added, Brought, Stopped, Asked, Took, Over, Looked, Back, Reopened, Suspect, Wake, Lent, Number, Kept, Capture, Text}
 
 abbrev pub word_text : Word → List ℕ
 word_text Version = codes "times"
@@ -14,6 +14,7 @@ word_text Gone = codes "gone"
 word_text Called = codes "called"
 word_text Heard = codes "heard"
 word_text Added = codes "added"
+word_text Brought = codes "brought"
 word_text Stopped = codes "stopped"
 word_text Asked = codes "asked"
 word_text Took = codes "took"

@@ -25,6 +25,8 @@ pub enum What {
     Hears(u64),
     /// So many bytes were added by hand.
     Adds(u64),
+    /// So many bytes came over another game's cable.
+    Brings(u64),
     /// Nobody listened for so many milliseconds.
     Stops(u64),
     /// The board was sent a request of so many bytes: 42; 45 42; or 45 42 4B.
@@ -74,6 +76,7 @@ impl What {
             What::Calls => alone(Word::Called),
             What::Hears(n) => with_number(Word::Heard, n),
             What::Adds(n) => with_number(Word::Added, n),
+            What::Brings(n) => with_number(Word::Brought, n),
             What::Stops(n) => with_number(Word::Stopped, n),
             What::Asks(n) => with_number(Word::Asked, n),
             What::Takes => alone(Word::Took),
@@ -109,6 +112,7 @@ fn with(word: Word, n: u64) -> Option<What>
         Word::Away => Some(What::IsAway(n)),
         Word::Heard => Some(What::Hears(n)),
         Word::Added => Some(What::Adds(n)),
+        Word::Brought => Some(What::Brings(n)),
         Word::Stopped => Some(What::Stops(n)),
         Word::Asked => Some(What::Asks(n)),
         Word::Over => Some(What::Ends(n)),

@@ -41,7 +41,9 @@ pub(crate) fn after(what: What, before: u64) -> u64
 {
     match what {
         What::Begins(size) => size,
-        What::Hears(count) | What::Adds(count) => before.saturating_add(count),
+        What::Hears(count) | What::Adds(count) | What::Brings(count) => {
+            before.saturating_add(count)
+        }
         _ => before,
     }
 }

@@ -110,6 +110,9 @@ fn add_words(what: What, before: u64, behind: u64, out: &mut Vec<u8>) -> Result<
         What::Calls => add_text(b"the serial server is called again", out),
         What::Hears(_) => add_with_bytes(before, behind, b" came", out),
         What::Adds(_) => add_with_bytes(before, behind, b" were added by hand", out),
+        What::Brings(_) => {
+            add_with_bytes(before, behind, b" came over the cable of another game", out)
+        }
         What::Stops(time) => add_with_clock(b"nobody had listened for ", time, out),
         What::Asks(count) => add_with_decimal(b"the board is asked, bytes sent: ", count, out),
         What::Takes => add_text(b"the arbiter takes the board on the cable", out),

@@ -17,6 +17,7 @@ pub enum Word {
     Called,
     Heard,
     Added,
+    Brought,
     Stopped,
     Asked,
     Took,
@@ -50,6 +51,7 @@ impl Word {
             Word::Called => b"called",
             Word::Heard => b"heard",
             Word::Added => b"added",
+            Word::Brought => b"brought",
             Word::Stopped => b"stopped",
             Word::Asked => b"asked",
             Word::Took => b"took",
@@ -107,6 +109,9 @@ pub(crate) fn word_of(text: &[u8]) -> Option<Word>
     }
     if are_same(text, b"added") {
         return Some(Word::Added);
+    }
+    if are_same(text, b"brought") {
+        return Some(Word::Brought);
     }
     if are_same(text, b"stopped") {
         return Some(Word::Stopped);

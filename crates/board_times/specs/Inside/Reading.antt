@@ -3,10 +3,10 @@ use Rattle.std.specs.Prelude.{ℕ, ◌==◌, not, Bool, List, Option, Some, None
 use Rattle.std.specs.List.{list_all}
 use Rattle.std.specs.Str.{bytes_eq}
 use Rattle.board_times.specs.declared.words.Word.{Word}
-use Rattle.board_times.specs.declared.words.Word.TheVariants.{Version, Digest, Begin, Away, Opened, Answered, Gone, Called, Heard, Added, Stopped, Asked, Took, Over, Looked, Back, Reopened, Suspect, Wake, Lent, Number, Kept, Capture, Text}
+use Rattle.board_times.specs.declared.words.Word.TheVariants.{Version, Digest, Begin, Away, Opened, Answered, Gone, Called, Heard, Added, Brought, Stopped, Asked, Took, Over, Looked, Back, Reopened, Suspect, Wake, Lent, Number, Kept, Capture, Text}
 use Rattle.board_times.specs.declared.lines.Line.{Line}
 use Rattle.board_times.specs.declared.events.What.{What}
-use Rattle.board_times.specs.declared.events.What.TheVariants.{Begins, IsAway, Opens, Answers, Goes, Calls, Hears, Adds, Stops, Asks, Takes, Ends, Looks, PutsBack, Reopens, Suspects}
+use Rattle.board_times.specs.declared.events.What.TheVariants.{Begins, IsAway, Opens, Answers, Goes, Calls, Hears, Adds, Brings, Stops, Asks, Takes, Ends, Looks, PutsBack, Reopens, Suspects}
 use Rattle.board_times.specs.declared.events.Event.{Event}
 
 -- the text has no byte like this
@@ -26,6 +26,7 @@ word_read text =
     else (if bytes_eq text (codes "called") then Some Called
     else (if bytes_eq text (codes "heard") then Some Heard
     else (if bytes_eq text (codes "added") then Some Added
+    else (if bytes_eq text (codes "brought") then Some Brought
     else (if bytes_eq text (codes "stopped") then Some Stopped
     else (if bytes_eq text (codes "asked") then Some Asked
     else (if bytes_eq text (codes "took") then Some Took
@@ -40,7 +41,7 @@ word_read text =
     else (if bytes_eq text (codes "kept") then Some Kept
     else (if bytes_eq text (codes "capture") then Some Capture
     else (if bytes_eq text (codes "text") then Some Text
-    else None)))))))))))))))))))))))
+    else None))))))))))))))))))))))))
 
 -- what happens with a word and a number, if anything does
 abbrev pub what_of : Word → Option ℕ → Option What
@@ -52,6 +53,7 @@ what_of Gone None = Some Goes
 what_of Called None = Some Calls
 what_of Heard (Some n) = Some (Hears n)
 what_of Added (Some n) = Some (Adds n)
+what_of Brought (Some n) = Some (Brings n)
 what_of Stopped (Some n) = Some (Stops n)
 what_of Asked (Some n) = Some (Asks n)
 what_of Took None = Some Takes

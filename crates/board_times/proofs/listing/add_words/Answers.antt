@@ -24,6 +24,9 @@ returns-in-Hears c = rw c.in-Hears.is c.add_with_bytes.ensures
 pub returns-in-Adds : goal.returns-in-Adds
 returns-in-Adds c = rw c.in-Adds.is c.add_with_bytes-in-Adds.ensures
 
+pub returns-in-Brings : goal.returns-in-Brings
+returns-in-Brings c = rw c.in-Brings.is c.add_with_bytes-in-Brings.ensures
+
 pub returns-in-Stops : goal.returns-in-Stops
 returns-in-Stops c = rw c.in-Stops.is c.add_with_clock-in-Stops.ensures
 
