@@ -29,7 +29,7 @@ class Entry:
 
 
 def brings(at: int, word: str, sent: bytes) -> Entry:
-    """An entry with bytes behind it: `heard`, `added`, `number`, `kept`, `capture`."""
+    """An entry with bytes behind it: `heard`, `added`, `brought`, `number`, `kept`, `capture`."""
     return Entry(at, word, len(sent), sent)
 
 

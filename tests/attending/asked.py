@@ -73,8 +73,9 @@ def numbered() -> None:
 class Steps:
     """A case of steps: each happens at its time, or at the time of the one before it. The recorder is woken only where a step says so."""
 
-    def __init__(self, host: Host) -> None:
+    def __init__(self, host: Host, added: str = "added") -> None:
         self.call = begun(host)
+        self._added = added  # the word of bytes that are added
         self._at = 0
         self._looked = 0  # at so many answers
         self._is_silent = False
@@ -89,7 +90,7 @@ class Steps:
         if what in ("connected", "disconnected"):
             self._tell(Entry(self._at, "opened" if what == "connected" else "gone"))
         elif what in ("came", "added"):
-            self._tell(brings(self._at, "heard" if what == "came" else "added", sent))
+            self._tell(brings(self._at, "heard" if what == "came" else self._added, sent))
         elif what == "request":
             return self._request()
         elif what == "sent":
@@ -133,11 +134,11 @@ class Steps:
             return call.now / 1000 if len(call.asked) > before else None
 
 
-def follows(table: str) -> None:
+def follows(table: str, added: str = "added") -> None:
     """The steps of each case of a table."""
     for steps in cases("asking", table):
         with Host() as host:
-            case = Steps(host)
+            case = Steps(host, added)
             for step in steps:
                 seen = case.does(step)
                 if "see" in step:
@@ -149,7 +150,9 @@ def silent_boards() -> None:
 
 
 def additions() -> None:
-    follows("additions")
+    """A board is asked alike behind bytes that were added and behind those that came over another game's cable."""
+    for word in ("added", "brought"):
+        follows("additions", word)
 
 
 def serials() -> None:

@@ -113,7 +113,7 @@ class Asking:
         self._wanted = self._asked_open = self.silent = False
 
     def added(self, sent: bytes) -> None:
-        """Bytes were added to the capture by hand. They may have cut one of the board's frames, so a dump is requested."""
+        """Bytes were added to the capture by hand, or came over another game's cable. They may have cut one of the board's frames, so a dump is requested."""
         for byte in sent:
             self._frames.take(byte)
         self._wanted, self._asked_open = True, False

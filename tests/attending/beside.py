@@ -46,7 +46,7 @@ class Line:
             self._whose.connected(now)
         elif entry.word in ("gone", "called"):
             self._asking.disconnected()
-        elif entry.word in ("added", "stopped"):
+        elif entry.word in ("added", "brought", "stopped"):
             self._asking.added(entry.sent)
         elif entry.word == "heard":
             self._hears(now, entry.sent)

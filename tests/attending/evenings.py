@@ -16,7 +16,7 @@ from live.game.times import HEADED, heading
 
 SAMPLE = pathlib.Path(__file__).resolve().parents[2] / "samples" / "long-game"
 OWN, OTHER = b"01234", b"01235"
-NOTED = ("begin", "away", "opened", "gone", "answered", "called", "added", "stopped", "took", "ok", "back", "suspect")  # words that a file of times has
+NOTED = ("begin", "away", "opened", "gone", "answered", "called", "added", "brought", "stopped", "took", "ok", "back", "suspect")  # words that a file of times has
 
 
 @functools.lru_cache(maxsize=None)
@@ -41,7 +41,7 @@ def noted(entry: Entry, answer: Answer) -> bytes:
 
 def added(entry: Entry, answer: Answer) -> bytes:
     """The bytes that the capture gets."""
-    return (entry.sent if entry.word == "added" else b"") + answer.kept
+    return (entry.sent if entry.word in ("added", "brought") else b"") + answer.kept
 
 
 @dataclasses.dataclass(frozen=True)

@@ -11,7 +11,7 @@ from typing import Iterator, List, Optional, Sequence, Tuple
 from attending.answers import Answer, Entry
 
 Event = Tuple[int, str, Optional[int]]  # when, in milliseconds since its call began; the word; its number
-WITH_BYTES = ("heard", "added", "number", "kept", "capture")  # words whose number says how many bytes stand behind the line
+WITH_BYTES = ("heard", "added", "brought", "number", "kept", "capture")  # words whose number says how many bytes stand behind the line
 WITHOUT_LINE = ("kept", "capture", "number", "lent", "wake", "text")  # these aren't events
 LINE = re.compile(rb"([0-9]+) ([a-z]+)(?: ([0-9]+))?\n")
 

@@ -8,7 +8,7 @@ from typing import Callable, Dict, Tuple
 from attending.answers import Entry, brings
 from attending.evenings import OTHER, OWN, SAMPLE, Evening, Table, played
 from attending.host import Host
-from attending.pictures import KINGS, dump, kings, with_codes
+from attending.pictures import KINGS, dump, kings, updates, with_codes
 from given.case import program
 
 EMPTY_BOARD = bytes(64)
@@ -126,6 +126,19 @@ def typed(table: Table) -> None:
         table.shows(table.plies[table.ply])
 
 
+def elsewhere(table: Table) -> None:
+    """The game's board is on another game's cable for a while: what it sends comes from there."""
+    table.goes()
+    for _ in range(table.chance.randrange(1, 4)):
+        if table.ply + 1 < len(table.plies):
+            before, after = table.shown, table.plies[table.ply + 1]
+            table.ply, table.shown = table.ply + 1, after
+            table.tell(brings(table.now, "brought", table.chance.choice([updates(before, after), dump(after)])))
+        table.passes(table.chance.randrange(5000))
+    table.opens()
+    table.passes(table.chance.randrange(1500))
+
+
 def stopped(table: Table) -> None:
     """Nobody listens for a while, and nobody wakes the recorder."""
     away = table.chance.randrange(2000, 40000)
@@ -160,7 +173,7 @@ def alarmed(table: Table, chance: random.Random) -> None:
 
 HAPPENS: Dict[Callable[[Table], None], int] = {  # and how often
     ply: 30, touched: 8, wrong_square: 5, hidden: 4, lost_update: 4, clock: 4, fault: 6, forgotten: 3, knocked: 2,
-    silent: 2, called_again: 2, pulled: 3, another: 3, typed: 3, stopped: 2, ended: 1, next_call: 2,
+    silent: 2, called_again: 2, pulled: 3, another: 3, typed: 3, elsewhere: 2, stopped: 2, ended: 1, next_call: 2,
 }  # fmt: skip
 
 

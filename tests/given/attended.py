@@ -72,6 +72,8 @@ ATTENDED = [
     turns([*CALL[:2], (b"3 heard 8\n" + NUMBER, b"kept 8\n" + NUMBER + b"keep\nnumber 01234\ndone 1000\n")]),
     # bytes that were added by hand are in the capture already; then a dump is wanted, 0.2 s after the last request
     turns([*CALL[:2], (b"95 added 67\n" + INITIAL, b"66 picture rnbqkbnr/pppppppp/8/8/8/8/PPPPPPPP/RNBQKBNR\n66 agrees\nkeep\nstate AGREES 0\ndone 110\n")]),
+    # and so it is if they came over another game's cable
+    turns([*CALL[:2], (b"95 brought 67\n" + INITIAL, b"66 picture rnbqkbnr/pppppppp/8/8/8/8/PPPPPPPP/RNBQKBNR\n66 agrees\nkeep\nstate AGREES 0\ndone 110\n")]),
 ]
 
 # ---- the number of the game's board
@@ -217,6 +219,7 @@ LOOKS = [
     ("a late correction", AT_E4 + b"11301 heard 10\n", PAWN, [b"look at 1 LATE"]),
     ("one in time", AT_E4 + b"11300 heard 10\n", PAWN, []),
     ("one that was added", AT_E4 + b"11301 added 10\n", PAWN, []),
+    ("one over another game's cable", AT_E4 + b"11301 brought 10\n", PAWN, [b"look at 1 LATE"]),
     ("somebody has looked", AT_E4 + b"11301 heard 10\n12000 ok\n", PAWN, []),
     ("the line was gone", PLAYED_BOTH + b"2400 gone\n62400 opened\n62500 heard 5\n", BOTH, [b"look after 2 AFTER-GAP"]),
     ("nothing came for ten seconds", PLAYED_BOTH + b"12300 heard 5\n", BOTH, [b"look after 2 AFTER-GAP"]),
@@ -225,16 +228,39 @@ LOOKS = [
     ("and a suspicion", STOPPED + b"8000 suspect 3\n", TRIED, [b"look since 2 STOPPED 1", b"look since 2 STOPPED 2", b"look SUSPECT 3"]),
 ]
 
+# ---- the same of this call
+
+
+def heard(at: int, sent: bytes) -> bytes:
+    return b"%d heard %d\n%s" % (at, len(sent), sent)
+
+
+def added(at: int, put: bytes) -> bytes:
+    return b"%d added %d\n%s" % (at, len(put), put)
+
+
+def brought(at: int, sent: bytes) -> bytes:
+    return b"%d brought %d\n%s" % (at, len(sent), sent)
+
+
+TO_E4 = [b"0 begin 0\n", b"5 opened\n", heard(120, INITIAL), heard(1300, updates("e2- e4P")), heard(6000, updates("e4P"))]
+TO_E3 = updates("e4- e3P")
+
+# What a host tells; in which answer an alarm is said.
+LOOKS_NOW = [
+    ("a late correction", [*TO_E4, heard(11301, TO_E3)], [(5, b"look at 1 LATE")]),
+    ("it is added", [*TO_E4, added(11301, TO_E3)], []),
+    ("it comes over another game's cable", [*TO_E4, brought(11301, TO_E3)], [(5, b"look at 1 LATE")]),
+    ("the board is heard there meanwhile", [*TO_E4[:4], brought(6000, updates("e4P")), brought(11301, TO_E3)], [(5, b"look at 1 LATE")]),
+    ("in time", [*TO_E4, brought(11300, TO_E3)], []),
+]
+
 # ---- how a game ends
 
 BOTH_PAWNS = dump("rnbqkbnr/pppp1ppp/8/4p3/4P3/8/PPPP1PPP/RNBQKBNR")
 KNIGHT = dump("rnbqkbnr/pppp1ppp/8/4p3/4P3/5N2/PPPP1PPP/RNBQKB1R")
 BLACK_WINS = dump("rnbq1bnr/pppppppp/8/4k3/3KP3/8/PPPP1PPP/RNBQ1BNR")  # after 1. e4
 HALF = dump("8/8/8/8/8/8/PPPPPPPP/RNBQKBNR")  # of the pieces are off the board
-
-
-def heard(at: int, sent: bytes) -> bytes:
-    return b"%d heard %d\n%s" % (at, len(sent), sent)
 
 
 def captured(*sent: bytes) -> List[bytes]:
@@ -268,11 +294,6 @@ def signed(more: bytes) -> List[bytes]:
     return [kept(SIGNED_TIMES + more, SIGNED_BYTES), b"0 begin 201\n"]
 
 
-
-def added(at: int, put: bytes) -> bytes:
-    return b"%d added %d\n%s" % (at, len(put), put)
-
-
 TYPED = [*SIGNED[:3], added(3100, BLACK_WINS + KINGS_PAWN)]
 # Pieces were put off the board, and the start stands there when he types. It ends the game at once.
 TYPED_LATE = [*SIGNED[:3], heard(2100, HALF), added(3100, BLACK_WINS + INITIAL)]
@@ -283,6 +304,8 @@ TYPED_BEFORE = [kept(HEADING + b"0 begin 0\n100 heard 67\n1100 heard 67\n3100 ad
 ENDS = [
     ("the kings", [*SIGNED, b"13099 wake\n", b"13100 wake\n", b"13200 wake\n"], [(5, b"over STOOD 0-1 201 sure")]),
     ("another move", [*SIGNED, heard(5000, BOTH_PAWNS)], [(4, b"over PLAYS-ON 0-1 201 sure")]),
+    ("it is added: that takes the result off", [*SIGNED, added(5000, BOTH_PAWNS), b"13100 wake\n", b"30000 wake\n"], []),
+    ("it comes over another game's cable", [*SIGNED, brought(5000, BOTH_PAWNS)], [(4, b"over PLAYS-ON 0-1 201 sure")]),
     ("two moves after it", [*SIGNED, heard(20000, BOTH_PAWNS), heard(25000, KNIGHT)], [(4, b"over STOOD 0-1 201 sure"), (5, b"played 2")]),
     ("one move after it", STOOD_LATE, [(4, b"over STOOD 0-1 201 sure")]),
     ("and they go on", [*STOOD_LATE, heard(25000, KNIGHT), heard(30000, NC6), heard(35000, BB5)],
@@ -317,11 +340,14 @@ ENDS = [
     ("it was over before", [*SIGNED, b"13100 wake\n", b"13100 over 201\n", b"60000 stopped 35000\n", b"90000 wake\n"], [(4, b"over STOOD 0-1 201 sure")]),
     ("it slept in a call before", [*signed(b"60000 stopped 50000\n65000 over 201\n"), b"9999 wake\n", b"10000 wake\n"], [(4, b"over STOOD 0-1 201 sure")]),
     ("over in a call before", signed(b"13100 over 201\n"), [(2, b"over STOOD 0-1 201 sure")]),
+    ("another move, over another game's cable", [kept(SIGNED_TIMES + b"5000 brought 67\n", SIGNED_BYTES + BOTH_PAWNS), b"0 begin 268\n"], [(2, b"over PLAYS-ON 0-1 201 sure")]),
+    ("it was added", [kept(SIGNED_TIMES + b"5000 added 67\n", SIGNED_BYTES + BOTH_PAWNS), b"0 begin 268\n", b"10000 wake\n"], []),
     ("noted too soon", [*signed(b"13099 over 201\n"), b"9999 wake\n", b"10000 wake\n"], [(4, b"over STOOD 0-1 201 sure")]),
     ("reopened in a call before", [*signed(b"13100 over 201\n14000 reopened\n"), b"60000 wake\n"], []),
     ("two calls before", signed(b"13100 over 201\n0 begin 201\n0 away 35000\n"), [(2, b"over STOOD 0-1 201 sure")]),
     # An arbiter adds a result: the kings' sign, and behind it what the board shows. The game ends with all of that.
     ("an arbiter adds it", [*TYPED, b"13099 wake\n", b"13100 wake\n"], [(5, b"over STOOD 0-1 268 sure")]),
+    ("the board shows both over another game's cable", [*SIGNED[:3], brought(3100, BLACK_WINS + KINGS_PAWN), b"13099 wake\n", b"13100 wake\n"], [(5, b"over STOOD 0-1 201 sure")]),
     ("a move after that", [*TYPED, heard(5000, BOTH_PAWNS)], [(4, b"over PLAYS-ON 0-1 268 sure")]),
     ("the start after that", [*TYPED, heard(5000, INITIAL)], [(4, b"over SET-UP 0-1 268 sure")]),
     ("the start stands there when he adds it", TYPED_LATE, [(4, b"over SET-UP 0-1 335 sure")]),
@@ -343,12 +369,14 @@ NO_ENTRIES = [
         b"5 opened 3\n",
         b"5 text 3\n",
         b"5 heard\n",
+        b"5 brought\n",
         b"5 ok 3\n",
         b"5 reopened 3\n",
         b"5 suspect\n",
         b"18446744073709551616 opened\n",  # 2^64
         b"0 capture 67108865\n",  # more than a capture may have
         b"12 heard 3\nab",  # it ends within an entry
+        b"12 brought 3\nab",
         b"12 hea",
         b"1" * 64,
     )
@@ -412,16 +440,21 @@ def live() -> None:
     leave_by_bytes("live byte by byte", ATTENDED, NUMBERS, TEXTS, KEPT, ALARMS, NO_ENTRIES, BEFORE_NO_ENTRY)
 
 
+def said_in(told: Iterable[bytes], words: Tuple[bytes, ...]) -> List[Tuple[int, bytes]]:
+    """The lines of the answers that begin with one of these words, and in which answer each is."""
+    _, out, _, _ = left_by(but(LIVE, sent=b"".join(told)))
+    answers, found = 0, []
+    for line in out.split(b"\n"):
+        answers += line.startswith(b"done ")
+        if line.startswith(words):
+            found.append((answers, line))
+    return found
+
+
 def ends() -> None:
     """What is said of the end of a game, and when."""
     for name, told, expected in ENDS:
-        _, out, _, _ = left_by(but(LIVE, sent=b"".join(told)))
-        answers, found = 0, []
-        for line in out.split(b"\n"):
-            answers += line.startswith(b"done ")
-            if line.startswith((b"over ", b"played ", b"begins ")):
-                found.append((answers, line))
-        same(name, found, expected)
+        same(name, said_in(told, (b"over ", b"played ", b"begins ")), expected)
 
 
 def looks() -> None:
@@ -430,6 +463,12 @@ def looks() -> None:
         told = kept(times, capture) + b"0 begin %d\n" % len(capture)
         _, out, _, _ = left_by(but(LIVE, sent=told))
         same(name, [line for line in out.split(b"\n") if line.startswith(b"look")], expected)
+
+
+def looks_now() -> None:
+    """The alarms of a call, and when they are said."""
+    for name, told, expected in LOOKS_NOW:
+        same(name, said_in(told, (b"look ",)), expected)
 
 
 def recovers() -> None:
@@ -472,4 +511,4 @@ def offsets() -> None:
         same(f"{told[:12]!r}", lines, WITH_PAIRS)
 
 
-TABLES = [live, looks, ends, recovers, offsets]
+TABLES = [live, looks, looks_now, ends, recovers, offsets]

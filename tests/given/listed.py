@@ -133,14 +133,15 @@ LISTED = [
     but(
         TIMES,
         sent=b"1 times 2\n67 digest 2582411440320444296\n"
-        + b"0 begin 67\n0 away 35000\n5 opened\n5 asked 3\n12 heard 67\n1600 added 5\n3600000 heard 0\n"
-        + b"0 begin 139\n59999 answered\n60000 took\n3599999 stopped 86400001\n3661001 called\n36000000 gone\n36000001 over 134\n"
+        + b"0 begin 67\n0 away 35000\n5 opened\n5 asked 3\n12 heard 67\n1600 added 5\n1700 brought 10\n3600000 heard 0\n3600000 brought 0\n"
+        + b"0 begin 149\n59999 answered\n60000 took\n3599999 stopped 86400001\n3661001 called\n36000000 gone\n36000001 over 134\n"
         + b"36000002 ok\n36000003 back\n36000004 suspect 7\n36000005 reopened\n",
         out=b"generation 2, bytes when it began: 67\n" + b"0:00:00.000 a call begins, bytes in the capture: 67\n"
         + b"0:00:00.000 nobody had listened before this call for 0:00:35.000\n" + b"0:00:00.005 the line is open\n"
         + b"0:00:00.005 the board is asked, bytes sent: 3\n" + b"0:00:00.012 bytes 67 to 133 came\n"
-        + b"0:00:01.600 bytes 134 to 138 were added by hand\n" + b"1:00:00.000 no bytes came\n"
-        + b"0:00:00.000 a call begins, bytes in the capture: 139\n"
+        + b"0:00:01.600 bytes 134 to 138 were added by hand\n"
+        + b"0:00:01.700 bytes 139 to 148 came over the cable of another game\n" + b"1:00:00.000 no bytes came\n"
+        + b"1:00:00.000 no bytes came over the cable of another game\n" + b"0:00:00.000 a call begins, bytes in the capture: 149\n"
         + b"0:00:59.999 the board behind the serial server answers\n"
         + b"0:01:00.000 the arbiter takes the board on the cable\n"
         + b"0:59:59.999 nobody had listened for 24:00:00.001\n" + b"1:01:01.001 the serial server is called again\n"

@@ -9,7 +9,7 @@ use Rattle.board_game.specs.declared.note.Note.{Note}
 use Rattle.board_game.specs.declared.note.Note.TheVariants.{Line, Resumes}
 use Rattle.board_live.specs.declared.happened.Happened.{Happened}
 use Rattle.board_live.specs.declared.happened.What.{What}
-use Rattle.board_live.specs.declared.happened.What.TheVariants.{Cable, Adds, Stops, Keeps, KeepsAdded, Tells, Notes}
+use Rattle.board_live.specs.declared.happened.What.TheVariants.{Cable, Adds, Brings, Stops, Keeps, KeepsAdded, Tells, Notes}
 
 -- what happens at a time, with its bytes
 pub record Moment : Type 0 where
@@ -20,10 +20,12 @@ pub record Moment : Type 0 where
 abbrev pub moment_of : Happened → List ℕ → Moment
 moment_of happened bytes = record { at = happened.at; what = happened.what; bytes = bytes }
 
--- What it is at the cable: bytes that were added may have cut a frame, and so may those that came while nobody listened; what was kept of a call before happens elsewhere.
+-- What it is at the cable: bytes that were added, or came over another cable, may have cut a frame, and so may those that came while
+-- nobody listened; what was kept of a call before happens elsewhere.
 abbrev pub at_cable : What → AtCable
 at_cable (Cable what) = what
 at_cable Adds = Interrupts
+at_cable Brings = Interrupts
 at_cable (Stops time) = Interrupts
 at_cable Keeps = Wakes
 at_cable KeepsAdded = Wakes
@@ -40,6 +42,7 @@ cabled (moment ∷ past) = cable_moment moment ∷ cabled past
 -- the bytes that the capture has already
 abbrev pub already : What → List ℕ → List ℕ
 already Adds bytes = bytes
+already Brings bytes = bytes
 already Keeps bytes = bytes
 already KeepsAdded bytes = bytes
 already _ bytes = []

@@ -64,7 +64,7 @@ FilesSayTheSame = (setting : Setting) (recovers : Bool) (call past : List Moment
     Told (cabled (call ++ begins ∷ past)) turns → Told (cabled (call ++ begins ∷ filed)) others
     → SayTheSame setting recovers (call ++ begins ∷ past) turns (call ++ begins ∷ filed) others
 
--- Nothing is told of the line; at most, bytes were added by hand, which may have cut a frame.
+-- Nothing is told of the line; at most, bytes were added by hand or came over another cable, which may have cut a frame.
 abbrev pub IsOffLine : Moment → Type 0
 IsOffLine moment = (at_cable moment.what ≡ Wakes) ⊎ (at_cable moment.what ≡ Interrupts)
 

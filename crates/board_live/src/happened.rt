@@ -21,6 +21,8 @@ pub enum What {
     Cable(AtCable),
     /// Bytes were added by hand: they are in the capture already.
     Adds,
+    /// The board has sent bytes over another game's cable: they are in the capture already.
+    Brings,
     /// Nobody listened for so many milliseconds.
     Stops(u64),
     /// Of a call before this one: the capture got these bytes from the board.
@@ -46,7 +48,7 @@ fn at_cable(what: What) -> AtCable
 {
     match what {
         What::Cable(what) => what,
-        What::Adds | What::Stops(_) => AtCable::Interrupts,
+        What::Adds | What::Brings | What::Stops(_) => AtCable::Interrupts,
         What::Keeps | What::KeepsAdded | What::Tells(_) | What::Notes(_) => AtCable::Wakes,
     }
 }
@@ -75,7 +77,7 @@ pub fn already(what: What, bytes: &[u8]) -> &[u8]
     ensures { result.now ≡ already what bytes.now }
 {
     match what {
-        What::Adds | What::Keeps | What::KeepsAdded => bytes,
+        What::Adds | What::Brings | What::Keeps | What::KeepsAdded => bytes,
         _ => &[],
     }
 }

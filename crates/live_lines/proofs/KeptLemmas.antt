@@ -15,7 +15,7 @@ use Rattle.board_live.specs.Restarts.{as_filed}
 use Rattle.board_live.proofs.History.{Files, files_kept, files_more, files_none, files_told}
 use Rattle.board_times.specs.declared.events.Event.{Event}
 use Rattle.board_times.specs.declared.events.What.{What as Happening}
-use Rattle.board_times.specs.declared.events.What.TheVariants.{Begins, IsAway, Opens, Answers, Goes as LineGoes, Calls, Hears, Adds, Stops, Asks, Takes, Ends, Looks as LooksAt, PutsBack as Back, Reopens as Reopened, Suspects as Suspected}
+use Rattle.board_times.specs.declared.events.What.TheVariants.{Begins, IsAway, Opens, Answers, Goes as LineGoes, Calls, Hears, Adds, Brings, Stops, Asks, Takes, Ends, Looks as LooksAt, PutsBack as Back, Reopens as Reopened, Suspects as Suspected}
 use Rattle.board_times.specs.Fitting.{covered, covered_after}
 use Rattle.live_lines.specs.declared.clock.Clock.{Clock}
 use Rattle.live_lines.specs.declared.entries.Entry.{Entry}
@@ -190,7 +190,7 @@ no_line entry bytes what file lived size more past g is stays empty news =
       last_is = subst (λ line. (clock_over file line).last ≤ until) (sym is) (not_later file.last lived.last (capped (began_by entry.what lived.last lived.began + entry.at)) g.last);
     }
 
--- Bytes that were added by hand.
+-- Bytes that were added by hand, and those that came over another cable.
 added_line : (at n : ℕ) (bytes : List ℕ) (file lived : Clock) (size : ℕ) (more : List ℕ) (past : List Moment)
     → Goes (record { at = at; what = Happens (Adds n) }) file lived → length bytes ≡ n
     → Lines (record { at = at; what = Happens (Adds n) }) bytes (happening_of (Adds n)) file lived size [] more past
@@ -201,6 +201,20 @@ added_line at n bytes file lived size more past g long =
       left_is = ap (λ k. drop k (bytes ++ more)) (sym long) ∙ drop-append_seam bytes more;
       walk_is = ap (λ k. with_kept (next_clock entry file).last true (take k (bytes ++ more)) past) (sym long)
           ∙ ap (λ bs. with_kept (next_clock entry file).last true bs past) (take-append_seam bytes more) ∙ ap (λ t. with_kept t true bytes past) time;
+      began_is = g.began;
+      last_is = same_le (next_clock entry file).last (next_clock entry lived).last time;
+    }
+
+brought_line : (at n : ℕ) (bytes : List ℕ) (file lived : Clock) (size : ℕ) (more : List ℕ) (past : List Moment)
+    → Goes (record { at = at; what = Happens (Brings n) }) file lived → length bytes ≡ n
+    → Lines (record { at = at; what = Happens (Brings n) }) bytes (happening_of (Brings n)) file lived size [] more past
+brought_line at n bytes file lived size more past g long =
+    let entry : Entry = record { at = at; what = Happens (Brings n) } in
+    let time = same_time entry file lived g in
+    record {
+      left_is = ap (λ k. drop k (bytes ++ more)) (sym long) ∙ drop-append_seam bytes more;
+      walk_is = ap (λ k. with_kept (next_clock entry file).last false (take k (bytes ++ more)) past) (sym long)
+          ∙ ap (λ bs. with_kept (next_clock entry file).last false bs past) (take-append_seam bytes more) ∙ ap (λ t. with_kept t false bytes past) time;
       began_is = g.began;
       last_is = same_le (next_clock entry file).last (next_clock entry lived).last time;
     }
@@ -225,6 +239,7 @@ lines at (Happens Calls) bytes file lived size more past g whole none begins = o
 lines at (Happens (Hears n)) bytes file lived size more past g whole none begins =
     no_line (record { at = at; what = Happens (Hears n) }) bytes (happening_of (Hears n)) file lived size more past g refl refl refl refl
 lines at (Happens (Adds n)) bytes file lived size more past g whole none begins = added_line at n bytes file lived size more past g whole.1
+lines at (Happens (Brings n)) bytes file lived size more past g whole none begins = brought_line at n bytes file lived size more past g whole.1
 lines at (Happens (Stops n)) bytes file lived size more past g whole none begins = one_line at (Stops n) bytes file lived size more past g refl refl refl refl
 lines at (Happens (Asks n)) bytes file lived size more past g whole none begins = one_line at (Asks n) bytes file lived size more past g refl refl refl refl
 lines at (Happens Takes) bytes file lived size more past g whole none begins = one_line at Takes bytes file lived size more past g refl refl refl refl
@@ -489,6 +504,7 @@ began_alike (Happens LineGoes) a c b stays = refl
 began_alike (Happens Calls) a c b stays = refl
 began_alike (Happens (Hears n)) a c b stays = refl
 began_alike (Happens (Adds n)) a c b stays = refl
+began_alike (Happens (Brings n)) a c b stays = refl
 began_alike (Happens (Stops n)) a c b stays = refl
 began_alike (Happens (Asks n)) a c b stays = refl
 began_alike (Happens Takes) a c b stays = refl

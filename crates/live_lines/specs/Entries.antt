@@ -4,7 +4,7 @@ use Rattle.std.specs.Prelude.{◌≡◌, ◌≤◌, ℕ, Bool, true, false, List
 use Rattle.board_times.specs.declared.words.Word.TheVariants.{Wake, Lent, Number, Kept, Capture, Text}
 use Rattle.board_times.specs.declared.lines.Tail.{Tail}
 use Rattle.board_times.specs.declared.lines.Line.{Line}
-use Rattle.board_times.specs.declared.events.What.TheVariants.{Hears, Adds}
+use Rattle.board_times.specs.declared.events.What.TheVariants.{Hears, Adds, Brings}
 use Rattle.board_times.specs.Lines.{Fits, line_text}
 use Rattle.board_times.specs.Times.{tail_of as tail_of_event}
 use Rattle.live_lines.specs.declared.entries.What.{What}
@@ -29,6 +29,7 @@ entry_line entry = record { first = entry.at; tail = tail_of entry.what }
 abbrev pub size_of : What → ℕ
 size_of (Happens (Hears n)) = n
 size_of (Happens (Adds n)) = n
+size_of (Happens (Brings n)) = n
 size_of (Owns n) = n
 size_of (KeepsTimes n) = n
 size_of (KeepsBytes n) = n

@@ -8,7 +8,7 @@ use Rattle.board_game.specs.declared.note.Note.TheVariants.{Line, Looked as HasL
 use Rattle.board_standing.specs.declared.heard.Heard.TheVariants.{Begins as RecorderBegins, Plugs, Unplugs}
 use Rattle.board_times.specs.declared.events.Event.{Event}
 use Rattle.board_times.specs.declared.events.What.{What as Happening}
-use Rattle.board_times.specs.declared.events.What.TheVariants.{Begins, Opens, Goes, Hears, Adds, Stops, Ends, Looks, PutsBack, Reopens, Suspects}
+use Rattle.board_times.specs.declared.events.What.TheVariants.{Begins, Opens, Goes, Hears, Adds, Brings, Stops, Ends, Looks, PutsBack, Reopens, Suspects}
 use Rattle.board_times.specs.Fitting.{covered_after}
 use Rattle.live_lines.specs.declared.clock.Clock.{Clock}
 use Rattle.live_lines.specs.Clock.{clock_at}
@@ -37,6 +37,7 @@ abbrev pub coming : Happening → ℕ → ℕ
 coming (Begins size) covered = size - covered
 coming (Hears n) covered = n
 coming (Adds n) covered = n
+coming (Brings n) covered = n
 coming _ covered = 0
 
 -- What these events tell, behind what was told before: their bytes are the next ones of the capture. What is left of the capture

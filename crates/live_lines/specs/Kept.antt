@@ -38,7 +38,7 @@ events_after before (heard ∷ call) [] = before
 events_after before (heard ∷ call) (turn ∷ turns) =
     (events_after before call turns ++ line_of heard.entry.at heard.entry.what) ++ heard_line heard.entry.at (kept (turn ∷ turns))
 
--- The bytes of NAME.dgt after a call, if it had these before: those that are added by hand, and those that the recorder keeps.
+-- The bytes of NAME.dgt after a call, if it had these before: those that are added by hand or come over another cable, and those that the recorder keeps.
 abbrev pub bytes_after : List ℕ → List Heard → List Turn → List ℕ
 bytes_after before [] turns = before
 bytes_after before (heard ∷ call) [] = before

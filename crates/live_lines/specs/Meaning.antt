@@ -3,11 +3,11 @@ use Rattle.std.specs.Prelude.{ℕ, Bool, true, false, List, [], ◌∷◌, if◌
 use Rattle.board_asking.specs.Serial.{is_serial}
 use Rattle.board_cable.specs.declared.happened.What.TheVariants.{Begins as CallBegins, Opens as LineOpens, Answers as ServerAnswers, Closes, HangsUp, Hears as BoardSends, Takes as BoardTaken, Owns as HasNumber, Lends as IsLent, Wakes as TimeCame}
 use Rattle.board_live.specs.declared.happened.What.{What as ToBoard}
-use Rattle.board_live.specs.declared.happened.What.TheVariants.{Cable, Adds as AddsBytes, Stops as NobodyListened, Notes}
+use Rattle.board_live.specs.declared.happened.What.TheVariants.{Cable, Adds as AddsBytes, Brings as BringsBytes, Stops as NobodyListened, Notes}
 use Rattle.board_game.specs.declared.note.Note.TheVariants.{Looked as HasLooked, PutsBack as MustPutBack, Reopens as IsReopened, Passes, Suspects as IsSuspected}
 use Rattle.board_live.specs.Moments.{Moment}
 use Rattle.board_times.specs.declared.events.What.{What as Happening}
-use Rattle.board_times.specs.declared.events.What.TheVariants.{Begins, Opens, Answers, Goes, Calls, Hears, Adds, Stops, Takes, Ends, Looks, PutsBack, Reopens, Suspects}
+use Rattle.board_times.specs.declared.events.What.TheVariants.{Begins, Opens, Answers, Goes, Calls, Hears, Adds, Brings, Stops, Takes, Ends, Looks, PutsBack, Reopens, Suspects}
 use Rattle.live_lines.specs.declared.entries.What.{What}
 use Rattle.live_lines.specs.declared.entries.What.TheVariants.{Happens, Lends, Owns}
 use Rattle.live_lines.specs.Clock.{clock_after, next_clock}
@@ -26,6 +26,7 @@ happening_of Goes = Cable Closes
 happening_of Calls = Cable HangsUp
 happening_of (Hears n) = Cable BoardSends
 happening_of (Adds n) = AddsBytes
+happening_of (Brings n) = BringsBytes
 happening_of (Stops n) = NobodyListened n
 happening_of Takes = Cable BoardTaken
 happening_of Looks = Notes HasLooked

@@ -75,6 +75,7 @@ impl What {
         match self {
             What::Happens(Happening::Hears(n)) => n,
             What::Happens(Happening::Adds(n)) => n,
+            What::Happens(Happening::Brings(n)) => n,
             What::Owns(n) => n,
             What::KeepsTimes(n) => n,
             What::KeepsBytes(n) => n,

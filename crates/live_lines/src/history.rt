@@ -47,8 +47,7 @@ fn coming(what: Happening, covered: u64) -> u64
 {
     match what {
         Happening::Begins(size) => size.saturating_sub(covered),
-        Happening::Hears(n) => n,
-        Happening::Adds(n) => n,
+        Happening::Hears(n) | Happening::Adds(n) | Happening::Brings(n) => n,
         _ => 0,
     }
 }
@@ -58,8 +57,9 @@ fn covered_after(what: Happening, covered: u64) -> u64
 {
     match what {
         Happening::Begins(size) => size,
-        Happening::Hears(n) => covered.saturating_add(n),
-        Happening::Adds(n) => covered.saturating_add(n),
+        Happening::Hears(n) | Happening::Adds(n) | Happening::Brings(n) => {
+            covered.saturating_add(n)
+        }
         _ => covered,
     }
 }

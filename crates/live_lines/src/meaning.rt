@@ -20,6 +20,7 @@ fn happening_of(what: Happening) -> ToBoard
         Happening::Calls => ToBoard::Cable(AtCable::HangsUp),
         Happening::Hears(_) => ToBoard::Cable(AtCable::Hears),
         Happening::Adds(_) => ToBoard::Adds,
+        Happening::Brings(_) => ToBoard::Brings,
         Happening::Stops(time) => ToBoard::Stops(time),
         Happening::Takes => ToBoard::Cable(AtCable::Takes),
         Happening::Looks => ToBoard::Notes(Note::Looked),

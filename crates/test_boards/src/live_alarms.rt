@@ -8,7 +8,7 @@ use crate::coded_frames::{expect_none, first_false};
 use board_cable::What::{Begins, Hears, Opens, Wakes};
 use board_captures::Method;
 use board_game::Note::{Looked, PutsBack, Suspects};
-use board_live::What::{Adds, Cable, Keeps, KeepsAdded, Notes, Tells};
+use board_live::What::{Adds, Brings, Cable, Keeps, KeepsAdded, Notes, Tells};
 use board_live::{Happened, Live, What};
 use board_standing::Heard;
 use chess_rules::Position;
@@ -53,6 +53,16 @@ static ADDED: [Row<'static>; 6] = [
     (1_300, Cable(Hears), E4, 0, 0),
     (6_000, Cable(Hears), E4, 0, 0),
     (11_301, Adds, E3, 0, 0),
+];
+
+/// It comes over another game's cable.
+static BROUGHT: [Row<'static>; 6] = [
+    (0, Cable(Begins), NONE, 0, 0),
+    (5, Cable(Opens), NONE, 0, 0),
+    (120, Cable(Hears), START, 0, 0),
+    (1_300, Cable(Hears), E4, 0, 0),
+    (6_000, Brings, E4, 0, 0),
+    (11_301, Brings, E3, 1, 1),
 ];
 
 /// What was kept of the calls before says no alarm. When a call begins all that are open are said.
@@ -154,6 +164,7 @@ fn alarms_are_said(rt: HostRuntime) {
     let holds = [
         are_said(alloc, &CALL),
         are_said(alloc, &ADDED),
+        are_said(alloc, &BROUGHT),
         are_said(alloc, &KEPT),
         are_said(alloc, &LOOKED),
         are_said(alloc, &KEPT_ADDED),

@@ -87,15 +87,15 @@ static FILES: [(&str, &str, usize, usize); 19] = [
         29,
     ),
     (
-        "1 times 3\n1 digest 12638187200555641996\n0 begin 1\n0 away 35000\n5 opened\n5 asked 3\n12 heard 67\n40 answered\n900 gone\n900 called\n1600 added 67\n1700 took\n1800 stopped 35000\n9000 over 135\n",
+        "1 times 3\n1 digest 12638187200555641996\n0 begin 1\n0 away 35000\n5 opened\n5 asked 3\n12 heard 67\n40 answered\n900 gone\n900 called\n1600 added 67\n1650 brought 67\n1700 took\n1800 stopped 35000\n9000 over 202\n",
         "times",
-        12,
+        13,
         0,
     ),
 ];
 
 /// A file and a capture, and how they fit.
-static FITS: [(&str, &str, &str, u64); 7] = [
+static FITS: [(&str, &str, &str, u64); 8] = [
     (
         "1 times 0\n1 digest 12638187200555641996\n0 begin 1\n",
         "a",
@@ -113,6 +113,12 @@ static FITS: [(&str, &str, &str, u64); 7] = [
         "aoobar",
         "short",
         2,
+    ),
+    (
+        "1 times 0\n1 digest 12638187200555641996\n0 begin 1\n5 heard 2\n6 brought 1\n7 added 2\n",
+        "aoobar",
+        "whole",
+        0,
     ),
     (
         "1 times 0\n1 digest 12638187200555641996\n0 begin 1\n5 heard 9\n",
