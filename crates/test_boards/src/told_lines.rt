@@ -161,11 +161,12 @@ fn first_unlike(alloc: Global, rows: &[Row<'_>]) -> Result<usize, AllocError> {
 }
 
 /// A text, and how many bytes of it are an entry: 0 if more is wanted, none if nothing helps.
-static TEXTS: [(&str, Option<usize>); 10] = [
+static TEXTS: [(&str, Option<usize>); 11] = [
     ("", Some(0)),
     ("12 heard 3\nab", Some(0)),
     ("12 heard 3\nabc", Some(14)),
     ("12 heard 3\nabcd", Some(14)),
+    ("1600 brought 3\nabcd", Some(18)),
     ("5 opened\n9 gone\n", Some(9)),
     ("5 opened", Some(0)),
     ("5 opens\n", None),
