@@ -33,8 +33,8 @@ class Asked:
 
 
 def ask(program: Program, devices: Sequence[str], seconds: float = ANSWERS_IN) -> Asked:
-    """Asks the boards on these devices for their numbers, all at once, and waits this many seconds at most. It has a loop of its own: call
-    it in a thread beside the recorder's."""
+    """Asks the boards on these devices for their numbers, all at once, and waits this many seconds at most. It has a loop of its own, so a
+    recorder calls it in a thread beside its loop."""
     asked = Asked()
     lines: List[SerialLine] = []
     with contextlib.ExitStack() as opened:
