@@ -5,7 +5,7 @@ import subprocess
 from typing import Sequence, Tuple
 
 from play_board import BLACK, KING, field
-from played import words
+from played import times, words
 from played.boards import Board
 from played.recorder import LIVE, Live
 from played.stage import (
@@ -83,6 +83,8 @@ def pieces_home_after_the_result(folder: pathlib.Path) -> None:
     until(lambda: len(bytes_of(folder / "round-2.dgt")) >= 67, "the second game")
     same(movetext(folder / "round-1"), "1. e4 e5 2. Nf3 Nc6 3. Ng1 Nb8 *")
     same(stop(live), 0)
+    told = times.read(folder / "round-1").words()
+    same(told[told.index("reopened") :][:2], ["reopened", "back"])
 
 
 def start_stands_already(folder: pathlib.Path) -> None:
