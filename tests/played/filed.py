@@ -179,7 +179,7 @@ def times_as_told_as_it_ends(folder: pathlib.Path) -> None:
     events = events_in(next(entry.sent for entry in told if entry.word == "kept"))
     without_ends = [event for event in events_after([], *before[0]) if event[1] != "over"]
     same(events[: len(without_ends)], without_ends)
-    same([word for _, word, _ in events[len(without_ends) :]], ["begin", "away", "opened", "reopened"])
+    same([word for _, word, _ in events[len(without_ends) :]], ["begin", "away", "opened", "reopened", "back"])
     same(events_in(bytes_of(f"{live.name}.times")), events_after(events, told, said))
 
 
