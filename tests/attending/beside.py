@@ -12,7 +12,7 @@ from attending.answers import Answer, Entry
 from attending.asking_rules import START_REQUEST, Asking
 from attending.emulated_evenings import emulated_evening
 from attending.evenings import Evening, played
-from attending.happenings import evening
+from attending.happenings import evening, moved_about
 from attending.reading import Read, in_order
 from attending.state_rules import BoardState
 from attending.whose_rules import Whose
@@ -20,7 +20,7 @@ from decided.table import same
 from live.device.protocol import picture_of_placement
 from live.game.report import event_of
 
-EVENINGS, EMULATED = 60, 8
+EVENINGS, ELSEWHERE, EMULATED = 60, 12, 8
 AHEAD = 1e-8  # seconds
 
 
@@ -117,7 +117,7 @@ def read_otherwise(lived: Evening) -> List[str]:
 
 
 def evenings() -> List[Evening]:
-    return [*map(evening, range(EVENINGS)), *map(emulated_evening, range(EMULATED))]
+    return [*map(evening, range(EVENINGS)), *map(moved_about, range(ELSEWHERE)), *map(emulated_evening, range(EMULATED))]
 
 
 def asked_alike() -> None:

@@ -173,8 +173,9 @@ def alarmed(table: Table, chance: random.Random) -> None:
 
 HAPPENS: Dict[Callable[[Table], None], int] = {  # and how often
     ply: 30, touched: 8, wrong_square: 5, hidden: 4, lost_update: 4, clock: 4, fault: 6, forgotten: 3, knocked: 2,
-    silent: 2, called_again: 2, pulled: 3, another: 3, typed: 3, elsewhere: 2, stopped: 2, ended: 1, next_call: 2,
+    silent: 2, called_again: 2, pulled: 3, another: 3, typed: 3, stopped: 2, ended: 1, next_call: 2,
 }  # fmt: skip
+HAPPENS_ELSEWHERE = {**HAPPENS, elsewhere: 15}
 
 
 def set_up(table: Table) -> None:
@@ -192,17 +193,27 @@ def at_home(table: Table) -> None:
 @functools.lru_cache(maxsize=None)
 def evening(seed: int) -> Evening:
     """The evening of a seed."""
-    chance, alarms = random.Random(f"evening {seed}"), random.Random(f"alarms {seed}")
+    return drawn(seed, f"evening {seed}", HAPPENS)
+
+
+@functools.lru_cache(maxsize=None)
+def moved_about(seed: int) -> Evening:
+    """Another one, whose board is on another game's cable again and again."""
+    return drawn(seed, f"elsewhere {seed}", HAPPENS_ELSEWHERE)
+
+
+def drawn(seed: int, name: str, happens: Dict[Callable[[Table], None], int]) -> Evening:
+    chance, alarms = random.Random(name), random.Random(f"alarms {seed}")
     options = ["--recover"] if seed % 3 == 2 else []
     with Host(*options) as host:
         table = Table(host, chance, b"" if seed % 5 == 4 else OWN)
         chance.choice([set_up, at_home, at_home])(table)
         table.passes(chance.randrange(2500))
         for _ in range(THINGS):
-            chance.choices(list(HAPPENS), list(HAPPENS.values()))[0](table)
+            chance.choices(list(happens), list(happens.values()))[0](table)
             alarmed(table, alarms)
             table.passes(chance.randrange(1500))
-        return table.evening(f"evening {seed}", options)
+        return table.evening(name, options)
 
 
 def plies_of(lived: Evening) -> int:

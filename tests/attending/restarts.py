@@ -15,12 +15,12 @@ from typing import Iterator, List, Sequence, Tuple
 from attending.answers import Answer, Entry, brings
 from attending.emulated_evenings import emulated_evening
 from attending.evenings import OTHER, OWN, Evening, Mark, number_message
-from attending.happenings import evening, gone_back, next_game, plies_of, sample
+from attending.happenings import evening, gone_back, moved_about, next_game, plies_of, sample
 from attending.host import answers
 from attending.pictures import Picture, dump
 from decided.table import same
 
-EVENINGS, EMULATED = 30, 4
+EVENINGS, ELSEWHERE, EMULATED = 30, 8, 4
 BACK, SERIES = 10, 5  # evenings in which plies are taken off, and which go on with the next game of a series
 EACH = int(os.environ.get("EACH_PREFIX", "4"))  # of the wakes and reads of an evening one in so many is tried; 1: each
 AWAY = 35000  # milliseconds from the last thing that the killed one was told to the next call
@@ -120,7 +120,7 @@ def differences(lived: Evening) -> Tuple[int, List[str]]:
 def alike() -> None:
     """Behind each entry of the evenings."""
     back = [seed for seed in range(EVENINGS) if plies_of(evening(seed)) > 0][:BACK]
-    others = [*map(gone_back, back), *map(next_game, range(SERIES)), *map(emulated_evening, range(EMULATED))]
+    others = [*map(gone_back, back), *map(next_game, range(SERIES)), *map(moved_about, range(ELSEWHERE)), *map(emulated_evening, range(EMULATED))]
     evenings = [sample(), *map(evening, range(EVENINGS)), *others]
     kills = 0
     for lived in evenings:
