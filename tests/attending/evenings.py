@@ -16,7 +16,8 @@ from live.game.times import HEADED, heading
 
 SAMPLE = pathlib.Path(__file__).resolve().parents[2] / "samples" / "long-game"
 OWN, OTHER = b"01234", b"01235"
-NOTED = ("begin", "away", "opened", "gone", "answered", "called", "added", "brought", "stopped", "took", "ok", "back", "suspect")  # words that a file of times has
+# The words of a file of times.
+NOTED = ("begin", "away", "opened", "gone", "answered", "called", "added", "brought", "stopped", "took", "ok", "back", "suspect")
 
 
 @functools.lru_cache(maxsize=None)

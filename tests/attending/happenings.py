@@ -175,7 +175,7 @@ HAPPENS: Dict[Callable[[Table], None], int] = {  # and how often
     ply: 30, touched: 8, wrong_square: 5, hidden: 4, lost_update: 4, clock: 4, fault: 6, forgotten: 3, knocked: 2,
     silent: 2, called_again: 2, pulled: 3, another: 3, typed: 3, stopped: 2, ended: 1, next_call: 2,
 }  # fmt: skip
-HAPPENS_ELSEWHERE = {**HAPPENS, elsewhere: 15}
+HAPPENS_ELSEWHERE: Dict[Callable[[Table], None], int] = {**HAPPENS, elsewhere: 15}
 
 
 def set_up(table: Table) -> None:

@@ -5,7 +5,7 @@ from typing import Any, Iterable, List, Tuple
 
 from decided.table import same
 from given.case import Case, but, dump, leave, leave_by_bytes, left_by, pgn, updates
-from given.messages import E2_EMPTY, E4_PAWN, INITIAL, KINGS_PAWN, TIME, TURNED, TWO_KINGS
+from given.messages import E2_EMPTY, E4_PAWN, INITIAL, KINGS_PAWN, TURNED, TWO_KINGS
 from given.recorded import LONG_NAME
 from given.recovered import BISHOP, HIDDEN
 from given.watched import START
@@ -201,34 +201,7 @@ ALARMS = [
     turns([(kept(TIMES + b"1600 suspect 3\n1700 ok\n1800 suspect 7\n"), REPORT), (b"0 begin 80\n", b"look SUSPECT 7\nkeep\nstate UNPLUGGED 300\ndone -\n")]),
 ]
 
-# A pawn goes to e4, and to e3 more than ten seconds later. In between the board is heard.
-PAWN = INITIAL + updates("e2- e4P e4P e4- e3P")
-AT_E4 = HEADING + b"0 begin 0\n5 opened\n120 heard 67\n1300 heard 10\n6000 heard 5\n"
-
-# 1. e4 e5, and nothing more until the board shows the black pawn again.
-BOTH = INITIAL + updates("e2- e4P e7- e5p e5p")
-PLAYED_BOTH = HEADING + b"0 begin 0\n5 opened\n120 heard 67\n1300 heard 10\n2300 heard 10\n"
-
-# A clock runs, and is stopped. Then the knights are moved.
-RUNS, STANDS = TIME[:-1] + b"\x01", TIME
-TRIED = INITIAL + RUNS + updates("e2- e4P e7- e5p") + STANDS + updates("g1- f3N b8- c6n")
-STOPPED = HEADING + b"0 begin 0\n5 opened\n120 heard 67\n200 heard 10\n1300 heard 10\n2300 heard 10\n3000 heard 10\n6000 heard 10\n7000 heard 10\n"
-
-# A file of times and its capture; what the next call says of them when it begins.
-LOOKS = [
-    ("a late correction", AT_E4 + b"11301 heard 10\n", PAWN, [b"look at 1 LATE"]),
-    ("one in time", AT_E4 + b"11300 heard 10\n", PAWN, []),
-    ("one that was added", AT_E4 + b"11301 added 10\n", PAWN, []),
-    ("one over another game's cable", AT_E4 + b"11301 brought 10\n", PAWN, [b"look at 1 LATE"]),
-    ("somebody has looked", AT_E4 + b"11301 heard 10\n12000 ok\n", PAWN, []),
-    ("the line was gone", PLAYED_BOTH + b"2400 gone\n62400 opened\n62500 heard 5\n", BOTH, [b"look after 2 AFTER-GAP"]),
-    ("nothing came for ten seconds", PLAYED_BOTH + b"12300 heard 5\n", BOTH, [b"look after 2 AFTER-GAP"]),
-    ("for less", PLAYED_BOTH + b"12299 heard 5\n", BOTH, []),
-    ("a stopped clock", STOPPED, TRIED, [b"look since 2 STOPPED 1", b"look since 2 STOPPED 2"]),
-    ("and a suspicion", STOPPED + b"8000 suspect 3\n", TRIED, [b"look since 2 STOPPED 1", b"look since 2 STOPPED 2", b"look SUSPECT 3"]),
-]
-
-# ---- the same of this call
+# ---- how a game ends
 
 
 def heard(at: int, sent: bytes) -> bytes:
@@ -242,20 +215,6 @@ def added(at: int, put: bytes) -> bytes:
 def brought(at: int, sent: bytes) -> bytes:
     return b"%d brought %d\n%s" % (at, len(sent), sent)
 
-
-TO_E4 = [b"0 begin 0\n", b"5 opened\n", heard(120, INITIAL), heard(1300, updates("e2- e4P")), heard(6000, updates("e4P"))]
-TO_E3 = updates("e4- e3P")
-
-# What a host tells; in which answer an alarm is said.
-LOOKS_NOW = [
-    ("a late correction", [*TO_E4, heard(11301, TO_E3)], [(5, b"look at 1 LATE")]),
-    ("it is added", [*TO_E4, added(11301, TO_E3)], []),
-    ("it comes over another game's cable", [*TO_E4, brought(11301, TO_E3)], [(5, b"look at 1 LATE")]),
-    ("the board is heard there meanwhile", [*TO_E4[:4], brought(6000, updates("e4P")), brought(11301, TO_E3)], [(5, b"look at 1 LATE")]),
-    ("in time", [*TO_E4, brought(11300, TO_E3)], []),
-]
-
-# ---- how a game ends
 
 BOTH_PAWNS = dump("rnbqkbnr/pppp1ppp/8/4p3/4P3/8/PPPP1PPP/RNBQKBNR")
 KNIGHT = dump("rnbqkbnr/pppp1ppp/8/4p3/4P3/5N2/PPPP1PPP/RNBQKB1R")
@@ -465,20 +424,6 @@ def ends() -> None:
         same(name, said_in(told, (b"over ", b"played ", b"begins ")), expected)
 
 
-def looks() -> None:
-    """The alarms of the calls before that are open when a call begins."""
-    for name, times, capture, expected in LOOKS:
-        told = kept(times, capture) + b"0 begin %d\n" % len(capture)
-        _, out, _, _ = left_by(but(LIVE, sent=told))
-        same(name, [line for line in out.split(b"\n") if line.startswith(b"look")], expected)
-
-
-def looks_now() -> None:
-    """The alarms of a call, and when they are said."""
-    for name, told, expected in LOOKS_NOW:
-        same(name, said_in(told, (b"look ",)), expected)
-
-
 def recovers() -> None:
     """Only with `--recover` a pair that no picture showed is in the report, and in the text."""
     hidden = INITIAL + HIDDEN + BISHOP
@@ -519,4 +464,4 @@ def offsets() -> None:
         same(f"{told[:12]!r}", lines, WITH_PAIRS)
 
 
-TABLES = [live, looks, looks_now, ends, recovers, offsets]
+TABLES = [live, ends, recovers, offsets]

@@ -1,0 +1,64 @@
+"""Which alarms `live` says: of the calls before when a call begins, and as they are raised."""
+
+from decided.table import same
+from given.attended import HEADING, LIVE, added, brought, heard, kept, said_in
+from given.case import but, left_by, updates
+from given.messages import INITIAL, TIME
+
+# A pawn goes to e4, and to e3 more than ten seconds later. In between the board is heard.
+PAWN = INITIAL + updates("e2- e4P e4P e4- e3P")
+AT_E4 = HEADING + b"0 begin 0\n5 opened\n120 heard 67\n1300 heard 10\n6000 heard 5\n"
+
+# 1. e4 e5, and nothing more until the board shows the black pawn again.
+BOTH = INITIAL + updates("e2- e4P e7- e5p e5p")
+PLAYED_BOTH = HEADING + b"0 begin 0\n5 opened\n120 heard 67\n1300 heard 10\n2300 heard 10\n"
+
+# A clock runs, and is stopped. Then the knights are moved.
+RUNS, STANDS = TIME[:-1] + b"\x01", TIME
+TRIED = INITIAL + RUNS + updates("e2- e4P e7- e5p") + STANDS + updates("g1- f3N b8- c6n")
+STOPPED = HEADING + b"0 begin 0\n5 opened\n120 heard 67\n200 heard 10\n1300 heard 10\n2300 heard 10\n3000 heard 10\n6000 heard 10\n7000 heard 10\n"
+
+# A file of times and its capture; what the next call says of them when it begins.
+LOOKS = [
+    ("a late correction", AT_E4 + b"11301 heard 10\n", PAWN, [b"look at 1 LATE"]),
+    ("one in time", AT_E4 + b"11300 heard 10\n", PAWN, []),
+    ("one that was added", AT_E4 + b"11301 added 10\n", PAWN, []),
+    ("one over another game's cable", AT_E4 + b"11301 brought 10\n", PAWN, [b"look at 1 LATE"]),
+    ("somebody has looked", AT_E4 + b"11301 heard 10\n12000 ok\n", PAWN, []),
+    ("the line was gone", PLAYED_BOTH + b"2400 gone\n62400 opened\n62500 heard 5\n", BOTH, [b"look after 2 AFTER-GAP"]),
+    ("nothing came for ten seconds", PLAYED_BOTH + b"12300 heard 5\n", BOTH, [b"look after 2 AFTER-GAP"]),
+    ("for less", PLAYED_BOTH + b"12299 heard 5\n", BOTH, []),
+    ("a stopped clock", STOPPED, TRIED, [b"look since 2 STOPPED 1", b"look since 2 STOPPED 2"]),
+    ("and a suspicion", STOPPED + b"8000 suspect 3\n", TRIED, [b"look since 2 STOPPED 1", b"look since 2 STOPPED 2", b"look SUSPECT 3"]),
+]
+
+# ---- of this call
+
+TO_E4 = [b"0 begin 0\n", b"5 opened\n", heard(120, INITIAL), heard(1300, updates("e2- e4P")), heard(6000, updates("e4P"))]
+TO_E3 = updates("e4- e3P")
+
+# What a host tells; in which answer an alarm is said.
+LOOKS_NOW = [
+    ("a late correction", [*TO_E4, heard(11301, TO_E3)], [(5, b"look at 1 LATE")]),
+    ("it is added", [*TO_E4, added(11301, TO_E3)], []),
+    ("it comes over another game's cable", [*TO_E4, brought(11301, TO_E3)], [(5, b"look at 1 LATE")]),
+    ("the board is heard there meanwhile", [*TO_E4[:4], brought(6000, updates("e4P")), brought(11301, TO_E3)], [(5, b"look at 1 LATE")]),
+    ("in time", [*TO_E4, brought(11300, TO_E3)], []),
+]
+
+
+def looks() -> None:
+    """The alarms of the calls before that are open when a call begins."""
+    for name, times, capture, expected in LOOKS:
+        told = kept(times, capture) + b"0 begin %d\n" % len(capture)
+        _, out, _, _ = left_by(but(LIVE, sent=told))
+        same(name, [line for line in out.split(b"\n") if line.startswith(b"look")], expected)
+
+
+def looks_now() -> None:
+    """The alarms of a call, and when they are said."""
+    for name, told, expected in LOOKS_NOW:
+        same(name, said_in(told, (b"look ",)), expected)
+
+
+TABLES = [looks, looks_now]
