@@ -29,7 +29,7 @@ from played.stage import (
     until_line,
 )
 
-NUMBERED = ("begin", "away", "heard", "added", "stopped", "asked", "over", "suspect")
+NUMBERED = ("begin", "away", "heard", "brought", "added", "stopped", "asked", "over", "suspect")
 ALONE = ("opened", "answered", "gone", "called", "took", "ok", "back", "reopened")
 NOTHING = "Nothing is to be done"
 OTHER = "other.times"
@@ -63,7 +63,7 @@ class Read:
 
     def total(self, call: int = -1) -> int:
         """Of how many bytes of the capture a call tells."""
-        return sum(number or 0 for _, word, number in self.calls[call] if word in ("begin", "heard", "added"))
+        return sum(number or 0 for _, word, number in self.calls[call] if word in ("begin", "heard", "brought", "added"))
 
 
 def read(name: object) -> Read:
