@@ -40,7 +40,7 @@ def entries(capture: bytes, times: bytes) -> Iterator[Entry]:
             if count > covered:
                 yield brings(last, "heard", capture[covered:count])
             covered = count
-        if word in ("heard", "added"):
+        if word in ("heard", "brought", "added"):
             yield brings(int(at), word, capture[covered : covered + count])
             covered += count
         else:
