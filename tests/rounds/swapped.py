@@ -297,8 +297,8 @@ def played_over_another_cable(folder: pathlib.Path) -> None:
     ends the game."""
     cables = Cables(folder)
     boards = [cables.board("DGT_A", 0), cables.board("DGT_B", 3)]
-    for board, number in zip(boards, (b"00001", b"00002")):
-        board.serial_number = number
+    for board, serial in zip(boards, (b"00001", b"00002")):
+        board.serial_number = serial
     Stage.boards[:] = boards
     (folder / "round.csv").write_text("board,device\n" + "".join(f"{n},{board.device}\n" for n, board in enumerate(boards, 1)))
     live = Live(folder / "round.csv", folder / "games", program=ROUND, typed=True, environment=cables.environment())
