@@ -110,7 +110,7 @@ class AttendedGame:
         self._append(sent, what)
 
     def _append(self, sent: bytes, what: str) -> None:
-        """The capture gets this. What the program is told of has its line in the game's times by that."""
+        """The capture gets this. If the program is told of it, that gives it its line in the game's times."""
         kept = self._write(sent)
         if kept < len(sent) and not self.game.capture.at_limit:
             self._has_lost = True

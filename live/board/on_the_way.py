@@ -14,7 +14,7 @@ from live.game.times import CALLED, HEARD, TOOK, line_after
 LENDS = "lends"  # the game's board has sent this on another game's cable
 ANOTHER = "another"  # another board is on the cable, which the game's program attends no more
 NOTED = (*OF_THE_LINE, TOOK)  # news that the game's times have too
-PASSED_ON = (HEARD, LENDS, ANOTHER, *NOTED)  # what the program is told
+PASSED_ON = (HEARD, LENDS, ANOTHER, *NOTED)  # what goes on to the program
 Happened = Tuple[str, bytes]  # what, and what the board has sent
 
 
