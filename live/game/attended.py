@@ -20,7 +20,7 @@ DIGITS = b"0123456789"  # one of these begins each line of the report
 REPORT_ENDS = re.compile(rb"\n[^0-9]")
 OFTEN = re.compile(rb"keep\n(?:ask ([A-Z]+)\n)?(?:state ([^ \n]+ [^\n]+)\n)?done ([0-9]+|-)\n")  # the end of most answers
 HISTORY_ENDS = b"done -"  # the answer to a capture
-NO_HISTORY = re.compile(rb"^[^0-9d]", re.MULTILINE)  # a line that isn't in such an answer
+NO_HISTORY = re.compile(rb"^(?![0-9]|done -$)", re.MULTILINE)  # a line that isn't in such an answer
 
 
 class NoAnswer(ValueError):
@@ -92,6 +92,7 @@ class Answers:
 
     def __init__(self, known: int = 0) -> None:
         self._known = known
+        self._is_history = known > 0  # whether nothing has come yet but answers to a capture, and all of it is known
         self._come = b""  # what isn't read yet
         self._answer = Answer()
 
@@ -99,7 +100,7 @@ class Answers:
         """The answers that end in what has come now."""
         come, at = self._come + part, 0
         found: List[Answer] = []
-        if self._known and not NO_HISTORY.search(come):
+        if self._is_history:
             found, at = self._skip(come)
         while (end := come.find(b"\n", at)) >= 0:
             if come[at] in DIGITS:
@@ -133,9 +134,12 @@ class Answers:
         """Passes over the answers to a capture, if all of it is known: a report may be long. Returns them, and the place behind
         them."""
         at = come.rfind(b"\n") + 1
+        if at == 0:
+            return [], 0
         ended = come.count(HISTORY_ENDS, 0, at)
         count = come.count(b"\n") - ended
-        if count > self._known:
+        if count > self._known or NO_HISTORY.search(come, 0, at - 1):
+            self._is_history = False
             return [], 0
         self._known -= count
         return [Answer() for _ in range(ended)], at

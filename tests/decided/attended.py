@@ -70,8 +70,8 @@ def answers() -> None:
         refused(f"{line!r}", NoAnswer, Answers().take, line)
 
 
-def byte_by_byte(written: bytes) -> List[Answer]:
-    answers, found = Answers(), []
+def byte_by_byte(written: bytes, known: int = 0) -> List[Answer]:
+    answers, found = Answers(known), []
     for at in range(len(written)):
         found += answers.take(written[at : at + 1])
     return found
@@ -86,6 +86,13 @@ def known() -> None:
         expected = [Answer(report=first), Answer(report=second), *rest]
         text = HISTORY + LIVE
         same(f"{count} lines", [at for at in range(len(text) + 1) if cut(text, at, count) != expected], [])
+        same(f"{count} lines, byte by byte", byte_by_byte(text, count), expected)
+    # Some of the known lines come only with bytes that wait for a full disk.
+    later = b"keep\nstate AGREES 0\ndone 500\n95 move 1. e4\n95 agrees\nkeep\ndone -\n"
+    expected = [Answer(), Answer(), Answer(handling="keep", stood=Stood("AGREES", 0), due=500), Answer(report=["95 agrees"], handling="keep")]
+    text = HISTORY + later
+    same("one more line", [at for at in range(len(text) + 1) if cut(text, at, len(lines) + 1) != expected], [])
+    same("one more line, byte by byte", byte_by_byte(text, len(lines) + 1), expected)
 
 
 def of_the_line() -> None:
