@@ -112,7 +112,8 @@ class _Board:
             self.end()
 
     def says(self, text: str) -> None:
-        """The child is started again."""
+        """The child is started again. If no number comes in time, that is why."""
+        self.why = text.partition(";")[0]
 
     def broken(self, what: str) -> None:
         """The child ends again and again."""

@@ -24,6 +24,7 @@ from given.case import program
 DUMP = dump(picture(INITIAL))
 LONG = 120.0  # seconds that no case takes
 SHORT = 1.5  # where nothing is found
+SOME = 10.0  # where some are found, also on a machine that has much else to do
 UPDATE = b"\x8e\x00\x05\x34\x00"
 DEADLY = b"\x9f\x00\x05\x7d\x7e"  # a message at which a program ends
 PAUSE = 0.002
@@ -183,7 +184,7 @@ def side_by_side() -> None:
         same("each has its own", asked("five", fars).numbers, {far.device: number for far, number in zip(fars, numbers)})
     with plugged(Far([DUMP + numbered("00001")]), Far([DUMP]), Far([UPDATE + numbered("00003")])) as fars:
         expected = {fars[0].device: "00001", fars[2].device: "00003"}
-        same("one gives none", asked("one gives none", fars, SHORT).numbers, expected)
+        same("one gives none", asked("one gives none", fars, SOME).numbers, expected)
     with plugged(Far([DUMP + numbered("00001")])) as (far,):
         missing = ask(Program(program()), ["/dev/no-such-device"], SHORT)
         same("a device that isn't there", missing, Asked())
@@ -207,6 +208,9 @@ def children_that_die() -> None:
             found = ask(Program(os.path.join(folder, "nothing")), [far.device for far in fars], LONG)
             why = "live can't be started (No such file or directory)"
             same("no program", found, Asked(failed={far.device: why for far in fars}))
+        with plugged(Far()) as (far,):  # it is given up only after that time
+            found = ask(Program(os.path.join(folder, "nothing")), [far.device])
+            same("no program, in the time that a list takes", found, Asked(failed={far.device: why}))
 
 
 TABLES = [answers, lost_answers, without_number, side_by_side, children_that_die]
