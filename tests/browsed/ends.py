@@ -163,6 +163,24 @@ def start_stands_already(folder: pathlib.Path) -> None:
 
 
 @with_chromium
+def moved_at_once(folder: pathlib.Path) -> None:
+    """The start stands there when the game ends. The first move of the next one is made as soon as the board has sent its dump, before
+    the page looks: the next game has it."""
+    with Hall(folder) as stage:
+        page, port = begin(stage)
+        until_agrees(stage, page)
+        play(stage, page, port, RUY[:1], RUY_SANS[:1])
+        port.board.play("e4e2")
+        stage.until_dumped(page, port)
+        answered(stage, page, "0-1", "added by hand: the result 0-1 after 1. e4, 1 ply")
+        stage.until(lambda: "board 1 is over: it has a result" in [line[13:] for line in page.messages], "the end of the game")
+        stage.until_dumped(page, port)
+        port.board.play(QUEENS[0])
+        stage.until(lambda: "the pieces are at the start: board 1-2 begins" in [line[13:] for line in page.messages], "the next game")
+        stage.until_moves(page, QUEENS_SANS[:1])
+
+
+@with_chromium
 def kings_on_a_board_that_is_away(folder: pathlib.Path) -> None:
     """The kings were in the centre when the cable was pulled out: while it is in, no other result is taken, and none is taken off. Once
     it is out nobody can put the kings back: then both can be."""

@@ -27,6 +27,7 @@ export class NextGame {
     this.at = null; // the byte with which the next game begins, once it is known
     this.stood = ''; // what the board showed last before the end
     this.hasShown = false; // whether it has shown anything since
+    this.isRead = false; // whether what came up to that was read by itself
   }
 
   /** Where the game ends, and with it all that counts no more. */
@@ -62,19 +63,20 @@ export class NextGame {
    */
   look() {
     const { isOver, options, course, capture, guard } = this.recorder;
-    if (!isOver || this.at !== null || this.hasShown || this.isReading) return;
+    if (!isOver || this.at !== null || this.isRead || this.isReading) return;
     if (!isReadAnew(this.stood, startOf(options), course.plies.length) || capture.size <= this.end) return;
     guard.call(() => this.read());
   }
 
   async read() {
     const { calls, options, capture, attending } = this.recorder;
-    const { end } = this;
+    const { end, hasShown } = this;
     const { epoch } = attending;
     this.isReading = true;
     try {
       const lines = await calls.lines(['watch', ...ofBoard(options)], capture.bytes().slice(end));
       if (epoch !== attending.epoch) return;
+      this.isRead = hasShown;
       const pictures = lines.map(lineOf).filter(isPicture).map(pictureOf);
       this.begins(pictures.map(([offset, placement]) => [end + offset, placement]));
     } finally {
