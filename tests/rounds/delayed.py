@@ -250,6 +250,7 @@ def named_as_others(folder: pathlib.Path) -> None:
     live.type("r")
     until_line(live, "line 2 of round.csv is wrong: name is 'Round'")
     until_line(live, "agrees")
+    until(lambda: (hall.games / "broadcast.pgn").exists(), "the text that goes out")
     quits(live)
     for name in ("broadcast", "round", "club.before", "club.before-1", "club.edited", "club.broadcast"):
         refuses(Live(hall.boards[0].device, hall.games / name), 1, "choose another name")
