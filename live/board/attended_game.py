@@ -110,7 +110,7 @@ class AttendedGame:
         self._append(sent, what)
 
     def _append(self, sent: bytes, what: str) -> None:
-        """The capture gets this. If the program is told of it, that gives it its line in the game's times."""
+        """The capture gets this. Its line in the game's times is written here, unless the program is told of it: then it comes with that."""
         kept = self._write(sent)
         if kept < len(sent) and not self.game.capture.at_limit:
             self._has_lost = True
