@@ -141,7 +141,6 @@ class Broadcast:
         self._is_known = False  # whether the games have been looked at
         self._changed: Optional[Set[int]] = set()  # the games to look at soon; None for all
         self.alarm = ""  # why the text can't be carried away
-        self.alarm_since = 0.0
         self._closed = False
         self._begin()
 
@@ -351,8 +350,6 @@ class Broadcast:
     def published(self, trouble: str) -> None:
         """A run of the command has ended, with what went wrong, or nothing."""
         before, self.alarm = self.alarm, trouble
-        if trouble and not before:
-            self.alarm_since = self._loop.now()
         if trouble and trouble != before:
             self._hears.say(f"{self.told_of_alarm}; it is tried again")
         elif before and not trouble:

@@ -6,6 +6,7 @@ from __future__ import annotations
 import dataclasses
 from typing import Optional, Tuple
 
+from live.broadcast.running import OTHER
 from live.broadcast.shot import Shot, unplayed
 
 
@@ -14,10 +15,10 @@ def plies_of(shot: Shot) -> Tuple[str, ...]:
     return tuple(ply.san for ply in shot.moves)
 
 
-def is_pressed(shot: Shot) -> bool:
-    """Whether the clock of the side to move runs: the last ply was followed by a press."""
-    side = shot.positions[-1].split(" ")[1:2] if shot.positions else []
-    return [shot.clocks.runs] == side
+def to_move(shot: Shot) -> str:
+    """The side to move; empty if the position isn't known."""
+    side = "".join(shot.positions[-1].split(" ")[1:2]) if shot.positions else ""
+    return side if side in OTHER else ""
 
 
 @dataclasses.dataclass
@@ -28,6 +29,7 @@ class Steady:
     out: Optional[Shot] = None  # what went out last
     last: Optional[Shot] = None  # what came last
     _since: float = 0.0  # since when it has these plies
+    _ran: str = ""  # whose clock ran when the last ply was made, or after that while it wasn't pressed
 
     def take(self, now: float, shot: Shot) -> Shot:
         """The game is this now. What goes out is this or what went out before. Of a game that is first seen all goes out, but no
@@ -36,9 +38,11 @@ class Steady:
         if self.out is None or last is None:
             self.out, self._since = unplayed(shot) if len(shot.moves) == 1 else shot, now
         elif plies_of(shot) != plies_of(last):
-            self._since = now
+            self._since, self._ran = now, last.clocks.runs
             if plies_of(shot)[:-1] == plies_of(last):
                 self.out = last  # a reply was made
+        if shot.clocks.runs == OTHER[to_move(shot)]:
+            self._ran = shot.clocks.runs
         if self._is_steady(now, shot, self.out):
             self.out = shot
         return self.out
@@ -47,7 +51,13 @@ class Steady:
         plies = plies_of(shot)
         is_no_more = plies == plies_of(out)[: len(plies)]  # the same plies, or some were taken off
         is_over = shot.result != "*" or bool(shot.forfeit)
-        return is_no_more or is_over or now - self._since >= self.hold or is_pressed(shot)
+        return is_no_more or is_over or now - self._since >= self.hold or self._is_pressed(shot)
+
+    def _is_pressed(self, shot: Shot) -> bool:
+        """Whether the last ply was followed by a press: the clock of who made it ran, and now that of the side to move does. If that ran
+        before, a press was forgotten, or the clock is read the wrong way round."""
+        side = to_move(shot)
+        return side != "" and shot.clocks.runs == side and self._ran == OTHER[side]
 
     @property
     def due(self) -> Optional[float]:

@@ -119,12 +119,14 @@ def restarts() -> None:
     one.look(500.0)
     same("nothing can be said again", (one.is_told, one.waiting.shot, one.waiting.ends_at), (True, Shot(), None))
     running = Shot("*", E4.moves, E4.positions, E4.text)  # its clock isn't pressed
+    thought = Shot(positions=QUIET.positions, text=QUIET.text, clocks=Clocks("1:29:55", "1:30:00", "w", 50.0))
     pressed = Shot("*", E4.moves, (START, "8/8 b"), E4.text, E4.clocks)
     for name, said, out in (
         ("a ply stood for two seconds", [(60.0, running), (70.0, E5)], [(ALWAYS, QUIET), (62.0, running), (72.0, E5)]),
         ("no reply after it", [(60.0, running)], [(ALWAYS, QUIET), (62.0, running)]),
         ("a reply came sooner", [(60.0, running), (61.0, E5)], [(ALWAYS, QUIET), (61.0, running), (63.0, E5)]),
-        ("the clock was pressed", [(60.0, pressed)], [(ALWAYS, QUIET), (60.0, pressed)]),
+        ("the clock was pressed", [(50.0, thought), (60.0, pressed)], [(ALWAYS, QUIET), (60.0, pressed)]),
+        ("nobody knows whether it was", [(60.0, pressed)], [(ALWAYS, QUIET), (62.0, pressed)]),
     ):
         one = OneGame("01", GoingOut(900.0, hold=2.0))
         one.tell([(0.0, QUIET), *said], 500.0)
