@@ -269,7 +269,7 @@ class Recording(AttendedGame):
         self.look_at(told_of_exchange(self._suspected))
 
     def look_at(self, look: Look, byte: int = 0) -> None:
-        """Somebody must look at this, which came with this byte, if any. It is said if it is new."""
+        """Somebody must look at this, which is about a ply that came with this byte, if about any. It is said if it is new."""
         if self._alarms.add(look, byte):
             self._screen.say(f"{look.text}. Look at it, and type {self._screen.ok()}")
             self.look_again()

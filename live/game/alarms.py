@@ -51,11 +51,11 @@ class Alarms:
     def __init__(self, paths: Paths) -> None:
         self._paths = paths
         self.looks = kept_looks(paths)
-        self._since: Dict[str, int] = {}  # with which byte of the capture each alarm of this call came
+        self._since: Dict[str, int] = {}  # with which byte of the capture the ply came that each alarm of this call is about
         self.trouble: Optional[OSError] = None  # why they can't be kept
 
     def add(self, look: Look, byte: int = 0) -> bool:
-        """Somebody must look at this, which came with this byte of the capture. Returns whether it is new."""
+        """Somebody must look at this. It is about a ply that came with this byte of the capture, if about any. Returns whether it is new."""
         if look in self.looks.open:
             return False
         self._since[look.what] = byte
@@ -64,7 +64,7 @@ class Alarms:
         return True
 
     def end(self, size: int) -> None:
-        """The game has this many bytes. What came after them was setting up, and nobody need look at it."""
+        """The game has this many bytes. The plies that came after them were setting up, and nobody need look at them."""
         left = Looks(tuple(look for look in self.looks.open if self._since.get(look.what, 0) < size))
         if left != self.looks:
             self.looks = left

@@ -4,7 +4,7 @@ from __future__ import annotations
 
 from typing import Sequence
 
-from live.game.attended import AFTER, SINCE, Doubt
+from live.game.attended import SINCE, Doubt
 from live.game.looks import Look
 from live.game.report import Move
 
@@ -22,10 +22,10 @@ ABOUT_CLOCK = "clock"
 
 
 def byte_of(doubt: Doubt, ends: Sequence[int]) -> int:
-    """The byte of the capture with which it came, by those that gave the plies. What came behind a ply is the next one; 0 if the ply
-    isn't known."""
+    """The byte of the capture with which the ply came that it is about, by those that gave the plies; 0 if that isn't known. Moves that
+    were made `since` a ply begin with the next one."""
     ply = doubt.plies if doubt.where == SINCE else doubt.plies - 1
-    return (ends[ply] + (doubt.where == AFTER)) if 0 <= ply < len(ends) else 0
+    return ends[ply] if 0 <= ply < len(ends) else 0
 
 
 def look_of(doubt: Doubt, plies: Sequence[Move]) -> Look:

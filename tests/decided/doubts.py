@@ -41,16 +41,16 @@ def corrected() -> None:
 
 
 def places() -> None:
-    """With which byte each came, where the plies came with the bytes 70, 140 and 210."""
-    for where, plies, expected in (("at", 3, 210), ("at", 1, 70), ("after", 2, 141), ("since", 2, 210), ("since", 0, 70), ("at", 4, 0), ("after", 0, 0)):
+    """With which byte the ply came that each is about, where the plies came with the bytes 70, 140 and 210."""
+    for where, plies, expected in (("at", 3, 210), ("at", 1, 70), ("after", 2, 140), ("after", 3, 210), ("since", 2, 210), ("since", 0, 70), ("at", 4, 0), ("after", 0, 0)):
         same(f"{where} {plies}", byte_of(Doubt(where, plies, "LATE"), [70, 140, 210]), expected)
     with tempfile.TemporaryDirectory() as folder:
         alarms = Alarms(Paths(f"{folder}/game"))
-        for name, byte in (("at 1. e4", 70), ("after 1. e4", 71), ("at 1... e5", 140), ("the cable", 0)):
+        for name, byte in (("at 1. e4", 70), ("after 1. e4", 70), ("at 1... e5", 140), ("the cable", 0)):
             same(name, (alarms.add(Look(name, "why"), byte), alarms.add(Look(name, "why"), byte)), (True, False))
         alarms.end(71)
-        same("the game has 71 bytes", [look.what for look in alarms.looks.open], ["at 1. e4", "the cable"])
-        same("seen", alarms.acknowledge(), "LOOK at 1. e4: why; LOOK the cable: why")
+        same("the game has 71 bytes", [look.what for look in alarms.looks.open], ["at 1. e4", "after 1. e4", "the cable"])
+        same("seen", alarms.acknowledge(), "LOOK at 1. e4: why; LOOK after 1. e4: why; LOOK the cable: why")
         same("none is kept", kept_looks(Paths(f"{folder}/game")), Looks())
 
 

@@ -7,7 +7,7 @@ from typing import List, Optional
 from played import words
 from played.boards import Board
 from played.recorder import Live
-from played.stage import a_board, begun, movetext, rest, same, stop, until, until_dumped, until_game, until_line
+from played.stage import a_board, begun, bytes_of, ended, movetext, rest, same, stop, until, until_dumped, until_game, until_line
 
 UNHURRIED = 2.0  # seconds a ply
 KNIGHTS = ["e2e4", "e7e5", "g1f3", "b8c6"]
@@ -127,7 +127,27 @@ def hidden_before_the_first_move(folder: pathlib.Path) -> None:
         same(stop(live), 0)
 
 
+def doubtful_to_the_end(folder: pathlib.Path) -> None:
+    """The cable is out for seven seconds behind the last move, so moves may be missing. Then the pieces are set up, which ends the game: the
+    moves may be missing all the same, and somebody must still look."""
+    game = Clocked(folder, has_clock=False)
+    game.play(KNIGHTS, pace=None)
+    game.board.pull()
+    until_line(game.live, words.UNPLUGGED)
+    rest(7)
+    game.board.plug()
+    until_line(game.live, "LOOK after 2... Nc6: the board wasn't heard for a time")
+    rest(1.5)
+    game.board.set_up([])
+    until_line(game.live, "game is over: the pieces are at the start again")
+    same(ended(game.live), 0)
+    until_game(game.live.name, "1. e4 e5 2. Nf3 Nc6 *")
+    until_line(game.live, f"in {game.live.name}.pgn: LOOK after 2... Nc6: the board wasn't heard")
+    same(bytes_of(game.live.name + ".look").decode().split("\t")[0], "after 2... Nc6")
+
+
 CASES = [
+    doubtful_to_the_end,
     hidden_before_the_first_move,
     taken_back_by_agreement,
     gone_back_in_play,

@@ -1,6 +1,6 @@
 // The alarms of a game until somebody has looked. The program raises them; here are their sentences. Pure; the caller keeps `looks`.
 
-import { AFTER, AT, SINCE, SUSPECT } from './attended.js';
+import { SINCE, SUSPECT } from './attended.js';
 import { Looks, OVER, lookAt } from './looks.js';
 import { shortOf } from './report.js';
 
@@ -47,11 +47,10 @@ export function lookOf({ where, plies: count, why, moves }, plies) {
   return lookAt(`${where} ${name}`, `${made} made while the clock was stopped: ${tried}`, `${CLOCK} ${name}`);
 }
 
-/** The byte with which an alarm came, by those that settled the plies; the one behind the ply if it came later. */
+/** The byte that settled the ply which an alarm is about; 0 if that isn't known. Moves that were made `since` a ply begin with the next one. */
 function byteOf({ where, plies: count }, settledAt) {
-  if (where === SINCE) return settledAt[count] || 0;
-  const settled = settledAt[count - 1] || 0;
-  return where === AFTER ? settled + 1 : where === AT ? settled : 0;
+  if (where === SUSPECT) return 0;
+  return settledAt[where === SINCE ? count : count - 1] || 0;
 }
 
 const same = (one, other) => one.what === other.what && one.why === other.why;
@@ -60,7 +59,7 @@ const same = (one, other) => one.what === other.what && one.why === other.why;
 export class Alarms {
   constructor(open = []) {
     this.looks = new Looks(open);
-    this.since = new Map(); // the byte with which each alarm of the program came
+    this.since = new Map(); // the byte that settled the ply which each alarm of the program is about
     this.suspected = []; // the boards with which the game's cable may have been exchanged
   }
 
@@ -92,7 +91,7 @@ export class Alarms {
     return look;
   }
 
-  /** The game has this many bytes. What came after them was a set-up, and alarms about it are dropped. */
+  /** The game has this many bytes. The plies that came after them were a set-up, and alarms about them are dropped. */
   end(size) {
     this.looks = new Looks(this.looks.open.filter((look) => (this.since.get(look.what) || 0) < size));
   }
