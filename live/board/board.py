@@ -261,8 +261,8 @@ class Board:
 
     @property
     def returned(self) -> Optional[Returned]:
-        """When it was away last, and what tells it from others; None if it wasn't, or its game has no move or is over."""
-        if self._back is None or self.is_over or not self.plies:
+        """When it was away last, and what tells it from others; None if it wasn't, or its game is over."""
+        if self._back is None or self.is_over:
             return None
         from live.board.exchanged import Returned
 

@@ -279,6 +279,23 @@ def exchanged_though_alike(folder: pathlib.Path) -> None:
 
 
 @with_chromium
+def exchanged_before_the_first_move(folder: pathlib.Path) -> None:
+    """Two boards without numbers go at the same time before their first moves: they stand alike then too."""
+    with Hall(folder) as stage:
+        page = stage.tab()
+        ports = [stage.board() for _ in range(2)]
+        for port in ports:
+            stage.show_all(page) if page.shows("#back") else None
+            stage.add(page, port)
+            stage.enlarge(page, port.number)
+            until_agrees(stage, page)
+        stage.show_all(page)
+        hub_fails(stage, page, ports)
+        same(["LOOK at the cable" in state for state in states(page)], [True, True])
+        same(page.tab.printed(), [])
+
+
+@with_chromium
 def another_board(folder: pathlib.Path) -> None:
     """A board is replaced by another one: what that sends is kept back until somebody presses OK, and then the game has all of it."""
     with Hall(folder) as stage:

@@ -107,15 +107,17 @@ def away_together(folder: pathlib.Path) -> None:
 
 def exchanged_as_they_stand_alike(folder: pathlib.Path) -> None:
     """The cables of two boards without a number are exchanged, and no square shows it; a player has just made a move, or has a piece in
-    his hand: they stand alike still. Without the alarm each game would get the moves of the other board, and nobody would know."""
-    for name, reply in (("alike", ""), ("a_move_more", "e7e5"), ("in_a_hand", "e7")):
+    his hand: they stand alike still. So they do before the first move. Without the alarm each game would get the moves of the other
+    board, and nobody would know."""
+    for name, first, reply in (("at_the_start", "", ""), ("alike", "e2e4", ""), ("a_move_more", "e2e4", "e7e5"), ("in_a_hand", "e2e4", "e7")):
         (folder / name).mkdir()
         hall = Hall(folder / name, 2)
         live = hall.record(typed=True)
         hall.begun(live)
         for number, board in enumerate(hall.boards, 1):
-            board.play("e2e4")
-            hall.until_text(number, "1. e4 *")
+            if first:
+                board.play(first)
+                hall.until_text(number, "1. e4 *")
         one, other = hall.boards
         for board in hall.boards:
             board.pull()

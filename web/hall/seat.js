@@ -119,10 +119,10 @@ export class Seat {
     return this.recorder !== null && (!this.recorder.cable.isOpen || this.isSilent);
   }
 
-  /** When its board was away last, and what tells it from others; null if it wasn't, or its game has no move or is over. */
+  /** When its board was away last, and what tells it from others; null if it wasn't, or its game is over. */
   get returned() {
     const { gap, course } = this.recorder;
-    return gap && this.hasMoves && !this.isOver ? { ...gap, number: this.serial, placement: course.placement } : null;
+    return gap && !this.isOver ? { ...gap, number: this.serial, placement: course.placement } : null;
   }
 
   /** Its cable may have been exchanged with those of the boards with these numbers. */
