@@ -61,7 +61,7 @@ sys.path.insert(0, str(pathlib.Path(sys.argv[0]).parent))
 {NOTES}
 runpy.run_path(sys.argv[0], run_name="__main__")
 """
-# The script of BROADCAST for a web server on this computer.
+# As the script of BROADCAST for a web server on this computer.
 COPY = """\
 #!/bin/sh
 cp "$1" {into}/new.pgn && mv {into}/new.pgn {into}/round.pgn
