@@ -1,16 +1,17 @@
 """A board whose game is over. If it has a result, it is watched until its pieces are set up: the result may have been meant for
 another board, or the kings may have been in the centre by mistake. If it has none, it is watched for moves from the start: perhaps
-somebody tried some moves before the game, and it begins only now. What it sends is kept after the game's bytes."""
+somebody tried some moves before the game, and it begins only now. So it is if the game has no move: then the start is its own, and no
+set-up ends that. What the board sends is kept after the game's bytes."""
 
 from __future__ import annotations
 
 import functools
-from typing import Callable, List, Optional, Protocol
+from typing import Callable, List, Optional, Protocol, Sequence
 
 from live.board.attended_game import AttendedGame, HearsGame
 from live.board.disk import unwritten_of
 from live.board.recording import Recording
-from live.game.afterwards import FromTheStart, went_on
+from live.game.afterwards import FromTheStart, is_set_up, went_on
 from live.game.alarms import keep_looks, kept_looks
 from live.game.attended import Answer
 from live.game.attending import Told
@@ -19,7 +20,7 @@ from live.game.files import text_of
 from live.game.game import Game, end_mark
 from live.game.looks import Look
 from live.game.making_pgn import Made
-from live.game.report import Picture, line_of
+from live.game.report import Event, Picture, line_of
 from live.game.times import BEGIN
 from live.game.way_back import NO_RESULT
 from live.guard import Guard
@@ -42,8 +43,9 @@ class HearsListening(HearsGame, Protocol):
 class Listening(AttendedGame):
     """Reports moves that are made after the end of a game. Its board may stand as it likes.
 
-    The program that attended the game says how many moves were made after its result. A game without one is over because its pieces were
-    set up: from then on another child attends the board, which begins with the start."""
+    The program that attended the game says how many moves were made after its result; where the game has no move, its report has them. A
+    game without a result is over because its pieces were set up: from then on another child attends the board, which begins with the
+    start."""
 
     def __init__(
         self, guard: Guard, screen: Screen, game: Game, course: Course, hears: HearsListening, before: Optional[Recording] = None
@@ -52,30 +54,35 @@ class Listening(AttendedGame):
         self._screen, self._hears = screen, hears
         self.looks = kept_looks(game.paths)
         self._last = course.plies[-1].short if course.plies else "the start"
-        self._result = course.result
-        self._from_the_start = FromTheStart(self._last) if course.result == NO_RESULT else None
+        self._result, self._plies = course.result, len(course.plies)
+        is_at_start = course.result == NO_RESULT or not course.plies
+        self._from_the_start = FromTheStart(self._last, course.result) if is_at_start else None
         self._from = game.capture.size
+        self._reads_from = self._from if course.result == NO_RESULT else 0  # the byte with which the report begins
         self._end = self._from if before else end_mark(game.paths) or 0
         self._was_set_up = False  # whether its board has shown the start last, in the calls before
         self._played = 0  # moves since the end, as far as they are known
         self._is_paused = False
         self._tick = guard.after(TICK, self._each_second)
         self._shows()
-        if self._from_the_start:
+        if course.result == NO_RESULT:
             self.attend(game.options.of_board(), self._from)
         elif before is None or before.attending.is_closed:
             self.attend(game.options.of_live(), with_times=True)
         else:
             self.take_over(before)
-            guard.after(0, functools.partial(self._has_heard, before.played, before.is_set_up))
+            guard.after(0, functools.partial(self._has_heard, before))
 
-    def _has_heard(self, moves: int, is_set_up: bool) -> None:
+    def _has_heard(self, before: Recording) -> None:
         """What the program has said since the game was over."""
         if self._is_closed:
             return
-        if moves > self._played:
-            self._plays_on(moves, False)
-        if is_set_up:
+        if self._from_the_start:
+            self._plays_from(self._from_the_start, before.dropped, True)
+            return
+        if before.played > self._played:
+            self._plays_on(before.played, False)
+        if before.is_set_up:
             self._hears.set_up()
 
     def answered(self, told: Told, answer: Answer) -> None:
@@ -107,22 +114,32 @@ class Listening(AttendedGame):
 
     def _reports(self, at: float, texts: List[str]) -> None:
         for line in filter(None, map(line_of, texts)):
-            event = line.event
+            event, offset = line.event, self._reads_from + line.offset
+            if offset < self._end:
+                continue
             if self._from_the_start:
-                look = self._from_the_start.take(event)
-                if look:
-                    self._look(look, f"if the game begins only now, type {self._screen.begins()}: it has these moves then")
-            elif isinstance(event, Picture) and line.offset >= self._end:
-                self._was_set_up = event.placement == self.game.options.start
-                if self._was_set_up and line.offset >= self._from:
+                self._plays_from(self._from_the_start, [event], offset >= self._from)
+            elif isinstance(event, Picture):
+                self._was_set_up = is_set_up(event.placement, self.game.options.start, self._plies)
+                if self._was_set_up and offset >= self._from:
                     self._hears.set_up()
                     return
 
+    def _plays_from(self, start: FromTheStart, events: Sequence[Event], are_news: bool) -> None:
+        """These may be moves from the start. If they are no news, somebody was told of them before."""
+        looks = [look for look in map(start.take, events) if look]
+        if looks and are_news:
+            begins = f"if the game begins only now, type {self._screen.begins()}: it has these moves then"
+            self._look(looks[-1], begins if self._result == NO_RESULT else self._how_it_goes_on)
+
     def _plays_on(self, moves: int, is_known: bool) -> None:
         is_news, self._played = moves > self._played, moves
-        if is_news and not is_known:
-            otherwise = f"if the game isn't over, type {self._screen.reopens()}: it goes on with these moves"
-            self._look(went_on(self._last, moves, self._result), otherwise)
+        if is_news and not is_known and not self._from_the_start:
+            self._look(went_on(self._last, moves, self._result), self._how_it_goes_on)
+
+    @property
+    def _how_it_goes_on(self) -> str:
+        return f"if the game isn't over, type {self._screen.reopens()}: it goes on with these moves"
 
     def _look(self, look: Look, otherwise: str) -> None:
         """Raises an alarm."""

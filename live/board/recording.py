@@ -71,7 +71,7 @@ class Recording(AttendedGame):
         self._is_reopened = False  # by an arbiter, and the program doesn't know it yet
         self._begins_anew = False  # the game begins only now, and what follows belongs to its new capture
         self.played, self.is_set_up = 0, False  # moves that were made since the game was over; and whether the start was shown since
-        self._dropped: List[Move] = []  # moves that were reported behind the game's end
+        self.dropped: List[Move] = []  # moves that were reported behind the game's end
         self._is_over = self._has_ended = False  # whether it is recorded no more; and whether that is because the game has ended
         self._marks = False  # and whether NAME.end must say how many bytes are the game's
         self._done: Callable[[str], None] = lambda unwritten: None
@@ -204,7 +204,7 @@ class Recording(AttendedGame):
         is_changed = False
         if self.end is not None and offset >= self.end:  # the game is over with this many bytes
             events = [event_of(words) for words in lines]
-            self._dropped += [event for event in events if isinstance(event, Move)]
+            self.dropped += [event for event in events if isinstance(event, Move)]
             lines = [words for words, event in zip(lines, events) if isinstance(event, Picture)]
             self.is_set_up = self.is_set_up or any(map(self._shows_start, events))
         for words in lines:
@@ -391,7 +391,7 @@ class Recording(AttendedGame):
         self.was_over = is_known
         self.end = over.size
         if is_known:
-            self._dropped += self.course.end(self.end, over.result)
+            self.dropped += self.course.end(self.end, over.result)
 
     def _is_over_by(self, over: Over) -> None:
         if self._is_over or self.end is None:
@@ -402,17 +402,17 @@ class Recording(AttendedGame):
         self.standing.look(self.looks.short)
         if reason is Reason.SET_UP:
             self._say_what_is_dropped(self.end)
-        if reason is Reason.CORRECTED and self._dropped:
+        if reason is Reason.CORRECTED and self.dropped:
             from live.game.afterwards import corrected  # few games need it
 
-            self.look_at(corrected(self._dropped[0].short))
+            self.look_at(corrected(self.dropped[0].short))
         elif not over.sure:
             self._screen.say(f"LOOK at the last moves of {self.game.paths.pgn}: where the game ended isn't sure")
         self._end(reason)
 
     def _say_what_is_dropped(self, end: int) -> None:
         known = [ply for ply, at in zip(self.course.plies, self.course.ends) if at >= end]
-        dropped = [*known, *self._dropped]
+        dropped = [*known, *self.dropped]
         if dropped:
             self._screen.say(f"taken for setting up, and not for moves: {'; '.join(ply.words for ply in dropped)}")
 

@@ -11,10 +11,13 @@ from live.game.report import Event, Move
 SURE = 2  # moves: one alone may be a piece that somebody sets straight
 
 
+def _over(result: str) -> str:
+    return "the game is over without a result" if result == "*" else f"the game is over: {result}"
+
+
 def went_on(after: str, moves: int, result: str) -> Look:
     """The program says that so many moves were made after a game with this last move and this result."""
-    over = "the game is over without a result" if result == "*" else f"the game is over: {result}"
-    return Look(f"after {after}", f"{moves} moves were made, and {over}", OVER)
+    return Look(f"after {after}", f"{moves} moves were made, and {_over(result)}", OVER)
 
 
 def corrected(ply: str) -> Look:
@@ -28,6 +31,12 @@ def is_read_anew(stood: str, start: str, plies: int) -> bool:
     return plies > 0 and stood == start
 
 
+def is_set_up(shown: str, start: str, plies: int) -> bool:
+    """Whether a board whose game is over, with so many plies, was set up for another one, since it shows the start. A game without a move
+    stands there itself: a piece that somebody has set straight is no set-up, and what is played from the start may be that game."""
+    return plies > 0 and shown == start
+
+
 def next_begins(pictures: Sequence[Tuple[int, str]], end: int, start: str) -> Optional[int]:
     """The byte with which the next game begins, of these pictures with their offsets: the first start from the end on; None if there is
     none."""
@@ -36,11 +45,12 @@ def next_begins(pictures: Sequence[Tuple[int, str]], end: int, start: str) -> Op
 
 @dataclass
 class FromTheStart:
-    """Takes the reported events of a board whose game is over without a result, since its pieces were set up, from the start on. Perhaps
-    somebody tried some moves before the game, and it begins only now. Another child attends the board then: the one of the game that is
-    over knows no game after it."""
+    """Takes the reported events of a board whose game is over, and that stands at the start. If the game has moves, it is over without a
+    result, since its pieces were set up: perhaps somebody tried some moves before the game, and it begins only now. If it has none, the
+    players may be late, or its result was meant for another board."""
 
     after: str  # the last move of the game, as `38. Kf2`
+    result: str
     count: int = 0
 
     def take(self, event: Event) -> Optional[Look]:
@@ -50,4 +60,4 @@ class FromTheStart:
         self.count += not event.corrects
         if self.count < SURE:
             return None
-        return Look(f"after {self.after}", f"{self.count} moves were made from the start, and the game is over without a result", OVER)
+        return Look(f"after {self.after}", f"{self.count} moves were made from the start, and {_over(self.result)}", OVER)

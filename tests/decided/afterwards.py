@@ -1,6 +1,6 @@
 """A board whose game is over: what somebody must look at, and where the next game begins."""
 
-from live.game.afterwards import corrected, is_read_anew, next_begins, went_on
+from live.game.afterwards import corrected, is_read_anew, is_set_up, next_begins, went_on
 from live.game.looks import Looks
 
 from decided.cases import cases
@@ -24,4 +24,17 @@ def next_game() -> None:
         same(name, next_begins(pictures, end, start), expected)
 
 
-TABLES = [looks, next_game]
+def set_up() -> None:
+    """A board in a round whose game is over: when it isn't heard any more."""
+    start, after_e4 = "rnbqkbnr/pppppppp/8/8/8/8/PPPPPPPP/RNBQKBNR", "rnbqkbnr/pppppppp/8/8/4P3/8/PPPP1PPP/RNBQKBNR"
+    for name, shown, plies, expected in (
+        ("the pieces are at the start again", start, 38, True),
+        ("they stand as after the last move", after_e4, 1, False),
+        ("a piece of a game that isn't played was set straight", start, 0, False),
+        ("somebody has come late", after_e4, 0, False),
+    ):
+        same(name, is_set_up(shown, start, plies), expected)
+    same("another start", is_set_up(start, after_e4, 38), False)
+
+
+TABLES = [looks, next_game, set_up]

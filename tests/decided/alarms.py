@@ -40,12 +40,13 @@ SET_UP: List[Tuple[str, List[str], List[int]]] = [
 
 
 def from_the_start() -> None:
-    """Moves after a set-up behind a game without a result."""
-    for name, lines, expected in SET_UP:
-        after = FromTheStart("38. Kf2")
-        looks = [look for look in (after.take(line.event) for line in map(line_of, lines) if line) if look]
-        same(name, [look.text for look in looks],
-             [f"LOOK after 38. Kf2: {count} moves were made from the start, and the game is over without a result" for count in expected])  # fmt: skip
+    """Moves after a set-up behind a game without a result, and those after a game without a move."""
+    for last, result, over in (("38. Kf2", "*", "the game is over without a result"), ("the start", "1-0", "the game is over: 1-0")):
+        for name, lines, expected in SET_UP:
+            after = FromTheStart(last, result)
+            looks = [look for look in (after.take(line.event) for line in map(line_of, lines) if line) if look]
+            same(f"{name}, {result}", [look.text for look in looks],
+                 [f"LOOK after {last}: {count} moves were made from the start, and {over}" for count in expected])  # fmt: skip
 
 
 class Child:

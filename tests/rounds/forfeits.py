@@ -12,8 +12,9 @@ import outside
 from played import words
 from played.ports import free_port
 from played.recorder import Live
-from played.stage import Skipped, bytes_of, check, movetext, same, stop, until, until_line
+from played.stage import Skipped, bytes_of, check, movetext, same, stop, until, until_dumped, until_line
 from played.hidden import hidden_shots
+from rounds.alarms import says
 from rounds.delayed import DELAY, Delayed
 from rounds.hall import ROUND, Hall, agrees
 from rounds.hall import told as told_of
@@ -22,6 +23,7 @@ from rounds.witness import served, texts_of
 from live.round.pairings import read_pairings
 from live.round.tournament_files import Result, results_text
 
+KNIGHT = 3  # White's, as the board tells it
 WHITE, BLACK, BOTH = "1-0 forfeit", "0-1 forfeit", "* forfeit"
 
 
@@ -277,4 +279,55 @@ def lines_without_a_device(_: pathlib.Path) -> None:
     same([wrong.board for wrong in read.wrong], [4, 6])
 
 
-CASES = [not_played, late_forfeits, by_command, results_in_a_table, without_a_board, boards_put_away, lines_without_a_device]
+def comes_late(folder: pathlib.Path) -> None:
+    """A player has not come, and a result was typed for the wrong board: both games are over without a move. Then a piece is set straight
+    on each board, which stands at the start as before. It is heard on, also after a restart: after two moves somebody must look, and `*`
+    gives them to the game. So it is where a first move was made before the result had ended the game, and is taken back."""
+    hall = Hall(folder, 3)
+    live = hall.record(typed=True)
+    hall.begun(live)
+    for number, typed in ((1, "+-"), (2, "0-1"), (3, "1-0")):
+        live.type(f"{number} {typed}")
+        until_line(live, f"  {number}  result ")
+    hall.boards[2].play("e2e4")
+    until_line(live, f"  3  {hall.name(3)} is over: another move was made after its result")
+    for number in (1, 2):
+        until_line(live, f"  {number}  {hall.name(number)} is over: its result was given")
+    for board in hall.boards[:2]:
+        board.lift("g1")
+    hall.boards[2].play("e4e2")
+    for number, board in enumerate(hall.boards, 1):
+        until_dumped(board, hall.name(number))
+    for board in hall.boards[:2]:
+        board.put("g1", KNIGHT)
+    for _ in range(2):
+        for number, board in enumerate(hall.boards, 1):
+            until_dumped(board, hall.name(number))
+
+    def plays(number: int, result: str, row: str) -> None:
+        """Two moves, which the game gets, and a third one."""
+        board, name = hall.boards[number - 1], hall.name(number)
+        for move in ("d2d4", "d7d5"):
+            board.play(move)
+            until_dumped(board, name)
+        until_line(live, f"  {number}  LOOK after the start: 2 moves were made from the start, and the game is over: {result}. Look at it, and type {number} ok;")
+        until_line(live, f"if the game isn't over, type {number} *: it goes on with these moves")
+        says(live, number, f"LOOK after the start; {row}; ")
+        live.type(f"{number} *")
+        until_line(live, f"{name} goes on, without the result; played since: 1. d4 d5")
+        hall.until_text(number, "1. d4 d5 *")
+        board.play("c2c4")
+        hall.until_text(number, "1. d4 d5 2. c4 *")
+
+    plays(2, "0-1", "over 0-1")
+    plays(3, "1-0", "over 1-0")
+    same(stop(live), 0)
+    live = hall.record(typed=True)
+    until_dumped(hall.boards[0], hall.name(1))
+    says(live, 1, "forfeit 1-0; ")
+    same(live.says("  1  LOOK"), False)
+    plays(1, "1-0", "forfeit 1-0")
+    same(stop(live), 0)
+
+
+CASES = [not_played, late_forfeits, by_command, results_in_a_table, without_a_board, boards_put_away, lines_without_a_device, comes_late]
