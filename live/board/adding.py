@@ -5,7 +5,6 @@ from __future__ import annotations
 import functools
 from typing import Tuple
 
-from live.board.game_over import Listening
 from live.board.obeying import JUST_ENDED, Obeying
 from live.board.recording import Recording
 from live.board.taking_off import take_result_off
@@ -15,8 +14,8 @@ from live.game.changing import add_and_make, add_by_name, told_of_next
 from live.game.course import Course
 from live.game.files import Paths
 from live.game.forfeiting import is_unended
-from live.game.game import Game, end_mark, forget_question
-from live.game.reading import game_of
+from live.game.game import Game, forget_question
+from live.game.made_anew import course_of
 from live.game.reply import Answer, Refused
 from live.game.way_back import NO_RESULT
 from live.game.which_game import UNENDED, UNPLAYED, which_game
@@ -94,13 +93,12 @@ def _add_last(obeying: Obeying, line: str) -> Steps[Answer]:
     """Adds to the game that is over while its board is watched, or while the pieces are set up."""
     games = obeying.games
     now, name = games.now, games.game.paths.name
-    what, course = yield from obeying.changed(ADDED, functools.partial(_added, games.game, line, obeying.is_there))
+    what, course = yield from obeying.changed(ADDED, functools.partial(_added, games.game, line, obeying.is_there, obeying.guard.now()))
     obeying.screen.say(f"added by hand to {name}: {what}")
     if now:
         now.close()
-    if isinstance(now, Listening):
-        games.course = course
-        obeying.hears.placed()
+    games.course = course
+    obeying.hears.placed()
     games.watch_on()
     return DONE, f"added to {name}: {what}"
 
@@ -109,6 +107,6 @@ def _said_of(game: Game, line: str, sent: bytes) -> Said:
     return answers.add(game.program, game.options, sent, line)
 
 
-def _added(game: Game, line: str, is_there: bool) -> Tuple[str, Course]:
+def _added(game: Game, line: str, is_there: bool, now: float) -> Tuple[str, Course]:
     """What was added to a game that is over, and its course then."""
-    return add_and_make(game, line, is_there), game_of(game.program, game.options, game.capture.bytes(0, end_mark(game.paths)))
+    return add_and_make(game, line, is_there), course_of(game, now)

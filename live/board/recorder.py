@@ -170,7 +170,7 @@ class Recorder:
         """The game is over, and its board is watched as before."""
         if self._plan.rules.series:
             mark = end_mark(self.game.paths)
-            self._look_for_start(self.game.capture.size if mark is None else mark, None)
+            self._look_for_start(self.game.capture.size if mark is None else mark, self.course)
         else:
             self._await_moves()
 
@@ -197,7 +197,7 @@ class Recorder:
         self._screen.say(f"{self._next().name} begins when the pieces are at the start")
         self._look_for_start(end, self.course, before)
 
-    def _look_for_start(self, end: int, course: Optional[Course], before: Optional[Recording] = None) -> None:
+    def _look_for_start(self, end: int, course: Course, before: Optional[Recording] = None) -> None:
         from live.board.setting_up import SettingUp
 
         setting_up = SettingUp(self._guard, self._screen, self.game, course, end, self, before)

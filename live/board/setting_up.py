@@ -31,8 +31,6 @@ LOOKED_BACK = 65536  # bytes before the end that are searched for the last dump
 class HearsSettingUp(HearsGame, Protocol):
     """Is called when the pieces are at the start."""
 
-    course: Course  # of the game that is over
-
     def ready(self, content: bytes) -> bool:
         """The next game's capture may begin with this. Returns whether it could begin; if not, this is called again."""
 
@@ -51,7 +49,7 @@ class SettingUp(AttendedGame):
     """
 
     def __init__(
-        self, guard: Guard, screen: Screen, game: Game, course: Optional[Course], end: int, hears: HearsSettingUp,
+        self, guard: Guard, screen: Screen, game: Game, course: Course, end: int, hears: HearsSettingUp,
         before: Optional[Recording] = None
     ) -> None:  # fmt: skip
         super().__init__(guard, game, hears)
@@ -79,15 +77,15 @@ class SettingUp(AttendedGame):
         if dump >= 0:
             # A picture is reported if it differs from the one before: so the start is, unless the board shows it already.
             shown = self.game.program.lines("pictures", *options.of_pictures(), given=before[dump:])
-            if not is_read_anew("".join(shown[-1:]), options.start, len(self._hears.course.plies)):
+            if not is_read_anew("".join(shown[-1:]), options.start, len(self._course.plies)):
                 self._from = looks_at + dump
         self._late.clear()
         self._has_lost = False
         self.attend(options.of_board(), self._from)
 
     def _attend_after(self) -> None:
-        """From now on another child hears of moves after the game's result, if it is known to have one."""
-        if self._course and self._course.result != NO_RESULT:
+        """From now on another child hears of moves after the game's result, if it has one."""
+        if self._course.result != NO_RESULT:
             self._before = after_kept(self._guard, self.game, self._course, self._looks)
 
     def _look_again_from(self, end: int) -> None:

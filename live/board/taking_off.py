@@ -4,7 +4,7 @@ from __future__ import annotations
 
 import functools
 from dataclasses import replace
-from typing import Sequence, Tuple
+from typing import Optional, Sequence, Tuple
 
 from live.board.obeying import Obeying
 from live.board.recording import Recording
@@ -14,7 +14,7 @@ from live.game.answers import Said
 from live.game.course import Course
 from live.game.forfeiting import kept_forfeit
 from live.game.game import Game, end_mark
-from live.game.made_anew import ask_first, go_back_closed, put_way, reopen, unforfeited
+from live.game.made_anew import ask_first, course_of, go_back_closed, put_way, reopen, unforfeited
 from live.game.opening import Opened
 from live.game.reading import game_of, read_game
 from live.game.reply import Answer
@@ -49,13 +49,15 @@ def go_back(obeying: Obeying, typed: Back) -> Steps[Answer]:
     if isinstance(now, Recording):
         return DONE, (yield from _put(obeying, typed.to))
     may_stay = isinstance(now, SettingUp)
-    listens = obeying.is_there or may_stay
-    done = yield from obeying.changed(TAKEN_OFF, lambda: go_back_closed(game, typed.to, listens, may_stay))
-    if end_mark(game.paths) is None:
+    listens, began = obeying.is_there or may_stay, obeying.guard.now()
+    done, course = yield from obeying.changed(TAKEN_OFF, lambda: _gone_back(game, typed.to, listens, may_stay, began))
+    if course is None:
         yield from _go_on(obeying, done)
     elif now:
         obeying.screen.say(done)
         now.close()
+        games.course = course
+        obeying.hears.placed()
         games.watch_on()
     return DONE, f"{game.paths.name}: {done}"
 
@@ -119,6 +121,12 @@ def _begin_anew(obeying: Obeying, is_reopened: bool = False) -> Steps[None]:
         obeying.guard.raised(error)  # it isn't recorded any more: that begins again after a while
         raise
     games.record_anew(replace(opened, is_reopened=is_reopened))
+
+
+def _gone_back(game: Game, to: str, listens: bool, may_stay: bool, now: float) -> Tuple[str, Optional[Course]]:
+    """What was taken off a game that was over, and its course then; None if the game goes on."""
+    done = go_back_closed(game, to, listens, may_stay)
+    return done, None if end_mark(game.paths) is None else course_of(game, now)
 
 
 def _said_of(game: Game, to: str, sent: bytes) -> Said:

@@ -106,7 +106,7 @@ def go_back_closed(game: Game, to: str, listens: bool = False, may_stay: bool = 
     """Takes plies off a game that nobody records now, and makes its text. A game that was over goes on, with the board as it is
     now if the board is watched; where that can't be, and it may, it stays over. Returns what was done. Refused if it can't be,
     or with a question."""
-    mark, course = end_mark(game.paths), _course(game)
+    mark, course = end_mark(game.paths), course_of(game)
     sent, whole = game.capture.bytes(0, mark), game.capture.bytes()
     said = _said(game, sent, to)
     if said.kind not in (PLIES, *STILL_SHOWN):
@@ -136,7 +136,7 @@ def reopen(game: Game, is_there: bool = False) -> str:
     """Takes the result off a game; if that result ended it, what was played after it belongs to the game from now on. Returns the
     message. Refused if the game has no result and isn't over, if it ended by mate, or if the board itself shows the result and
     its device is there; OSError if a file can't be written."""
-    mark, course = end_mark(game.paths), _course(game)
+    mark, course = end_mark(game.paths), course_of(game)
     had, total, goes_on = course.result, len(course.plies), f"{game.paths.name} goes on"
     if mark is None and had == NO_RESULT:
         return unforfeited(game.paths, course.plies)
@@ -144,7 +144,7 @@ def reopen(game: Game, is_there: bool = False) -> str:
     how = taken_up(had, said, is_there)
     if how == AS_IT_IS:
         more = _open_again(game)
-        return f"{goes_on}, without the result{played_since(course.plies, _course(game).plies)}{more}"
+        return f"{goes_on}, without the result{played_since(course.plies, course_of(game).plies)}{more}"
     way = None
     if how == ANEW:
         way = Way(course.plies, total, had, said.put)
@@ -155,14 +155,14 @@ def reopen(game: Game, is_there: bool = False) -> str:
     if mark is None or had == NO_RESULT or how == CUT:
         return f"{goes_on}: {_put_closed(game, way)}"
     kept = _put_closed(game, way, says=False)
-    return f"{goes_on}, without the result{played_since(course.plies, _course(game).plies)}. {kept}"
+    return f"{goes_on}, without the result{played_since(course.plies, course_of(game).plies)}. {kept}"
 
 
 def replace_result(game: Game, line: str, is_there: bool) -> Optional[Tuple[Said, str]]:
     """Puts a typed result in the place of the one that the kings gave to a game that is over: it ends with its last ply then. Returns
     what was added, and where the old capture is; None if the line is no result, or the game has none. Refused while the kings stand
     in the centre of a board whose device is there."""
-    mark, course = end_mark(game.paths), _course(game)
+    mark, course = end_mark(game.paths), course_of(game)
     if course.result == NO_RESULT or not answers.result_typed(game.program, line):
         return None
     if is_there:
@@ -189,9 +189,9 @@ def unforfeited(paths: Paths, plies: Sequence[Move]) -> str:
     return "the game isn't forfeited any more"
 
 
-def _course(game: Game) -> Course:
-    """The course of the game, up to its marked end."""
-    return read_game(game, end_mark(game.paths), 0.0).course
+def course_of(game: Game, now: float = 0.0) -> Course:
+    """The course of the game at this time, up to its marked end."""
+    return read_game(game, end_mark(game.paths), now).course
 
 
 def _said(game: Game, sent: bytes, to: str) -> Said:
