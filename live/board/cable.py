@@ -134,8 +134,10 @@ class Cable:
     def answered(self, told: Told, answer: Answer) -> None:
         """Asks the board what the program says, and does as it says with what the board has sent."""
         if self._another:  # it was told this before
-            if told.what == HEARD and answer.handling != KEEP:
+            if told.what == HEARD and answer.handling != KEEP and self.other:
                 self._is_foreign([told.sent])
+            elif told.what == HEARD and answer.handling != KEEP:  # nobody knows yet which board this is
+                keep(self._unsure, told.sent)
             return
         self._asks(answer)
         if told.what == OPENED:
