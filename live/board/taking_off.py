@@ -14,7 +14,7 @@ from live.game.answers import Said
 from live.game.course import Course
 from live.game.forfeiting import kept_forfeit
 from live.game.game import Game, end_mark
-from live.game.made_anew import ask_first, course_of, go_back_closed, put_way, reopen, unforfeited
+from live.game.made_anew import ask_first, course_of, go_back_closed, or_reopened, put_way, reopen, unforfeited
 from live.game.opening import Opened
 from live.game.reading import game_of, read_game
 from live.game.reply import Answer
@@ -36,7 +36,7 @@ def take_result_off(obeying: Obeying) -> Steps[Answer]:
             return DONE, _unforfeited(obeying, course.plies)  # its board may be away
         return DONE, (yield from _put(obeying, ALL))
     is_there = obeying.is_there
-    said = yield from obeying.changed(TAKEN_OFF, lambda: reopen(game, is_there))
+    said = yield from obeying.changed(TAKEN_OFF, lambda: or_reopened(game, lambda: reopen(game, is_there)))
     yield from _go_on(obeying, said)
     return DONE, said
 
@@ -125,7 +125,7 @@ def _begin_anew(obeying: Obeying, is_reopened: bool = False) -> Steps[None]:
 
 def _gone_back(game: Game, to: str, listens: bool, may_stay: bool, now: float) -> Tuple[str, Optional[Course]]:
     """What was taken off a game that was over, and its course then; None if the game goes on."""
-    done = go_back_closed(game, to, listens, may_stay)
+    done = or_reopened(game, lambda: go_back_closed(game, to, listens, may_stay))
     return done, None if end_mark(game.paths) is None else course_of(game, now)
 
 

@@ -9,14 +9,14 @@ from __future__ import annotations
 import errno
 import os
 from dataclasses import replace
-from typing import Optional, Sequence, Tuple
+from typing import Callable, Optional, Sequence, Tuple
 
 from live.game import answers
 from live.game.alarms import keep_looks, kept_looks
 from live.game.answers import Said
 from live.game.course import Course
 from live.game.edited import told_of_edit
-from live.game.files import Capture, Paths, existing, put_in_place, sync_folder
+from live.game.files import Capture, Paths, existing, not_written, put_in_place, sync_folder
 from live.game.forfeiting import drop_forfeit, kept_forfeit
 from live.game.front import keep_front
 from live.game.game import Game, end_mark, forget_question, mark_end, unmark_end
@@ -156,6 +156,18 @@ def reopen(game: Game, is_there: bool = False) -> str:
         return f"{goes_on}: {_put_closed(game, way)}"
     kept = _put_closed(game, way, says=False)
     return f"{goes_on}, without the result{played_since(course.plies, course_of(game).plies)}. {kept}"
+
+
+def or_reopened(game: Game, change: Callable[[], str]) -> str:
+    """What a change of a game that is over has done. If the game goes on by it and only its text can't be made, that is said: whoever
+    records it makes its text again and again. Raises OSError if it is over still."""
+    was_over = end_mark(game.paths) is not None
+    try:
+        return change()
+    except OSError as error:
+        if not was_over or end_mark(game.paths) is not None:
+            raise
+        return f"the game goes on. {not_written(game.paths.pgn, error)}"
 
 
 def replace_result(game: Game, line: str, is_there: bool) -> Optional[Tuple[Said, str]]:

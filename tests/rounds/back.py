@@ -4,6 +4,7 @@ import pathlib
 
 from played import words
 from played.back_killed import OnTheWay
+from played.failing import ENDED, failing
 from played.recorder import Live, has_open
 from played.stage import bytes_of, movetext, rest, same, stop, until, until_dumped, until_line
 from rounds.alarms import says
@@ -155,6 +156,35 @@ def back_after_set_up(folder: pathlib.Path) -> None:
     hall.until_over(again, 1, "0-1")
     same(hall.text(1), f"{front} 0-1")
     same(stop(again), 0)
+
+
+def text_not_made(folder: pathlib.Path) -> None:
+    """One game that is over goes on, and a ply of another one is taken off, while their texts can't be made: both go on all the same, and
+    it is said what can't be written."""
+    hall = Hall(folder, 2)
+    door, stuck = failing(folder, "record", "dgt_round")
+    live = hall.record(typed=True, program=door)
+    hall.begun(live)
+    hall.play(0, 3)
+    for number in (1, 2):
+        live.type(f"{number} 1-0")
+    for number in (1, 2):
+        hall.until_over(live, number, "1-0")
+    hall.boards[1].play("c4c2")
+    until_dumped(hall.boards[1], hall.name(2))
+    stuck.touch()
+    for number, typed in ((1, "*"), (2, "back")):
+        live.type(f"{number} {typed}")
+        until_line(live, f"the game goes on. {hall.name(number)}.pgn can't be written (record {ENDED}): put that right")
+        says(live, number, "agrees; ")
+    live.type("1 *")
+    until_line(live, "1 refused: *: the game has no result")
+    hall.boards[0].play("b8c6")
+    hall.until_text(1, "1. e4 e5 2. Nf3 Nc6 *")
+    hall.boards[1].play("g1f3")
+    hall.until_text(2, "1. d4 d5 2. Nf3 *")
+    stuck.unlink()
+    same(stop(live), 0)
 
 
 def last_screen(live: Live) -> str:
