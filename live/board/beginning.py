@@ -5,7 +5,6 @@ from __future__ import annotations
 
 import contextlib
 import dataclasses
-from typing import Optional
 
 from live.board.state import mend_of, trouble_of
 from live.game.alarms import carry_over, keep_looks
@@ -27,34 +26,42 @@ def begin_next(game: Game, paths: Paths, content: bytes) -> Game:
 
 
 def not_begun(name: str, error: OSError) -> str:
-    """That the next game can't be begun, why, and what to do."""
+    """That a game can't be begun, why, and what to do."""
     full = error.errno in NO_ROOM
     return f"{trouble_of(full)}: {name} can't be begun ({reason_of(error)}). {mend_of(full)}: it is tried again"
 
 
-def begin_anew(game: Game, content: bytes) -> Optional[Game]:
-    """The same game, whose capture begins with this; what came before is kept beside it. None if it can't be begun."""
+def begin_anew(game: Game, content: bytes) -> Game:
+    """The same game, whose capture begins with this; what came before is kept beside it. Raises OSError if it can't be begun: then it goes
+    on with the capture that it has."""
     paths = game.paths
     try:
         put_in_place(paths.before, game.capture.bytes())
         game.times.set_aside(paths.before)
-        remove(paths.front)
         begun = _begun(game, paths, content, game.options)
     except OSError:
         game.times.come_back(paths.before)
-        return None
+        with contextlib.suppress(OSError):
+            game.capture.take_back(paths.before)
+        raise
+    with contextlib.suppress(OSError):
+        remove(paths.front)
     with contextlib.suppress(OSError):
         keep_looks(paths, Looks())  # the alarms were about the set-up
     return begun
 
 
 def _begun(before: Game, paths: Paths, content: bytes, options: Options) -> Game:
-    """A game whose capture has this content, with its text made. Raises OSError if it can't be made."""
+    """A game whose capture has this content, with its text made. Raises OSError if it can't be made; a next game isn't there then, since
+    what comes goes on behind the end of the game before."""
     capture = Capture.begin(paths.capture, content)
     times = before.times.next(paths, capture)
     game = dataclasses.replace(before, paths=paths, capture=capture, options=options, times=times)
     made = Text(game).make(None)
     if made.trouble:
+        for path in (paths.pgn, paths.capture) if paths != before.paths else ():
+            with contextlib.suppress(OSError):
+                remove(path)
         capture.close()
         raise made.error()
     return game

@@ -62,6 +62,7 @@ class Recorder:
         self.begins_anew = False  # whether the start begins this game, and not the next one
         self._on_the_way = OnTheWay(self)
         self._ends_later = False  # whether to end once nothing is held any more
+        self._unbegun = ""  # why a game can't be begun, as it was said
         number = plan.serial or kept_serial(opened.game.paths)
         self._cable = Cable(guard, opened.game.program, screen, plan.device, plan.once, number, self, asked)
         self.now: Union[Recording, SettingUp, Listening, None] = None  # what takes the board's bytes
@@ -225,7 +226,7 @@ class Recorder:
 
     def ready(self, content: bytes) -> bool:
         """The pieces are at the start: a capture begins with it. Returns whether it could begin."""
-        game = self._begin_this(content) if self.begins_anew else self._begin_next(content)
+        game = self._begin(content)
         if game is None:
             return False
         if self.now:
@@ -238,31 +239,31 @@ class Recorder:
         self._record(Opened(game, nothing_old(game.options, game.capture.size)), remakes=True)
         return True
 
-    def _begin_next(self, content: bytes) -> Optional[Game]:
-        """Begins the next game."""
-        from live.board.beginning import begin_next, not_begun
+    def _begin(self, content: bytes) -> Optional[Game]:
+        """Begins the next game, or this one anew. None if that can't be done: why is said once."""
+        from live.board.beginning import begin_anew, begin_next, not_begun
 
-        paths = self._next()
-        try:
-            if os.path.exists(paths.pgn):
-                self._fail(f"{paths.pgn} is there without {paths.capture}: choose another name, or move it away")
-                return None
-            game = begin_next(self.game, paths, content)
-        except OSError as error:
-            if self.standing and not self.standing.trouble:
-                self._screen.say(not_begun(paths.name, error))
+        game, capture, is_next = self.game, self.game.capture.number, not self.begins_anew
+        paths = self._next() if is_next else game.paths
+        if is_next and os.path.exists(paths.pgn):
+            self._fail(f"{paths.pgn} is there without {paths.capture}: choose another name, or move it away")
             return None
-        self.before = self.game.paths
-        return game
-
-    def _begin_this(self, content: bytes) -> Optional[Game]:
-        """The capture begins with the start; what came before is kept beside it."""
-        from live.board.beginning import begin_anew
-
-        game = begin_anew(self.game, content)
-        if game:
-            self._screen.say(f"the pieces have been set up: {game.paths.name} begins now")
-        return game
+        try:
+            begun = begin_next(game, paths, content) if is_next else begin_anew(game, content)
+        except OSError as error:
+            if game.capture.number != capture:
+                self.restored()
+            told = not_begun(paths.name, error)
+            if told != self._unbegun and self.standing and not self.standing.trouble:
+                self._unbegun = told
+                self._screen.say(told)
+            return None
+        self._unbegun = ""
+        if is_next:
+            self.before = game.paths
+        else:
+            self._screen.say(f"the pieces have been set up: {paths.name} begins now")
+        return begun
 
     def placed(self) -> None:
         """A new text of the game is in place."""

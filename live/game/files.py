@@ -327,6 +327,22 @@ class Capture:
         os.close(self.number)
         self.number, self.size, self._written_at = new.number, new.size, -1
 
+    def take_back(self, kept: AnyPath) -> None:
+        """If another file has taken this one's place, the `kept` one takes it at once, which has the same content: so this needs no room.
+        Raises OSError on failure."""
+        if _has_name(self.number, self.path):
+            return
+        number = open_regular(kept, os.O_RDWR | os.O_APPEND)
+        try:
+            fcntl.flock(number, fcntl.LOCK_EX | fcntl.LOCK_NB)
+            os.replace(kept, self.path)
+        except BaseException:
+            os.close(number)
+            raise
+        os.close(self.number)
+        self.number, self.size, self._written_at = number, os.fstat(number).st_size, -1
+        sync_folder(folder_of(self.path))
+
     @property
     def waits(self) -> bool:
         """Whether something waits in memory."""

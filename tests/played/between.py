@@ -1,12 +1,15 @@
-"""Between two games of a series: what is typed then."""
+"""Between two games of a series, and while pieces are set up: what is typed then, and a game that can't be begun."""
 
+import contextlib
 import pathlib
 
+from play_board import EMPTY, INITIAL, field
 from played import words
 from played.doors import boards_at
+from played.failing import ENDED, failing
 from played.ports import free_port
 from played.recorder import Live
-from played.stage import a_board, begun, movetext, same, stop, until, until_dumped, until_game, until_line
+from played.stage import a_board, begun, bytes_of, kill, movetext, same, stop, until, until_dumped, until_game, until_line
 
 
 def result_put_right(folder: pathlib.Path) -> None:
@@ -48,4 +51,77 @@ def result_put_right(folder: pathlib.Path) -> None:
     same(stop(live), 0)
 
 
-CASES = [result_put_right]
+def block(path: pathlib.Path) -> None:
+    """From now on no file can be made under this name."""
+
+    def is_there() -> bool:
+        with contextlib.suppress(FileExistsError):  # one that is just written
+            path.mkdir()
+        return path.is_dir()
+
+    until(is_there, f"a folder {path}")
+
+
+def next_not_begun(folder: pathlib.Path) -> None:
+    """The text of the next game can't be made, and then its capture can't be written: there is no next game, and what is played stays
+    behind the end of the one before. After a kill the next game has all of it."""
+    door, stuck = failing(folder, "record")
+    board, one, two = a_board(folder), folder / "blitz-1", folder / "blitz-2"
+    live = Live(board.device, folder / "blitz", "--series", program=door)
+    begun(live)
+    for move in ("e2e4", "e7e5"):
+        board.play(move)
+    until_game(one, "1. e4 e5 *")
+    board.kings_in_centre("d4", "d5")
+    until_line(live, f"blitz-2 {words.BEGINS}")
+    stuck.touch()
+    board.set_up([])
+    until_line(live, f"blitz-2 can't be begun (record {ENDED}). Put that right: it is tried again")
+    block(folder / "blitz-2.dgt.new")
+    for move in ("d2d4", "d7d5"):
+        board.play(move)
+        until_dumped(board, one)
+    same((folder / "blitz-2.dgt").exists(), False)
+    kill(live)
+    (folder / "blitz-2.dgt.new").rmdir()
+    stuck.unlink()
+    live = Live(board.device, folder / "blitz", "--series", program=door)
+    until_game(two, "1. d4 d5 *")
+    board.play("c2c4")
+    until_game(two, "1. d4 d5 2. c4 *")
+    same(movetext(one), "1. e4 e5 1/2-1/2")
+    same(stop(live), 0)
+
+
+def not_begun_anew(folder: pathlib.Path) -> None:
+    """What looked like a move was part of the set-up, and the text of the game that begins only then can't be made; later not even its
+    capture can be written. The capture is the old one, and gets what is played. After a kill the game begins with the start."""
+    door, stuck = failing(folder, "record")
+    board = a_board(folder, [EMPTY] * 64)
+    live = Live(board.device, folder / "game", program=door)
+    until(lambda: board.asked_for_updates and board.dump() in bytes_of(f"{live.name}.dgt"), "the empty board")
+    stuck.touch()
+    with board.at_once():
+        for number, code in enumerate(INITIAL):
+            if code and number != field("e2"):
+                board.show(number, code)
+        board.put("e4", INITIAL[field("e2")])
+        board.lift("e4")
+        board.put("e2", INITIAL[field("e2")])
+    until_line(live, f"game can't be begun (record {ENDED}). Put that right: it is tried again")
+    block(folder / "game.before.dgt.new")
+    for move in ("d2d4", "d7d5"):
+        board.play(move)
+        until_dumped(board, live.name)
+    kill(live)
+    (folder / "game.before.dgt.new").rmdir()
+    stuck.unlink()
+    live = Live(board.device, live.name, program=door)
+    until_line(live, "the pieces have been set up: ")
+    until_game(live.name, "1. d4 d5 *")
+    board.play("c2c4")
+    until_game(live.name, "1. d4 d5 2. c4 *")
+    same(stop(live), 0)
+
+
+CASES = [result_put_right, next_not_begun, not_begun_anew]
