@@ -51,7 +51,7 @@ class Arbiter:
         return answer
 
     def _obeys(self, text: str, before: Optional[Paths], sure: bool, may_quit: bool) -> Steps[Answer]:
-        if is_naming(text):
+        if is_naming(text) and not before:
             return (yield from renaming.rename(self._obeying, text))
         typed = read_typed(text, os.path.basename(self._games.game.paths.name))
         if isinstance(typed, Nothing):

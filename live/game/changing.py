@@ -140,15 +140,20 @@ def forfeit_closed(game: Game, typed: Forfeit) -> str:
 
 def rename_closed(game: Game, text: str) -> str:
     """A game that nobody records now gets these tags. Returns the message. Refused if it can't have them."""
+    told = put_names_right(game, text)[1]
+    log_once(game.paths, told)
+    return f"{game.paths.name}: {told}"
+
+
+def put_names_right(game: Game, text: str) -> Tuple[Options, str]:
+    """A game that isn't recorded just now gets these tags, and its text is made. Returns its options then, and the message. Refused if it
+    can't have them."""
     options = game.options.with_given(checked(game.program, read_names(text)))
     told = told_of_names(options, game.options)
     made_before = Text(game)
     made_before.look(end_mark(game.paths))
     keep_options(game.paths, options)
-    renamed = replace(game, options=options)
-    told += made_of(game, Text(renamed).make(end_mark(game.paths)))
-    log_once(game.paths, told)
-    return f"{game.paths.name}: {told}"
+    return options, told + made_of(game, Text(replace(game, options=options)).make(end_mark(game.paths)))
 
 
 # What is still to be done then.

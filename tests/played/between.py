@@ -9,7 +9,8 @@ from played.doors import boards_at
 from played.failing import ENDED, failing
 from played.ports import free_port
 from played.recorder import Live
-from played.stage import a_board, begun, bytes_of, kill, movetext, same, stop, until, until_dumped, until_game, until_line
+from played.renamed import has, until_tags
+from played.stage import a_board, begun, bytes_of, ended, kill, movetext, same, stop, until, until_dumped, until_game, until_line
 
 
 def result_put_right(folder: pathlib.Path) -> None:
@@ -124,4 +125,38 @@ def not_begun_anew(folder: pathlib.Path) -> None:
     same(stop(live), 0)
 
 
-CASES = [result_put_right, next_not_begun, not_begun_anew]
+def names_put_right(folder: pathlib.Path) -> None:
+    """Names are put right between two games, by a typed line and by another call: the game that is over has them, and so has the next one.
+    Moves after the result are an alarm all the same. While the next game is played, a line with the name of the one before is for that."""
+    board, one, two = a_board(folder), folder / "blitz-1", folder / "blitz-2"
+    live = Live(board.device, folder / "blitz", "--series", "--white", "Anne", typed=True)
+    begun(live)
+    for move in ("e2e4", "e7e5"):
+        board.play(move)
+    until_game(one, "1. e4 e5 *")
+    live.type("1-0")
+    until_line(live, f"blitz-2 {words.BEGINS}")
+    live.type("name White=Anna")
+    until_line(live, "White is now Anna, and was Anne")
+    until_tags(str(one), 'White "Anna"', 'Result "1-0"')
+    other = Live("", one, "--black", "Ben")
+    same((ended(other), other.lines()), (0, f"dgt_live: {one}: Black is now Ben\n"))
+    until_tags(str(one), 'White "Anna"', 'Black "Ben"', 'Result "1-0"')
+    for move in ("g1f3", "b8c6"):
+        board.play(move)
+        until_dumped(board, one)
+    until_line(live, "LOOK after 1... e5: 2 moves were made, and the game is over: 1-0")
+    board.set_up([])
+    until(lambda: len(bytes_of(f"{two}.dgt")) >= 67, "the second game")
+    board.play("d2d4")
+    until_game(two, "1. d4 *")
+    until_tags(str(two), 'White "Anna"', 'Black "Ben"')
+    live.type(f"name White=Anya {one}")
+    until_line(live, f"{one}: White is now Anya, and was Anna")
+    until_tags(str(one), 'White "Anya"', 'Black "Ben"')
+    live.type("name Event=Club")
+    until_tags(str(two), 'White "Anna"', 'Event "Club"')
+    same((stop(live), has(f"{one}.pgn", 'Event "Club"')), (0, False))
+
+
+CASES = [result_put_right, next_not_begun, not_begun_anew, names_put_right]
