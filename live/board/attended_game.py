@@ -5,12 +5,16 @@ from __future__ import annotations
 from typing import Callable, List, Optional, Protocol, Tuple
 
 from live.board.standing import Standing
+from live.game.alarms import Alarms, acknowledged
 from live.game.attended import Answer, Doubt, Over
 from live.game.attending import Attending, HearsAnswers, Past, Told
+from live.game.files import text_of
 from live.game.game import Game
+from live.game.looks import Look, Looks
 from live.game.times import BEGIN, BROUGHT, HEARD, LOOKED
 from live.guard import Guard
 from live.loop import Timer
+from live.terminal.screen import Screen
 
 PATIENCE = 5.0  # seconds that the last answers may take
 
@@ -33,8 +37,9 @@ class AttendedGame:
 
     standing: Optional[Standing] = None  # None if the board may stand as it likes
 
-    def __init__(self, guard: Guard, game: Game, hears: HearsGame) -> None:
-        self._guard, self.game, self._hears_game = guard, game, hears
+    def __init__(self, guard: Guard, screen: Screen, game: Game, hears: HearsGame, before: Optional[AttendedGame] = None) -> None:
+        self._guard, self._screen, self.game, self._hears_game = guard, screen, game, hears
+        self._alarms = before._alarms if before else Alarms(game.paths)
         self._late: List[Tuple[Told, Answer]] = []  # what is said of bytes that wait to be written
         self._is_news = False  # whether the state may be another one than the one that is shown
         self._has_lost = False  # bytes that can't be written any more, which the program has
@@ -77,8 +82,46 @@ class AttendedGame:
             self.game.times.happened(LOOKED)
         self.look_again()
 
+    # What somebody must look at.
+
+    @property
+    def looks(self) -> Looks:
+        """What somebody must look at."""
+        return self._alarms.looks
+
+    def look_at(self, look: Look, byte: int = 0, otherwise: str = "") -> None:
+        """Somebody must look at this, which is about a ply that came with this byte, if about any. It is said if it is new, and what to do
+        if it isn't right as it is."""
+        if self._alarms.add(look, byte):
+            answer = f"{look.text}. Look at it, and type {self._screen.ok()}"
+            if otherwise:
+                self._screen.say(f"{answer};", otherwise)
+            else:
+                self._screen.say(answer)
+            self.look_again()
+
     def look_again(self) -> None:
-        """The alarms that are kept have changed."""
+        """The alarms have changed."""
+        self._shows_looks()
+        if self._alarms.trouble:
+            self._screen.say(f"{self.game.paths.look} can't be written ({text_of(self._alarms.trouble)}): it is tried again")
+
+    def _shows_looks(self) -> None:
+        """Shows them."""
+        raise NotImplementedError
+
+    def acknowledge(self) -> str:
+        """Acknowledges the alarms. Returns the answer."""
+        seen = acknowledged(self._alarms.acknowledge())
+        self._screen.say(seen)
+        self.looked()
+        return seen
+
+    def _keep_looks(self) -> None:
+        """Tries again to keep the alarms beside the game."""
+        self._alarms.keep()
+        if not self._alarms.trouble:
+            self._screen.say(f"{self.game.paths.look} is written")
 
     # What is answered.
 
@@ -162,6 +205,8 @@ class AttendedGame:
 
     def wake(self) -> None:
         """Call this now and then."""
+        if self._alarms.trouble:
+            self._keep_looks()
         self.attending.wake()
         if self.game.capture.waits:
             return

@@ -17,11 +17,11 @@ from live.game.options import Options
 from live.game.reply import reason_of
 
 
-def begin_next(game: Game, paths: Paths, content: bytes) -> Game:
-    """The game after this one, whose capture begins with this. Raises OSError if it can't be begun."""
+def begin_next(game: Game, paths: Paths, content: bytes, looks: Looks) -> Game:
+    """The game after this one, which has these alarms. Its capture begins with this. Raises OSError if it can't be begun."""
     options = game.options.begun(today())
     put_options(paths, options)
-    carry_over(game.paths, paths)
+    carry_over(game.paths, looks, paths)
     return _begun(game, paths, content, options)
 
 

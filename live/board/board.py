@@ -280,17 +280,13 @@ class Board:
 
     def owner(self, number: str) -> Optional[Owner]:
         """The other game that is recorded from the board with this serial number."""
-        board = self._board_with(number)
+        board = self._hears.owner(number) if number else None
         return Owner(board.called, bool(board.plies)) if board else None
 
     def lends(self, number: str, sent: bytes) -> bool:
         """The board with this number is on this board's cable, and has sent this. Returns whether its own game takes it."""
-        board = self._board_with(number)
+        board = self._hears.owner(number) if number else None  # boards without a number have that in common
         return board is not None and board.takes(sent)
-
-    def _board_with(self, number: str) -> Optional[Board]:
-        """The other board with this serial number. If the number isn't known, it is none: boards without one have that in common."""
-        return self._hears.owner(number) if number else None
 
     def takes(self, sent: bytes) -> bool:
         """Its board has sent this on another board's cable. Returns whether it is recorded. An error there is this board's."""

@@ -12,13 +12,10 @@ from live.board.attended_game import AttendedGame, HearsGame
 from live.board.disk import unwritten_of
 from live.board.recording import Recording
 from live.game.afterwards import FromTheStart, is_set_up, went_on
-from live.game.alarms import keep_looks, kept_looks
 from live.game.attended import Answer
 from live.game.attending import Told
 from live.game.course import Course
-from live.game.files import text_of
 from live.game.game import Game, end_mark
-from live.game.looks import Look
 from live.game.making_pgn import Made
 from live.game.report import Event, Picture, line_of
 from live.game.times import BEGIN
@@ -37,7 +34,7 @@ class HearsListening(HearsGame, Protocol):
         """Its pieces are at the start."""
 
     def looked(self) -> None:
-        """There is an alarm."""
+        """Its alarms have changed."""
 
 
 class Listening(AttendedGame):
@@ -50,9 +47,8 @@ class Listening(AttendedGame):
     def __init__(
         self, guard: Guard, screen: Screen, game: Game, course: Course, hears: HearsListening, before: Optional[Recording] = None
     ) -> None:
-        super().__init__(guard, game, hears)
-        self._screen, self._hears = screen, hears
-        self.looks = kept_looks(game.paths)
+        super().__init__(guard, screen, game, hears, before)
+        self._hears = hears
         self._last = course.plies[-1].short if course.plies else "the start"
         self._result, self._plies = course.result, len(course.plies)
         is_at_start = course.result == NO_RESULT or not course.plies
@@ -130,25 +126,18 @@ class Listening(AttendedGame):
         looks = [look for look in map(start.take, events) if look]
         if looks and are_news:
             begins = f"if the game begins only now, type {self._screen.begins()}: it has these moves then"
-            self._look(looks[-1], begins if self._result == NO_RESULT else self._how_it_goes_on)
+            self.look_at(looks[-1], otherwise=begins if self._result == NO_RESULT else self._how_it_goes_on)
 
     def _plays_on(self, moves: int, is_known: bool) -> None:
         is_news, self._played = moves > self._played, moves
         if is_news and not is_known and not self._from_the_start:
-            self._look(went_on(self._last, moves, self._result), self._how_it_goes_on)
+            self.look_at(went_on(self._last, moves, self._result), otherwise=self._how_it_goes_on)
 
     @property
     def _how_it_goes_on(self) -> str:
         return f"if the game isn't over, type {self._screen.reopens()}: it goes on with these moves"
 
-    def _look(self, look: Look, otherwise: str) -> None:
-        """Raises an alarm."""
-        self.looks = self.looks.with_one_more(look)
-        self._screen.say(f"{look.text}. Look at it, and type {self._screen.ok()};", otherwise)
-        try:
-            keep_looks(self.game.paths, self.looks)
-        except OSError as error:
-            self._screen.say(f"{self.game.paths.look} can't be written ({text_of(error)})")
+    def _shows_looks(self) -> None:
         self._shows()
         self._hears.looked()
 
@@ -169,11 +158,6 @@ class Listening(AttendedGame):
             done(unwritten_of(self.game, Made()))
 
         self.settle(ended)
-
-    def look_again(self) -> None:
-        """The alarms that are kept have changed."""
-        self.looks = kept_looks(self.game.paths)
-        self._shows()
 
     def says(self, text: str) -> None:
         """A child process has ended, and is started again."""

@@ -180,7 +180,7 @@ class Recorder:
         self._guard.after(0, self.end)
 
     def looked(self) -> None:
-        """There is an alarm in a game that is over."""
+        """The alarms of a game that is over have changed."""
         self._hears.placed()
 
     def _await_start(self, end: Optional[int], before: Optional[Recording] = None) -> None:
@@ -249,7 +249,7 @@ class Recorder:
             self._fail(f"{paths.pgn} is there without {paths.capture}: choose another name, or move it away")
             return None
         try:
-            begun = begin_next(game, paths, content) if is_next else begin_anew(game, content)
+            begun = begin_next(game, paths, content, self.looks) if is_next else begin_anew(game, content)
         except OSError as error:
             if game.capture.number != capture:
                 self.restored()
@@ -380,14 +380,12 @@ class Recorder:
 
     def look_at(self, look: Look) -> None:
         """Raises an alarm."""
-        if isinstance(self.now, Recording):
+        if self.now:
             self.now.look_at(look)
             return
         with contextlib.suppress(OSError):
             keep_looks(self.game.paths, kept_looks(self.game.paths).with_one_more(look))
         self._screen.say(f"{look.text}. Look at it, and type {self._screen.ok()}")
-        if self.now:
-            self.now.look_again()
 
     def _may_take(self) -> bool:
         """Whether the board on the cable is another one, and `ok` gives it to this game."""
@@ -463,13 +461,11 @@ class Recorder:
         takes = self._may_take()
         if self._cable.other and not takes:
             keep_other(self.game.paths, self._cable.other)
-        if isinstance(self.now, Recording):
+        if self.now:
             seen = self.now.acknowledge()
         else:
             seen = acknowledge(self.game.paths)
             self._screen.say(seen)
-            if self.now:
-                self.now.looked()
         if takes:
             self._cable.take()
             seen = f"{seen}; the board with serial number {self.number} is recorded here"

@@ -12,14 +12,12 @@ from live.board.reasons import SAID, Reason, Rules
 from live.board.standing import Standing
 from live.board.state import lasting, mend_of, trouble_of
 from live.game import times
-from live.game.alarms import Alarms, acknowledged
 from live.game.attended import SUSPECT, Doubt, Over
 from live.game.doubted import byte_of, look_of
 from live.game.edited import told_of_edit
 from live.game.files import text_of
 from live.game.front import front_of
 from live.game.game import Game, forget_question, largest, mark_end, mebibytes
-from live.game.looks import Look, Looks
 from live.game.making_pgn import Made, Maker
 from live.game.opening import Opened
 from live.game.report import NEWS, Clock, Differs, Event, Fault, Line, Move, Picture, Position, Recovered, Result, by_byte, event_of
@@ -59,8 +57,8 @@ class Recording(AttendedGame):
     def __init__(
         self, guard: Guard, worker: Worker, screen: Screen, opened: Opened, rules: Rules, hears: HearsRecording
     ) -> None:
-        super().__init__(guard, opened.game, hears)
-        self._screen, self._hears, self._rules = screen, hears, rules
+        super().__init__(guard, screen, opened.game, hears)
+        self._hears, self._rules = hears, rules
         self.course = opened.old.course
         self._old = opened.old.size  # bytes from before this call
         self.end: Optional[int] = None  # how many bytes are the game's, if not all are
@@ -79,7 +77,6 @@ class Recording(AttendedGame):
         self.standing: Standing = Standing(guard, screen, self.game.options.rotated)
         self.standing.was_away = bool(opened.old.lines)  # what it showed before this call is long ago
         self._maker = Maker(guard, worker, self.game, self)
-        self._alarms = Alarms(self.game.paths)
         self._heard_at: Optional[float] = None  # when the board was heard last in this call
         self._away = guard.away.seconds  # for how long this recorder was away by then
         self._was_away = False  # and no dump has come since
@@ -177,8 +174,6 @@ class Recording(AttendedGame):
     def _each_second(self) -> None:
         self._tick = self._guard.after(TICK, self._each_second)
         self._disk.try_again()
-        if self._alarms.trouble:
-            self._keep_looks()
         self.game.times.wake()
         self.wake()
         self._maker.wake()
@@ -268,35 +263,12 @@ class Recording(AttendedGame):
 
         self.look_at(told_of_exchange(self._suspected))
 
-    def look_at(self, look: Look, byte: int = 0) -> None:
-        """Somebody must look at this, which is about a ply that came with this byte, if about any. It is said if it is new."""
-        if self._alarms.add(look, byte):
-            self._screen.say(f"{look.text}. Look at it, and type {self._screen.ok()}")
-            self.look_again()
-
-    @property
-    def looks(self) -> Looks:
-        """What somebody must look at."""
-        return self._alarms.looks
-
-    def look_again(self) -> None:
+    def _shows_looks(self) -> None:
         self.standing.look(self.looks.short)
-        if self._alarms.trouble:
-            self._screen.say(f"{self.game.paths.look} can't be written ({text_of(self._alarms.trouble)}): it is tried again")
-
-    def _keep_looks(self) -> None:
-        """Tries again to keep the open alarms beside the game."""
-        self._alarms.keep()
-        if not self._alarms.trouble:
-            self._screen.say(f"{self.game.paths.look} is written")
 
     def acknowledge(self) -> str:
-        """Acknowledges the alarms. Returns the answer."""
-        seen = acknowledged(self._alarms.acknowledge())
         self._suspected.clear()
-        self._screen.say(seen)
-        self.looked()
-        return seen
+        return super().acknowledge()
 
     def _hear_result(self, result: str) -> None:
         if result == "*" or self._is_over or self.end is not None:  # the game was over before

@@ -10,13 +10,12 @@ from live.board.disk import Disk, unwritten_of
 from live.board.recording import Recording
 from live.board.standing import Standing
 from live.device.protocol import DUMP_BEGINS
-from live.game.alarms import keep_looks, kept_looks
 from live.game.afterwards import is_read_anew, next_begins
 from live.game.answers import dump_at_end
 from live.game.course import Course
-from live.game.files import LARGEST, text_of
+from live.game.files import LARGEST
 from live.game.game import Game
-from live.game.looks import Look, Looks
+from live.game.looks import Look
 from live.game.making_pgn import Made
 from live.game.report import Differs, Picture, line_of
 from live.game.way_back import NO_RESULT
@@ -52,8 +51,8 @@ class SettingUp(AttendedGame):
         self, guard: Guard, screen: Screen, game: Game, course: Course, end: int, hears: HearsSettingUp,
         before: Optional[Recording] = None
     ) -> None:  # fmt: skip
-        super().__init__(guard, game, hears)
-        self._screen, self._hears, self._course = screen, hears, course
+        super().__init__(guard, screen, game, hears, before)
+        self._hears, self._course = hears, course
         self._before: Optional[Afterwards] = None
         self.standing: Standing = Standing(guard, screen, game.options.rotated, played=False)
         self._disk = Disk(screen, self.standing, game.capture, self)
@@ -104,13 +103,7 @@ class SettingUp(AttendedGame):
 
     def _looks(self, look: Look) -> None:
         """Moves were made, and the game is over."""
-        otherwise = f"if the game isn't over, type {self._screen.reopens()}: it goes on with these moves"
-        self._screen.say(f"{look.text}. Look at it, and type {self._screen.ok()};", otherwise)
-        try:
-            keep_looks(self.game.paths, self.looks.with_one_more(look))
-        except OSError as error:
-            self._screen.say(f"{self.game.paths.look} can't be written ({text_of(error)})")
-        self.look_again()
+        self.look_at(look, otherwise=f"if the game isn't over, type {self._screen.reopens()}: it goes on with these moves")
 
     def _leaves(self) -> None:
         """The program that attended the game does so no more."""
@@ -154,13 +147,7 @@ class SettingUp(AttendedGame):
         self._tries = None
         self._look_again_from(self._end)
 
-    @property
-    def looks(self) -> Looks:
-        """The alarms of the game that is over."""
-        return kept_looks(self.game.paths)
-
-    def look_again(self) -> None:
-        """The alarms that are kept have changed."""
+    def _shows_looks(self) -> None:
         self.standing.look(self.looks.short)
 
     def pause(self) -> None:

@@ -38,9 +38,8 @@ def acknowledge(paths: Paths) -> str:
     return acknowledged(seen)
 
 
-def carry_over(before: Paths, paths: Paths) -> None:
-    """Carries open alarms over to the next game of a series. Raises OSError if they can't be kept."""
-    looks = kept_looks(before)
+def carry_over(before: Paths, looks: Looks, paths: Paths) -> None:
+    """Carries the open alarms of a game over to the next one of a series. Raises OSError if they can't be kept."""
     if looks.open:
         keep_looks(paths, Looks((Look(f"at {os.path.basename(before.name)}", looks.all),)))
 

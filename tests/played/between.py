@@ -159,4 +159,34 @@ def names_put_right(folder: pathlib.Path) -> None:
     same((stop(live), has(f"{one}.pgn", 'Event "Club"')), (0, False))
 
 
-CASES = [result_put_right, next_not_begun, not_begun_anew, names_put_right]
+def look_not_kept(folder: pathlib.Path) -> None:
+    """NAME.look can't be written while moves are made after a result, between two games of a series and in a game by itself: the alarm
+    stays all the same, and is written once it can be."""
+    for name, options in (("blitz", ["--series"]), ("game", [])):
+        board = a_board(folder, device=folder / f"board of {name}")
+        live = Live(board.device, folder / name, *options, typed=True)
+        one = folder / (f"{name}-1" if options else name)
+        begun(live)
+        for move in ("e2e4", "e7e5"):
+            board.play(move)
+        until_game(one, "1. e4 e5 *")
+        live.type("1-0")
+        until_game(one, "1. e4 e5 1-0")
+        board.play("g1f3")
+        until_line(live, f"{one} is over: another move was made after its result")
+        block(pathlib.Path(f"{one}.look.new"))
+        board.play("b8c6")
+        until_line(live, "LOOK after 1... e5: 2 moves were made, and the game is over: 1-0")
+        until_line(live, f"{one}.look can't be written (Is a directory): it is tried again")
+        until_line(live, "  LOOK after 1... e5; ")
+        same(bytes_of(f"{one}.look"), b"")
+        pathlib.Path(f"{one}.look.new").rmdir()
+        until_line(live, f"{one}.look is written")
+        same(bytes_of(f"{one}.look").split(b"\t")[0], b"after 1... e5")
+        live.type("ok")
+        until_line(live, "acknowledged: LOOK after 1... e5")
+        same(bytes_of(f"{one}.look"), b"")
+        same(stop(live), 0)
+
+
+CASES = [result_put_right, next_not_begun, not_begun_anew, names_put_right, look_not_kept]
