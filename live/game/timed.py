@@ -17,6 +17,7 @@ import time
 from dataclasses import dataclass
 from typing import Callable, List, Optional, Protocol, Tuple
 
+from live.device.protocol import DUMP_SIZE
 from live.game import times
 from live.game.began import Began, began_line, keep_began, this_start
 from live.game.files import LARGEST, Capture, Paths, existing, open_regular, part_of, put_in_place, remove, sync_folder, text_of
@@ -24,7 +25,6 @@ from live.loop import Away, Callback, Counting, Loop
 
 TRIES_AGAIN = 1.0  # seconds after a write has failed
 MOST_WAIT = 1000  # events that wait for the first bytes of a capture
-DUMP = 67  # bytes of a capture that a new file waits for
 AT_ONCE = 65536  # bytes of a capture that the program may be told as a whole, though no times of theirs are known
 OFTEN = (times.HEARD, times.ASKED)  # a move comes in several reads
 LATE = 20  # milliseconds from an event to its line
@@ -312,8 +312,8 @@ class Times:
     def _write(self) -> None:
         if self._began is None or self._is_aside or not (self._events or self._is_lost):
             return
-        if self._number is None and not self._size and self._capture.size < DUMP and len(self._events) < MOST_WAIT:
-            return  # the heading waits for the first bytes
+        if self._number is None and not self._size and self._capture.size < DUMP_SIZE and len(self._events) < MOST_WAIT:
+            return  # the heading waits for the first dump
         if self._trouble and Loop.now() < self._again:
             self._lose()
             return

@@ -286,9 +286,9 @@ def comes_late(folder: pathlib.Path) -> None:
     hall = Hall(folder, 3)
     live = hall.record(typed=True)
     hall.begun(live)
-    for number, typed in ((1, "+-"), (2, "0-1"), (3, "1-0")):
+    for number, typed, answer in ((1, "+-", f"{hall.name(1)}: forfeit 1-0: it isn't played"), (2, "0-1", "added to"), (3, "1-0", "added to")):
         live.type(f"{number} {typed}")
-        until_line(live, f"  {number}  result ")
+        until_line(live, f"{number}: {answer}")
     hall.boards[2].play("e2e4")
     until_line(live, f"  3  {hall.name(3)} is over: another move was made after its result")
     for number in (1, 2):
