@@ -39,7 +39,7 @@ class AttendedGame:
 
     def __init__(self, guard: Guard, screen: Screen, game: Game, hears: HearsGame, before: Optional[AttendedGame] = None) -> None:
         self._guard, self._screen, self.game, self._hears_game = guard, screen, game, hears
-        self._alarms = before._alarms if before else Alarms(game.paths)
+        self._alarms: Alarms = before._alarms if before else Alarms(game.paths)
         self._late: List[Tuple[Told, Answer]] = []  # what is said of bytes that wait to be written
         self._is_news = False  # whether the state may be another one than the one that is shown
         self._has_lost = False  # bytes that can't be written any more, which the program has

@@ -13,7 +13,7 @@ from played.renamed import has, until_tags
 from played.stage import a_board, begun, bytes_of, ended, kill, movetext, same, stop, until, until_dumped, until_game, until_line
 
 
-def result_put_right(folder: pathlib.Path) -> None:
+def result_put_right_between(folder: pathlib.Path) -> None:
     """While the pieces are set up a wrong result is put right, and a ply is taken off that the board still shows: the page and what goes
     out have it at once. Moves after the second result are an alarm, as they would be after the first."""
     board, port = a_board(folder), free_port()
@@ -44,6 +44,8 @@ def result_put_right(folder: pathlib.Path) -> None:
     until_line(live, "LOOK after 2. Nf3: 2 moves were made, and the game is over: 0-1. Look at it, and type ok")
     live.type("ok")
     until_line(live, "acknowledged: LOOK after 2. Nf3")
+    board.play("b5f1", "c6b8")
+    until_dumped(board, one)
     live.type("back")
     until_line(live, "back to 1... e5; taken off: 2. Nf3; the result 0-1 is gone. What the board had sent is kept in")
     until_line(live, "The game stays over")
@@ -162,10 +164,10 @@ def names_put_right(folder: pathlib.Path) -> None:
 def look_not_kept(folder: pathlib.Path) -> None:
     """NAME.look can't be written while moves are made after a result, between two games of a series and in a game by itself: the alarm
     stays all the same, and is written once it can be."""
-    for name, options in (("blitz", ["--series"]), ("game", [])):
+    for name, option in (("blitz", "--series"), ("game", "--strict")):
         board = a_board(folder, device=folder / f"board of {name}")
-        live = Live(board.device, folder / name, *options, typed=True)
-        one = folder / (f"{name}-1" if options else name)
+        live = Live(board.device, folder / name, option, typed=True)
+        one = folder / (f"{name}-1" if option == "--series" else name)
         begun(live)
         for move in ("e2e4", "e7e5"):
             board.play(move)
@@ -189,4 +191,4 @@ def look_not_kept(folder: pathlib.Path) -> None:
         same(stop(live), 0)
 
 
-CASES = [result_put_right, next_not_begun, not_begun_anew, names_put_right, look_not_kept]
+CASES = [result_put_right_between, next_not_begun, not_begun_anew, names_put_right, look_not_kept]
