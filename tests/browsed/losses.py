@@ -261,6 +261,33 @@ def changed_while_full(folder: pathlib.Path) -> None:
 
 
 @with_chromium
+def set_up_while_full(folder: pathlib.Path) -> None:
+    """The browser has no room when the pieces have been set up, with which the game begins: the page says so once, and goes on. With room
+    the game begins, with what was played meanwhile."""
+    with Hall(folder) as stage:
+        port = stage.board()
+        port.board.play("e2e4")
+        page = stage.tab([NO_ROOM])
+        stage.add(page, port)
+        stage.enlarge(page, 1)
+        stage.until_moves(page, ["e4"])
+        stage.until_dumped(page, port)
+        page.value("isFull = true")
+        port.board.set_up([])
+        told = "board 1 can't begin with the start yet (there is no room). Make room: it is tried again"
+        stage.until(lambda: any(told in line for line in page.messages), "a word that the game can't begin")
+        port.board.play(QUEENS[0])
+        stage.rest(7)  # a recording that an error has ended is begun again after five seconds
+        same([sum(part in line for line in page.messages) for part in (told, "NOT RECORDED")], [1, 0])
+        same((is_troubled(page), page in port.holders), (True, True))
+        page.value("isFull = false")
+        stage.until_moves(page, QUEENS_SANS[:1])
+        until_agrees(stage, page)
+        play(stage, page, port, QUEENS[1:2], QUEENS_SANS[1:2])
+        same(movetext_of(stage.saved(page, "#save-game")), "1. d4 d5 *")
+
+
+@with_chromium
 def broken_or_full(folder: pathlib.Path) -> None:
     """The browser can't keep anything: the state, the card and the answer to a typed line speak of a full disk where the disk is
     full, and else give the browser's reason."""

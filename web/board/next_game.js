@@ -3,10 +3,10 @@
 
 import { isReadAnew, nextBegins } from '../game/afterwards.js';
 import { ofBoard, startOf } from '../game/options.js';
-import { standsAt } from '../game/reading.js';
+import { fromStart, standsAt } from '../game/reading.js';
 import { lineOf } from '../game/report.js';
+import { Again } from './again.js';
 
-const TICK = 1.0; // seconds until it is tried again
 const Reason = { RESULT: 'it has a result', NEXT: 'the next one was asked for' }; // why the game before is over
 
 const isPicture = (line) => line !== null && line.event.kind === 'picture';
@@ -16,8 +16,7 @@ export class NextGame {
   /** `recorder` records the game that is on, and gets begin(content, given, before) when another one takes its place. */
   constructor(recorder) {
     this.recorder = recorder;
-    this.isLate = false; // whether the next game couldn't be begun
-    this.nextTry = null; // when that is tried again
+    this.again = new Again(recorder);
     this.isReading = false;
     this.readAgain();
   }
@@ -86,21 +85,9 @@ export class NextGame {
   }
 
   /** Begins the next game. If that fails, what comes is kept with the game that is over, after its end. */
-  async tryIt() {
-    const { recorder } = this;
-    try {
-      await this.begin(this.at);
-      this.isLate = false;
-    } catch (error) {
-      if (!this.isLate) recorder.hears.says(`the next game can't be begun (${error.message}). Make room: it is tried again`);
-      this.isLate = true;
-      if (!this.nextTry) {
-        this.nextTry = recorder.guard.after(TICK, () => {
-          this.nextTry = null;
-          recorder.heardAll();
-        });
-      }
-    }
+  tryIt() {
+    const told = ({ message }) => `the next game can't be begun (${message}). Make room: it is tried again`;
+    return this.again.try(() => this.begin(this.at), told, () => this.recorder.heardAll());
   }
 
   /** The next game begins with the start, which the board has shown since this byte. */
@@ -108,7 +95,8 @@ export class NextGame {
     const { recorder } = this;
     return recorder.typing.exclusively(async () => {
       if (!recorder.isOver || this.at !== offset) return;
-      await recorder.begin(await recorder.fromStart(offset + 1), recorder.board.next || {});
+      const { board, calls, capture, options } = recorder;
+      await recorder.begin(await fromStart(calls, options, capture.bytes(), offset + 1), board.next || {});
       recorder.hears.says(`the pieces are at the start: ${recorder.game.name} begins`);
     });
   }

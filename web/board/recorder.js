@@ -1,25 +1,25 @@
 // The games of one board while it is recorded. What came is kept first, then reported; and when the game has changed, the program
 // that attends its board gives its PGN.
 
-import { dumpsIn, joined } from '../device/protocol.js';
+import { joined } from '../device/protocol.js';
 import { ISNT_OVER, corrected, wentOn } from '../game/afterwards.js';
 import { Alarms, acknowledged } from '../game/alarms.js';
 import { countingForfeit } from '../game/forfeits.js';
 import { textOfLook } from '../game/looks.js';
 import { dayOf } from '../game/names.js';
 import { ofLive } from '../game/options.js';
-import { ProgramError } from '../game/program.js';
-import { NO_PLIES, hasAlone, newCourse, publishedOf, textOf } from '../game/reading.js';
+import { hasAlone, newCourse, publishedOf, textOf } from '../game/reading.js';
 import { shortOf, shownOf, wordsOf } from '../game/report.js';
 import { ABSENT, Refused } from '../game/typed.js';
 import { ADDED, ASKED, BACK, BROUGHT, HEARD, LOOKED, OVER, REOPENED, SUSPECT, isOf, kept as foundIn } from '../game/times.js';
-import { reached, readBack } from '../game/way_back.js';
+import { reached } from '../game/way_back.js';
 import { THIS, UNPLAYED, whichGame } from '../game/which_game.js';
 import { cameBack } from '../hall/exchanged.js';
 import { Capture, LARGEST } from '../kept/capture.js';
 import { spread, withMore } from '../kept/spread.js';
 import { Times } from '../kept/times.js';
 import { Attending } from './attending.js';
+import { Beginning } from './beginning.js';
 import { Cable } from './cable.js';
 import { NextGame } from './next_game.js';
 import { DISK_FULL, Kind, lasting, stateOf } from './state.js';
@@ -79,6 +79,7 @@ export class Recorder {
     guard.opened(() => this.times.close()); // after the cable
     this.typing = new Typing(this);
     this.next = new NextGame(this);
+    this.beginning = new Beginning(this);
     this.attending = new Attending(hall, guard, this);
     this.cable = new Cable(guard, kept.board.serial || '', this);
     guard.opened(() => this.keepUnanswered());
@@ -103,7 +104,6 @@ export class Recorder {
     this.away = this.guard.away(); // the seconds that this page was away when the board was last heard
     this.raised = []; // alarms of the program that nobody has been told of
     this.played = 0; // moves that were made though the game is over, as the program says
-    this.beginning = null; // the capture, if the program has said that the game begins only within it
   }
 
   get name() {
@@ -532,7 +532,7 @@ export class Recorder {
     if (this.isOver) {
       if (!this.isOld) this.tellPlayed();
     } else if (begins !== null) {
-      this.guard.call(() => this.beginAnew(begins));
+      this.guard.call(() => this.beginning.begin(begins));
     } else if (over) {
       this.isOverSo(over);
     }
@@ -615,32 +615,6 @@ export class Recorder {
     this.attending.tellNow(OVER, end);
     this.hears.says(`${this.game.name} is over: ${reason}`);
     this.reread();
-  }
-
-  /** Makes the game's capture begin with the start and what came after it: the first so many bytes were the set-up. */
-  async beginAnew(bytes) {
-    const { capture } = this;
-    this.beginning = capture;
-    await this.typing.exclusively(async () => {
-      if (!this.isBeginning) return;
-      const content = await this.fromStart(bytes);
-      this.game = { ...this.game, looks: [] };
-      await this.renew(content, true);
-      this.hears.says(`the pieces have been set up: ${this.game.name} begins now`);
-    });
-  }
-
-  /** Whether the game just gets a capture that begins with the start. */
-  get isBeginning() {
-    return !this.isOver && this.beginning === this.capture;
-  }
-
-  /** A dump of the start, as the program makes it of what the board has shown in its first so many bytes, and what came behind them. */
-  async fromStart(bytes) {
-    const content = this.capture.bytes();
-    const { kind, put } = readBack(await this.calls.back(this.options, content.slice(0, bytes), NO_PLIES));
-    if (!put) throw new ProgramError(`back has refused the start: ${kind}`);
-    return joined(dumpsIn(put).at(-1), content.slice(bytes));
   }
 
   /** The next game begins with this. It has the same options, unless others are given. The game before it has ended so. */

@@ -139,7 +139,7 @@ export class Typing {
     const { recorder } = this;
     await recorder.attending.read();
     if (recorder.guard.ended) throw new Refused('the recording was just interrupted. Type it again');
-    if (recorder.isBeginning || !this.isStill(seen)) throw new Refused(ENDING);
+    if (recorder.beginning.isOn || !this.isStill(seen)) throw new Refused(ENDING);
     return put(answer);
   }
 

@@ -1,10 +1,11 @@
 // The course of a game of given bytes, and its text, by calls of the program.
 
-import { dumpsIn, pictureOfPlacement } from '../device/protocol.js';
+import { dumpsIn, joined, pictureOfPlacement } from '../device/protocol.js';
 import { readAnswer } from './answers.js';
 import { Course } from './course.js';
 import { forfeitOf, tagsOfForfeit } from './forfeits.js';
 import { ofBoard, ofRecord, startOf } from './options.js';
+import { ProgramError } from './program.js';
 import { lineOf } from './report.js';
 import { published } from './tags.js';
 import { readBack, refuseBack } from './way_back.js';
@@ -44,6 +45,13 @@ export async function standsAt(program, options, sent) {
   if (kind === 'signed') return { dump: null, shows: `shows the result ${rest}` };
   if (kind !== 'moved') throw refuseBack(said, NO_PLIES, []);
   return { dump: await dumpAfter(program, options, rest.split(' ')[1]), shows: `stands as after ${rest}` };
+}
+
+/** A dump of the start, as the program makes it of what the board has shown in the first so many bytes, and what came behind them. */
+export async function fromStart(program, options, sent, bytes) {
+  const { kind, put } = readBack(await program.back(options, sent.slice(0, bytes), NO_PLIES));
+  if (!put) throw new ProgramError(`back has refused the start: ${kind}`);
+  return joined(dumpsIn(put).at(-1), sent.slice(bytes));
 }
 
 /** A dump of the board after this first move. */

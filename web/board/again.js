@@ -1,0 +1,32 @@
+// What may fail, as when the disk is full: it is said once, and tried again.
+
+const TICK = 1.0; // seconds until it is tried again, unless others are given
+
+export class Again {
+  constructor(recorder, seconds = TICK) {
+    this.recorder = recorder;
+    this.seconds = seconds;
+    this.isLate = false; // whether it has failed
+    this.timer = null; // when it is tried again
+  }
+
+  get isWaiting() {
+    return this.timer !== null;
+  }
+
+  /** Does this work. If it fails, `told(error)` is said, and `again` is called later. */
+  async try(work, told, again) {
+    try {
+      await work();
+      this.isLate = false;
+    } catch (error) {
+      if (!this.isLate) this.recorder.says(told(error));
+      this.isLate = true;
+      if (this.isWaiting) return;
+      this.timer = this.recorder.guard.after(this.seconds, () => {
+        this.timer = null;
+        return again();
+      });
+    }
+  }
+}

@@ -1,0 +1,42 @@
+// A game whose pieces were still being set up when its capture began: when the program says so, it begins anew with the start.
+
+import { fromStart } from '../game/reading.js';
+import { Again } from './again.js';
+
+export class Beginning {
+  /** `recorder` records the game. */
+  constructor(recorder) {
+    this.recorder = recorder;
+    this.epoch = null; // of the lines with which the program has said so
+    this.bytes = 0; // of the capture that belong to the set-up
+    this.again = new Again(recorder);
+  }
+
+  /** Whether the game just gets a capture that begins with the start. */
+  get isOn() {
+    const { isOver, attending } = this.recorder;
+    return !isOver && this.epoch === attending.epoch;
+  }
+
+  /** The game begins only behind so many bytes. */
+  begin(bytes) {
+    this.epoch = this.recorder.attending.epoch;
+    this.bytes = bytes;
+    return this.tryIt();
+  }
+
+  /** Makes its capture begin with the start and what came after it. If that fails, what comes is kept with the set-up. */
+  tryIt() {
+    const { recorder } = this;
+    const told = ({ message }) => `${recorder.name} can't begin with the start yet (${message}). Make room: it is tried again`;
+    return this.again.try(() => recorder.typing.exclusively(() => this.renew()), told, () => this.tryIt());
+  }
+
+  async renew() {
+    const { recorder } = this;
+    if (!this.isOn) return;
+    const content = await fromStart(recorder.calls, recorder.options, recorder.capture.bytes(), this.bytes);
+    await recorder.renew(content, true, { looks: [] });
+    recorder.says(`the pieces have been set up: ${recorder.name} begins now`);
+  }
+}
