@@ -4,6 +4,7 @@ import pathlib
 import time
 from typing import Tuple
 
+from browsed.ends import ENDED
 from browsed.folders import Chosen, begin_in, until_text
 from browsed.games import QUEENS, QUEENS_SANS, RUY, RUY_SANS, answered, begin, of_record, play, until_agrees
 from browsed.hall import Hall, Port
@@ -446,36 +447,80 @@ def fill(stage: Hall, page: Page, total: int) -> None:
 
 @with_chromium
 def limits(folder: pathlib.Path) -> None:
-    """A game may have 64 MiB; with Recover moves 63, since that needs room. The page says which, and keeps all that is within.
-    Then somebody begins the next game."""
+    """A game may have 63 MiB. Then it is over, the page says why, and keeps all that came until then. What comes behind it has room: the
+    next game begins when the pieces are set up."""
     with Hall(folder) as stage:
         page, port = begin(stage)
         until_agrees(stage, page)
         play(stage, page, port, RUY[:2], RUY_SANS[:2])
-        fill(stage, page, 63 * MIB)
+        fill(stage, page, 62 * MIB)
         stage.until_moves(page, RUY_SANS[:2])
         stage.until(lambda: page in port.holders, "the board to be opened again")
         play(stage, page, port, RUY[2:3], RUY_SANS[2:3])
         stage.rest(1)
         same([line for line in page.messages if "MiB" in line], [])
-        fill(stage, page, 64 * MIB - 150)
-        stage.until(lambda: any("its capture has 64 MiB, and none may have more" in line for line in page.messages), "the limit")
-        stage.until(lambda: page.value(SIZE) == 64 * MIB, "a capture that is full")
+        fill(stage, page, 63 * MIB - 150)
+        stage.until(lambda: any("its capture has 63 MiB, and none may have more" in line for line in page.messages), "the limit")
+        stage.until(lambda: page.value(SIZE) > 63 * MIB, "more behind the game")
         stage.until_moves(page, RUY_SANS[:3])
-        page.click("#next-game")
+        port.board.set_up([])
         stage.until_moves(page, [])
+        until_agrees(stage, page)
+        play(stage, page, port, QUEENS[:1], QUEENS_SANS[:1])
+
+
+def until_short(stage: Hall, page: Page, when: str) -> None:
+    """The page says that of what came then only the last is kept, and keeps no more."""
+    told = f"what the board has sent {when} got long: only the last of it is kept"
+    stage.until(lambda: any(told in line for line in page.messages), "a word that the capture got long")
+    stage.until(lambda: page.value(SIZE) < MIB, "a short capture")
 
 
 @with_chromium
-def limit_of_recover(folder: pathlib.Path) -> None:
-    """With Recover moves a game may have 63 MiB, since that needs room."""
+def left_on(folder: pathlib.Path) -> None:
+    """A board is left on for weeks. Of what it sends before the first move, and since the end of its game, only the last is kept. So the
+    moves come to their game, and the next one begins when the pieces are set up."""
+    with Hall(folder) as stage:
+        page, port = begin(stage)
+        until_agrees(stage, page)
+        stage.until_dumped(page, port)
+        fill(stage, page, 40 * MIB)
+        until_short(stage, page, "before the first move of board 1")
+        until_agrees(stage, page)
+        play(stage, page, port, RUY[:2], RUY_SANS[:2])
+        answered(stage, page, "1-0", "added by hand: the result 1-0")
+        stage.until(lambda: page.text("#state").endswith("over"), "the end of the game")
+        stage.until_dumped(page, port)
+        fill(stage, page, 64 * MIB)
+        until_short(stage, page, "since the end of board 1")
+        stage.until_moves(page, RUY_SANS[:2])
+        same(page.text("#state").endswith("over"), True)
+        game, capture = stage.saved(page, "#save-game"), stage.saved(page, "#save-capture")
+        same((movetext_of(game), game), ("1. e4 e5 1-0", of_record(game, capture)))
+        port.board.set_up([])
+        stage.until_moves(page, [])
+        until_agrees(stage, page)
+        play(stage, page, port, QUEENS[:1], QUEENS_SANS[:1])
+        texts = stage.saved(page, "#save-round").decode().replace("\n", " ")
+        assert "1. e4 e5 1-0" in texts and "1. d4 *" in texts, texts
+
+
+@with_chromium
+def ended_without_room(folder: pathlib.Path) -> None:
+    """A game has 64 MiB, as an earlier version has left it: nothing can be kept behind it, and the page says what to do."""
     with Hall(folder) as stage:
         page, port = begin(stage)
         until_agrees(stage, page)
         play(stage, page, port, RUY[:2], RUY_SANS[:2])
-        page.click("#recover")
-        stage.rest(0.5)
-        fill(stage, page, 63 * MIB - 150)
-        what = "its capture has 63 MiB, and with Recover moves none may have more"
-        stage.until(lambda: any(what in line for line in page.messages), "the limit with Recover moves")
-        stage.until_moves(page, RUY_SANS[:2])
+        stage.leave(page)
+        page.value(FILLED.replace("TOTAL", str(64 * MIB)))
+        page.value(ENDED.replace("END", str(64 * MIB)))
+        stage.open(page)
+        stage.enlarge(page, 1)
+        stage.until_text(page, "#state", "over: press Next game")
+        stage.until_part(page, "#mend", "Its capture is full")
+        page.click("#next-game")
+        stage.until_moves(page, [])
+        port.board.set_up([])
+        until_agrees(stage, page)
+        play(stage, page, port, QUEENS[:1], QUEENS_SANS[:1])

@@ -15,19 +15,20 @@ import { ADDED, ASKED, BACK, BROUGHT, HEARD, LOOKED, OVER, REOPENED, SUSPECT, is
 import { reached } from '../game/way_back.js';
 import { THIS, UNPLAYED, whichGame } from '../game/which_game.js';
 import { cameBack } from '../hall/exchanged.js';
-import { Capture, LARGEST } from '../kept/capture.js';
+import { Capture } from '../kept/capture.js';
+import { LARGEST } from '../kept/limit.js';
 import { spread, withMore } from '../kept/spread.js';
 import { Times } from '../kept/times.js';
 import { Attending } from './attending.js';
 import { Beginning } from './beginning.js';
 import { Cable } from './cable.js';
 import { NextGame } from './next_game.js';
+import { Room } from './room.js';
 import { DISK_FULL, Kind, lasting, stateOf } from './state.js';
 import { Typing } from './typing.js';
 import { another, back as backAgain, mayTake } from './whose.js';
 
 const TICK = 1.0; // seconds between two looks at what waits
-const ROOM = 1 << 20; // bytes that are left for what `recover` adds: the program reads no more than LARGEST
 const SAID = [Kind.WRONG, Kind.NO_START]; // states that are reported as lines too
 const UNSEEN = ['UNPLUGGED', 'SILENT', 'WAITS']; // states in which the board may have shown nothing
 
@@ -42,11 +43,6 @@ const WHY = {
   [CORRECTED]: `its last move was corrected after its result. ${GOES_ON}`,
   'SET-UP': 'it has a result',
   [UNFINISHED]: 'the pieces are at the start again. Give its result beside the next game',
-};
-// The same, as the page does: it keeps no more.
-const Reason = {
-  LIMIT: 'its capture has 64 MiB, and none may have more',
-  LIMIT_OF_RECOVER: 'its capture has 63 MiB, and with Recover moves none may have more',
 };
 
 export class Recorder {
@@ -80,6 +76,7 @@ export class Recorder {
     this.typing = new Typing(this);
     this.next = new NextGame(this);
     this.beginning = new Beginning(this);
+    this.room = new Room(this);
     this.attending = new Attending(hall, guard, this);
     this.cable = new Cable(guard, kept.board.serial || '', this);
     guard.opened(() => this.keepUnanswered());
@@ -116,11 +113,6 @@ export class Recorder {
 
   get isOver() {
     return this.game.end !== null;
-  }
-
-  /** Whether its capture has no room for anything more. */
-  get isFull() {
-    return this.capture.size >= LARGEST - (this.options.recover ? ROOM : 0);
   }
 
   /** How often it has gone back. */
@@ -226,7 +218,7 @@ export class Recorder {
   /** What its board has sent comes to the game. */
   takeSent(bytes, at, now, isBrought = false) {
     const room = LARGEST - this.capture.size;
-    if (room <= 0) return; // the game is over, and nobody has begun another one
+    if (room <= 0) return; // it couldn't be shortened
     const unheard = this.guard.away() - this.away;
     this.away += unheard;
     if (unheard > 0) this.sayUnheard(unheard);
@@ -234,7 +226,7 @@ export class Recorder {
     const taken = bytes.slice(0, room);
     this.capture.append(taken, now);
     if (!isBrought) this.times.note(HEARD, taken.length, at);
-    this.lookAtLimit();
+    this.room.close();
   }
 
   /** The board is heard now. The page may have slept too. */
@@ -294,13 +286,6 @@ export class Recorder {
   get state() {
     const beside = { result: this.course.result, disk: this.capture.trouble, look: this.alarms.looks.short };
     return stateOf(this.said, this.saidAt, this.differs, beside);
-  }
-
-  /** A game is over when its capture has as many bytes as the program reads. */
-  lookAtLimit() {
-    if (this.isOver) return;
-    if (this.options.recover && this.capture.size >= LARGEST - ROOM) this.closeGame(this.capture.size, Reason.LIMIT_OF_RECOVER);
-    else if (this.capture.size >= LARGEST) this.closeGame(this.capture.size, Reason.LIMIT);
   }
 
   sayUnheard(seconds) {
@@ -463,6 +448,7 @@ export class Recorder {
     if (this.isUnkept) this.keepGame();
     this.sayState();
     this.next.look();
+    this.room.look();
     this.hears.changed();
   }
 
@@ -706,7 +692,7 @@ export class Recorder {
   async takeUp(longer, lines, name) {
     await this.typing.exclusively(async () => {
       const content = withMore(this.capture.bytes(), this.opened, longer);
-      if (!content) return;
+      if (!content || content.length > LARGEST) return;
       const { opened } = this;
       const more = this.typedTo > opened ? content.length - this.capture.size : 0;
       const isOfLonger = isOf(foundIn(lines), longer);

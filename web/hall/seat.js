@@ -15,6 +15,7 @@ import { Guard } from '../guard.js';
 import { unended } from './results.js';
 
 const AGAIN = 5.0; // seconds until a recorder that an error has ended is begun again
+const FULL = 'Its capture is full: what the board sends is not kept until the next game begins.';
 
 export class Seat {
   /** `hears` gets changed(seat), placed(seat), says(seat, text, isMove), and what a Recorder asks. */
@@ -275,8 +276,9 @@ export class Seat {
     }
     const looks = recorder.alarms.looks.short;
     const over = recorder.next.awaited ? 'over: set up the pieces for the next game' : 'over';
-    const mend = recorder.next.awaited || recorder.isFull || recorder.isPlayedOn ? '' : mendOfOver(recorder.course);
+    const mend = recorder.next.awaited || recorder.room.isFull || recorder.isPlayedOn ? '' : mendOfOver(recorder.course);
     if (recorder.forfeit && !recorder.capture.trouble) return resting(wordsOfForfeit(recorder.forfeit), looks);
+    if (recorder.room.isOut) return { ...resting('over: press Next game', looks, FULL), alarm: true };
     if (recorder.isOver && !recorder.capture.trouble) return resting(over, looks, mend);
     if (recorder.isStopped) return resting('stopped', looks);
     return standing(recorder.state, now);

@@ -5,8 +5,6 @@
 import { DISK_FULL, NOT_WRITTEN } from '../board/state.js';
 import { joined } from '../device/protocol.js';
 
-export const LARGEST = 64 * 1024 * 1024; // bytes that the program reads at most
-
 /** What keeps something from being written, as the state names it. */
 export function troubleOf(error) {
   return error && error.name === 'QuotaExceededError' ? DISK_FULL : NOT_WRITTEN;

@@ -3,8 +3,11 @@
 
 import { DUMP_ID, DUMP_SIZE, joined, same } from '../device/protocol.js';
 
+const LONG = 1 << 20; // bytes; a longer capture is one chunk, since a database takes long for many
+
 /** Chunks as the database keeps them: [{ number, at, bytes }]. */
 export function spread(content, now) {
+  if (content.length > LONG) return [{ number: 0, at: now, bytes: content.slice() }];
   const starts = [0];
   for (let at = 1; at + 2 < content.length; at += 1) {
     if (content[at] === DUMP_ID && content[at + 1] === 0 && content[at + 2] === DUMP_SIZE) starts.push(at);

@@ -4,8 +4,8 @@
 import {
   ADDED, AWAY, BEGIN, HEADED, OVER, adding, cut, heading, isOf, kept, lineAfter, lines, toldOf, toldOfMissing, toldOfOther, toldOfTrouble,
 } from '../game/times.js';
-import { LARGEST } from './capture.js';
 import { otherName } from './file_names.js';
+import { LARGEST } from './limit.js';
 
 const GATHERED = 0.2; // seconds in which events are gathered; the line of a move is on the screen by then
 const AGAIN = 1.0; // seconds until what couldn't be kept is tried again

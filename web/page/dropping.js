@@ -1,8 +1,7 @@
 // Captures that are dropped on the page, or opened: their games are shown.
 
+import { LARGEST } from '../kept/limit.js';
 import { at } from './elements.js';
-
-const LARGEST_SHOWN = 64 * 1024 * 1024; // bytes that the program reads at most
 
 export class Dropping {
   constructor(hall, messages) {
@@ -30,7 +29,7 @@ export class Dropping {
   async take(files) {
     for (const file of files) {
       try {
-        if (file.size > LARGEST_SHOWN) throw new Error('a capture has 64 MiB at most');
+        if (file.size > LARGEST) throw new Error('a capture has 64 MiB at most');
         await this.show(file.name, new Uint8Array(await file.arrayBuffer()));
       } catch (error) {
         this.messages.notice('failed', `${file.name} can't be shown: ${error.message || error}`, [], true);

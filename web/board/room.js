@@ -1,0 +1,74 @@
+// The room in a capture. A board that is left on sends more than the program reads: so of what comes behind a game that is over, or
+// before a first move, only the last stays.
+
+import { joined } from '../device/protocol.js';
+import { MOST, hasNoRoom, isLong, needless } from '../kept/limit.js';
+import { Again } from './again.js';
+
+const LATER = 60.0; // seconds until it is tried again
+const REASON = 'its capture has 63 MiB, and none may have more'; // why a game is over
+
+export class Room {
+  /** `recorder` records the game. */
+  constructor(recorder) {
+    this.recorder = recorder;
+    this.again = new Again(recorder, LATER);
+    this.isBusy = false;
+  }
+
+  /** Whether the game is over since it could have no more. */
+  get isFull() {
+    const { isOver, game } = this.recorder;
+    return isOver && game.end >= MOST;
+  }
+
+  /** Whether the game is over, and what comes isn't kept: an earlier version has left it without room behind it. */
+  get isOut() {
+    const { isOver, next } = this.recorder;
+    return isOver && hasNoRoom(next.end);
+  }
+
+  /** A game is over when it has as many bytes as it may have. */
+  close() {
+    const { capture, isOver } = this.recorder;
+    if (!isOver && capture.size >= MOST) this.recorder.closeGame(capture.size, REASON);
+  }
+
+  /** How many bytes of the capture are the game's; null if all that comes may be, or if the next game is just beginning. */
+  get end() {
+    const { beginning, course, forfeit, isOld, isOver, next } = this.recorder;
+    if (isOver) return next.at === null ? next.end : null;
+    const isEmpty = !isOld && course.plies.length === 0 && course.result === '*' && !forfeit;
+    return isEmpty && !beginning.isOn ? 0 : null;
+  }
+
+  /** Once a second. */
+  look() {
+    const { capture, guard } = this.recorder;
+    const { end } = this;
+    if (end === null || !isLong(capture.size, end) || this.isOut) return;
+    if (!capture.isUnkept && !this.isBusy && !this.again.isWaiting) guard.call(() => this.tryIt());
+  }
+
+  async tryIt() {
+    const { recorder } = this;
+    const told = ({ message }) => `the capture of ${recorder.name} can't be shortened (${message}): it is tried again`;
+    this.isBusy = true;
+    await this.again.try(() => recorder.typing.exclusively(() => this.shorten()), told, () => this.look());
+    this.isBusy = false;
+  }
+
+  async shorten() {
+    const { recorder } = this;
+    const { capture, game, isOver, name, overTo, typedTo } = recorder;
+    const { end } = this;
+    if (end === null || !isLong(capture.size, end)) return;
+    const bytes = capture.bytes();
+    const [from, to] = needless(bytes, end);
+    const content = joined(bytes.subarray(0, from), bytes.subarray(to));
+    const changes = { typedTo: Math.min(typedTo, end), overTo, played: game.played || 0 };
+    await recorder.renew(content, false, changes, isOver ? (one, other) => recorder.times.upTo(end, one, other) : undefined);
+    const when = isOver ? `since the end of ${name}` : `before the first move of ${name}`;
+    recorder.says(`what the board has sent ${when} got long: only the last of it is kept`);
+  }
+}
