@@ -7,6 +7,7 @@ from typing import List, Optional, Sequence
 from browsed.games import QUEENS, QUEENS_SANS, RUY, RUY_SANS, begin, of_record, play, until_agrees
 from browsed.hall import Hall, Port
 from browsed.page import Page
+from browsed.series import movetext_of
 from browsed.stage import with_chromium
 from played.stage import same
 
@@ -292,6 +293,50 @@ def exchanged_before_the_first_move(folder: pathlib.Path) -> None:
         stage.show_all(page)
         hub_fails(stage, page, ports)
         same(["LOOK at the cable" in state for state in states(page)], [True, True])
+        same(page.tab.printed(), [])
+
+
+@with_chromium
+def board_of_a_finished_game(folder: pathlib.Path) -> None:
+    """A board fails, and that of a game that is over is put on its cable: OK gives it to the game that goes on, which has it also when
+    the page is opened again. The other game stays as it was, and its next one begins on another board."""
+    with Hall(folder) as stage:
+        page = stage.tab()
+        first, second = numbered(stage.board(), 10001), numbered(stage.board(), 10002)
+        for port, moves, sans in ((first, RUY[:2], RUY_SANS[:2]), (second, QUEENS[:2], QUEENS_SANS[:2])):
+            stage.show_all(page) if page.shows("#back") else None
+            stage.add(page, port)
+            stage.enlarge(page, port.number)
+            until_agrees(stage, page)
+            play(stage, page, port, moves, sans)
+        page.click("[data-says='1-0']")
+        stage.until(lambda: page.text("#state").endswith("over"), "the end of the second game")
+        for port in (first, second):
+            stage.pull(port)
+        second.board.codes[:] = first.board.codes
+        first.board, second.board = second.board, first.board
+        stage.plug(first)
+        stage.show_all(page)
+        stage.enlarge(page, 1)
+        stage.until_part(page, "#ask", "it has the board of board 2, whose game is over, serial number 10002, and not 10001")
+        page.click("#ok")
+        taken = "the board with serial number 10002 is recorded here"
+        stage.until(lambda: any(taken in line for line in page.messages), "a word that it is taken")
+        play(stage, page, first, RUY[2:4], RUY_SANS[2:4])
+        stage.open(page)
+        stage.until(lambda: page in first.holders, "the board to be opened by itself")
+        stage.enlarge(page, 1)
+        stage.until_moves(page, RUY_SANS[:4])
+        play(stage, page, first, RUY[4:6], RUY_SANS[4:6])
+        same(movetext_of(stage.saved(page, "#save-game")), "1. e4 e5 2. Nf3 Nc6 3. Bb5 a6 *")
+        stage.show_all(page)
+        stage.enlarge(page, 2)
+        same((page.text("#state").endswith("over"), page.moves), (True, QUEENS_SANS[:2]))
+        numbered(second, 10003).board.set_up([])
+        stage.plug(second)
+        stage.until_moves(page, [])
+        until_agrees(stage, page)
+        play(stage, page, second, QUEENS[:1], QUEENS_SANS[:1])
         same(page.tab.printed(), [])
 
 

@@ -67,7 +67,7 @@ export class Attending {
     this.goesOn();
   }
 
-  /** The game has other tags now: another process reads what is kept, and no line of it is heard again. */
+  /** The game has other tags now, or its board has another number: another process reads what is kept, and no line of it is heard again. */
   takeTags() {
     this.goesOn();
     this.attend();

@@ -141,6 +141,13 @@ export class Cable {
     this.hears.numbered(number);
   }
 
+  /** Another game has its board from now on. */
+  loses() {
+    this.number = '';
+    this.other = '';
+    this.told = '';
+  }
+
   /** From now on the board on the cable is the game's, with all that it has sent. */
   takeOther() {
     if (!this.other) return;

@@ -50,7 +50,8 @@ export class Recorder {
    * `kept` is what the database has: { board, game, chunks, times }; or, from a recorder that an error has ended before all
    * was kept, { board, game, capture, times }. `hears` gets says(text), changed(), placed() when the PGN
    * has changed, begun(game) with the last game when another one begins, and keeps(before) with the old capture when a
-   * new one was made; and cameBack() when its board was away and is heard again. It answers owner(number) and lends(number, heard).
+   * new one was made; and cameBack() when its board was away and is heard again. It answers owner(number) and lends(number, heard),
+   * and gets takes(number) when this game gets the board that another one has had.
    */
   constructor(hall, guard, kept, hears) {
     this.calls = hall.calls; // of the program
@@ -360,6 +361,14 @@ export class Recorder {
     return this.hears.lends(number, bytes);
   }
 
+  /** Another game has its board from now on. So the program doesn't wait for that any more. */
+  loses() {
+    this.cable.loses();
+    this.knows({ serial: '' });
+    this.attending.takeTags();
+    this.hears.says('another game has its board now');
+  }
+
   // Alarms.
 
   /** Its cable may have been exchanged with those of the boards with these numbers. The program keeps the suspicions. */
@@ -398,6 +407,7 @@ export class Recorder {
     this.raised = [];
     this.happened(LOOKED);
     if (takes) {
+      this.hears.takes(this.cable.other);
       this.cable.takeOther();
       seen += `; the board with serial number ${this.cable.number} is recorded here`;
     }

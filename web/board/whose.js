@@ -5,15 +5,17 @@ import { lookAt } from '../game/looks.js';
 
 const WHERE = 'at the cable';
 
-/** Whether `ok` gives the board on the cable to this game, and not to its owner: a game with moves keeps its board. */
+/** Whether `ok` gives the board on the cable to this game, and not to its owner: a game with moves keeps its board until it is over. */
 export function mayTake(owner, hasMoves) {
-  return owner === null || !(owner.hasMoves || hasMoves);
+  return owner === null || owner.isOver || !(owner.hasMoves || hasMoves);
 }
 
 /** The message about a board with another number on the cable of a game. */
 export function another(own, shown, owner, hasMoves) {
-  if (owner === null) {
-    const has = `it has the board with serial number ${shown}, and not ${own}: what it sends is kept back`;
+  if (owner === null || owner.isOver) {
+    const whose = owner ? `of ${owner.name}, whose game is over, serial number` : 'with serial number';
+    const where = owner ? `goes to ${owner.name}` : 'is kept back';
+    const has = `it has the board ${whose} ${shown}, and not ${own}: what it sends ${where}`;
     return lookAt(WHERE, `${has}. Put the cables right; if this board is to be recorded here, ok takes it`, WHERE);
   }
   const has = `it has the board of ${owner.name}, serial number ${shown}, and not ${own}`;

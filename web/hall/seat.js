@@ -321,7 +321,13 @@ export class Seat {
 
   owner(number) {
     const other = this.hears.seatOf(number, this);
-    return other ? { name: `board ${other.id}`, hasMoves: other.recorder.course.plies.length > 0 } : null;
+    return other ? { name: `board ${other.id}`, hasMoves: other.hasMoves, isOver: other.isOver } : null;
+  }
+
+  /** Its game gets the board with this number, also if it was another one's. */
+  takes(number) {
+    const other = this.hears.seatOf(number, this);
+    if (other) other.guard.call(() => other.recorder.loses());
   }
 
   /** Gives what another board has sent to its game. Returns whether it has one. */
