@@ -113,7 +113,8 @@ def result_stands(folder: pathlib.Path) -> None:
 def result_and_set_up(folder: pathlib.Path) -> None:
     """A result is typed, and the pieces are set up before the ten seconds are over: the game has its result and all its moves, and
     the next one begins. A result that is typed then is refused, since that game has no move. One that is typed after a move of the
-    third game counts if it is typed twice, since the second has no result: it may be meant for that."""
+    third game counts if it is typed twice, since the second has no result: it may be meant for that. Once the third game is over, a result
+    is for it, and nobody is asked."""
     with Hall(folder) as stage:
         chosen = Chosen(stage)
         page, port = begin_in(stage, chosen)
@@ -141,6 +142,9 @@ def result_and_set_up(folder: pathlib.Path) -> None:
                  "if it is that of Anna - Ben-3, type 1-0 again")  # fmt: skip
         answered(stage, page, "1-0", "added by hand: the result 1-0 after 1... e5, 2 plies")
         until_text(stage, chosen, "Anna - Ben-3.pgn", "1. e4 e5 1-0")
+        stage.until(lambda: page.text("#state").endswith("over"), "the end of the third game")
+        answered(stage, page, "0-1", "added by hand: the result 0-1 after 1... e5, 2 plies")
+        until_text(stage, chosen, "Anna - Ben-3.pgn", "1. e4 e5 0-1")
         until_text(stage, chosen, "Anna - Ben-2.pgn", "1. d4 d5 *")
 
 

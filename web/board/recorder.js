@@ -10,10 +10,9 @@ import { dayOf } from '../game/names.js';
 import { ofLive } from '../game/options.js';
 import { hasAlone, newCourse, publishedOf, textOf } from '../game/reading.js';
 import { shortOf, shownOf, wordsOf } from '../game/report.js';
-import { ABSENT, Refused } from '../game/typed.js';
+import { Refused } from '../game/typed.js';
 import { ADDED, ASKED, BACK, BROUGHT, HEARD, LOOKED, OVER, REOPENED, SUSPECT, isOf, kept as foundIn } from '../game/times.js';
 import { reached } from '../game/way_back.js';
-import { THIS, UNPLAYED, whichGame } from '../game/which_game.js';
 import { cameBack } from '../hall/exchanged.js';
 import { Capture } from '../kept/capture.js';
 import { LARGEST } from '../kept/limit.js';
@@ -655,20 +654,6 @@ export class Recorder {
     this.wantText();
     this.hears.changed();
     await this.keepGame();
-  }
-
-  /**
-   * A result may be meant for the game before. Throws Refused if this game has no move yet. Returns a question if the game before
-   * has no result; else an empty text.
-   */
-  askWhichGame(outcome) {
-    const before = this.hears.gameBefore;
-    const meant = whichGame(this.course.plies.length, before && before.isUnended);
-    if (meant === THIS) return '';
-    const isThat = `If it is the result of ${before.name}, press ${outcome} beside that name`;
-    if (meant !== UNPLAYED) return `${before.name} has no result yet. ${isThat}; if it is that of ${this.game.name}, type ${outcome} again`;
-    const how = before.isUnended ? `. ${isThat}` : '';
-    throw new Refused(`${this.game.name} has no move yet, so it has no result${how}. If a player hasn't come, type ${ABSENT}`);
   }
 
   /**

@@ -8,8 +8,9 @@ import { shortOfLook } from '../game/looks.js';
 import { optionsOf } from '../game/options.js';
 import { NO_PLIES, gameOf } from '../game/reading.js';
 import { shortOf } from '../game/report.js';
-import { Asked, HELP, Refused, readWords, refusal } from '../game/typed.js';
+import { ABSENT, Asked, HELP, Refused, readWords, refusal } from '../game/typed.js';
 import { AS_IT_IS, CUT, REFUSED, askedOf, isStillShown, playedSince, question, reached, readBack, refuseBack, refuseNothing, settled, takenUp, wordsOfBack } from '../game/way_back.js';
+import { THIS, UNPLAYED, whichGame } from '../game/which_game.js';
 import { DISK_FULL } from './state.js';
 
 const TRIES = 4; // calls for one line, if the board sends something while each of them runs; the last one lets it wait
@@ -172,7 +173,7 @@ export class Typing {
       if (said.kind === 'board' && result !== '*') return INSTEAD;
       const played = plies.map(({ san }) => san);
       if (!put) throw refuse(said, text, whoseMove(recorder.options.fen, played, text, Number(said.words[0])));
-      const asks = said.kind === 'result' && !isForfeit ? recorder.askWhichGame(said.words[0]) : '';
+      const asks = said.kind === 'result' && !isForfeit ? this.whichGame(said.words[0]) : '';
       if (asks && asks !== asked) throw new Asked(asks);
       if (recorder.isOver) {
         const { end } = recorder.game;
@@ -193,6 +194,21 @@ export class Typing {
   }
 
   /**
+   * A result may be meant for the game before, unless this one is over. Throws Refused if this game has no move yet. Returns a question
+   * if the game before has no result; else an empty text.
+   */
+  whichGame(outcome) {
+    const { course, hears, isOver, name } = this.recorder;
+    const before = hears.gameBefore;
+    const meant = isOver ? THIS : whichGame(course.plies.length, before && before.isUnended);
+    if (meant === THIS) return '';
+    const isThat = `If it is the result of ${before.name}, press ${outcome} beside that name`;
+    if (meant !== UNPLAYED) return `${before.name} has no result yet. ${isThat}; if it is that of ${name}, type ${outcome} again`;
+    const how = before.isUnended ? `. ${isThat}` : '';
+    throw new Refused(`${name} has no move yet, so it has no result${how}. If a player hasn't come, type ${ABSENT}`);
+  }
+
+  /**
    * Gives a result in the place of that of the kings, which is taken off first: the capture has them in the centre. Refused while they
    * still stand there. A game that is over stays over.
    */
@@ -201,7 +217,7 @@ export class Typing {
     const outcome = await resultIn(recorder.calls, text);
     if (!outcome) throw refuse({ kind: 'board', words: [] }, text, '');
     if (recorder.isOver) return this.replaceAfter(outcome);
-    const asks = recorder.askWhichGame(outcome);
+    const asks = this.whichGame(outcome);
     if (asks && asks !== asked) throw new Asked(asks);
     recorder.hears.says(await this.takeOff('*'));
     return this.addUnless(asks, text, isForfeit);
