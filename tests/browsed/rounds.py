@@ -191,6 +191,41 @@ def first_move_on_the_board(folder: pathlib.Path) -> None:
         same([[game["White"], game["moves"]] for game in told], [["Anna", "1. e4 *"], ["Carl", "1. d4 *"], ["Carl", "1. d4 d5 *"]])
 
 
+@with_chromium
+def next_of_none(folder: pathlib.Path) -> None:
+    """Next game is pressed before the first move, once more than anybody needs: the game without a move is none, in no file, and nobody is
+    asked about it. The game before it is still the one before, also when the page is opened again."""
+    with Hall(folder) as stage:
+        chosen = Chosen(stage)
+        page, port = begin_in(stage, chosen)
+        page.type("Anna", "#white")
+        page.type("Ben", "#black")
+        chosen.choose(stage, page)
+        until_agrees(stage, page)
+        page.click("#next-game")
+        stage.until(lambda: any(line.endswith("Anna - Ben-2 begins") for line in page.messages), "the second game")
+        until_agrees(stage, page)
+        stage.rest(1)
+        same((page.shows("#before-game"), chosen.files), (False, {}))
+        page.click("#save-round")
+        stage.until_part(page, "#notices", "nothing was saved")
+        play(stage, page, port, RUY[:2], RUY_SANS[:2])
+        same("same names" in page.text("#notices"), False)
+        port.board.set_up([])
+        stage.until_moves(page, [])
+        until_agrees(stage, page)
+        page.click("#next-game")
+        stage.until(lambda: any(line.endswith("Anna - Ben-4 begins") for line in page.messages), "the fourth game")
+        play(stage, page, port, QUEENS[:2], QUEENS_SANS[:2])
+        for is_again in (False, True):
+            if is_again:
+                stage.open(page)
+                stage.enlarge(page, 1)
+                stage.until_moves(page, QUEENS_SANS[:2])
+            stage.until_part(page, "#before-which", "The game before, Anna - Ben-2, has no result")
+            same([game["moves"] for game in games(stage.saved(page, "#save-round"))], ["1. e4 e5 *", "1. d4 d5 *"])
+
+
 GARBLED = bytes([0x86, 0, 67]) + bytes([16]) * 64  # no dump: the last code is 15
 
 

@@ -1,5 +1,5 @@
 /** Games that aren't played: how that is typed, and when it counts. */
-import { countingForfeit, tagsOfForfeit, typedForfeit, whyPlayed } from "/web/game/forfeits.js";
+import { countingForfeit, isEmpty, tagsOfForfeit, typedForfeit, whyPlayed } from "/web/game/forfeits.js";
 
 export function forfeits(counts, cases) {
   for (const [text, expected] of cases("typed")) {
@@ -11,6 +11,11 @@ export function forfeits(counts, cases) {
   for (const [kind, plies, result, expected] of cases("played")) {
     counts.same(`${kind} after ${plies} ${result}`, whyPlayed(kind, plies, result), expected);
   }
+  for (const [kind, moves, result, expected] of cases("empty")) {
+    const text = `[Event "?"]\n[Result "${result}"]\n\n${moves} ${result}\n\n`;
+    counts.same(`${kind} ${moves} ${result} counts as none`, isEmpty(kind, text), expected);
+  }
+  counts.same("no text", isEmpty("", ""), true);
   counts.same("the tag", tagsOfForfeit("+-"), { Termination: "rules infraction" });
   counts.same("no tag", tagsOfForfeit(""), {});
 }

@@ -56,6 +56,11 @@ export function forfeitOf(kind, pgn) {
   return countingForfeit(kind, isUnplayed(pgn) ? 0 : 1, result);
 }
 
+/** Whether the game with this text, of which a forfeit may be kept, is none: it has no move and no result, and no forfeit counts. */
+export function isEmpty(kind, pgn) {
+  return isUnplayed(pgn) && !forfeitOf(kind, pgn) && (!pgn || /^\[Result "\*"\]$/m.test(pgn));
+}
+
 /** Why a game with so many plies and this result can't be the one that is forfeited; empty if it can. */
 export function whyPlayed(kind, plies, result) {
   if (plies > 0) return `the game has moves, so it isn't a forfeit: ${kind === BOTH ? BOTH_LOSE : `type ${resultOf(kind)}`}`;

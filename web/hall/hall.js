@@ -207,7 +207,7 @@ export class Hall {
       },
       says: (one, text, isMove) => this.says(text, one.id, isMove),
       begun: (one, before) => {
-        this.folders.finishes(before);
+        if (one.finished.includes(before) || before.filed) this.folders.finishes(before);
         this.changed();
       },
       keeps: (one, before) => this.folders.before(before).catch((error) => this.folders.trouble(error.message)),

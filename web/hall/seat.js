@@ -6,7 +6,7 @@ import { joined } from '../device/protocol.js';
 import { lockedDevice, systemOf } from '../device/systems.js';
 import { ISNT_OVER } from '../game/afterwards.js';
 import { dayOf } from '../game/names.js';
-import { forfeitOf, isUnplayed, wordsOfForfeit } from '../game/forfeits.js';
+import { isEmpty, wordsOfForfeit } from '../game/forfeits.js';
 import { optionsOf } from '../game/options.js';
 import { newCourse, textOf } from '../game/reading.js';
 import { Front } from '../kept/capture.js';
@@ -75,7 +75,7 @@ export class Seat {
       const sent = bytes.slice(0, game.end === null ? bytes.length : game.end);
       const times = textOfTimes((await this.readTimes(game.id)) || []);
       const pgn = await textOf(calls, game.options, sent, game.forfeit);
-      if (!guard.ended && (!isUnplayed(pgn) || forfeitOf(game.forfeit, pgn))) this.finished.push({ ...game, bytes, times, pgn });
+      if (!guard.ended && !isEmpty(game.forfeit, pgn)) this.finished.push({ ...game, bytes, times, pgn });
     }
   }
 
@@ -299,7 +299,7 @@ export class Seat {
   }
 
   begun(before) {
-    if (before.pgn) this.finished.push(before);
+    if (!isEmpty(before.forfeit, before.pgn)) this.finished.push(before);
     this.hears.begun(this, before);
   }
 
