@@ -7,9 +7,9 @@ import random
 import re
 from typing import List
 
-from browsed.games import RUY, RUY_SANS, begin, of_record, play, until_agrees
+from browsed.games import RUY, RUY_SANS, answered, begin, of_record, play, until_agrees
 from browsed.hall import Hall, Port
-from browsed.page import Page
+from browsed.page import DATABASE, Page
 from browsed.stage import with_chromium
 from played.games import PARIS
 from played import unkilled
@@ -158,3 +158,37 @@ def two_tabs(folder: pathlib.Path) -> None:
         text, capture = stage.saved(other, "#save-game"), stage.saved(other, "#save-capture")
         same(text, of_record(text, capture))
         same(port.was_shared, False)
+
+
+# How many boards, games and captures from before a way back are kept, and of how many games there is anything else.
+LEFT = DATABASE.format(body="""
+const keys = (name) => read(name, (store) => store.getAllKeys());
+const counts = await Promise.all(['boards', 'games', 'before'].map(async (name) => (await keys(name)).length));
+const others = [...(await keys('chunks')).map(([game]) => game), ...(await keys('settings')).filter(Array.isArray).map(([, game]) => game)];
+return [...counts, new Set(others).size];
+""")
+
+
+@with_chromium
+def removed_with_its_games(folder: pathlib.Path) -> None:
+    """A board is removed: its games are gone from the browser, with what was kept as plies were taken off. Those of another board stay."""
+    with Hall(folder) as stage:
+        page = stage.tab()
+        for _ in range(2):
+            port = stage.board()
+            stage.show_all(page) if page.shows("#back") else None
+            stage.add(page, port)
+            stage.enlarge(page, port.number)
+            until_agrees(stage, page)
+            play(stage, page, port, RUY[:2], RUY_SANS[:2])
+            port.board.lift("e1")
+            stage.until_dumped(page, port)
+            answered(stage, page, "back 1. e4", "back to 1. e4; taken off: 1... e5")
+        stage.until(lambda: page.value(LEFT) == [2, 2, 2, 2], "what is kept of two boards")
+        page.click("#remove")
+        page.click("#remove")
+        stage.until_none_is_large(page)
+        stage.until(lambda: page.value(LEFT) == [1, 1, 1, 1], "what is kept of one board")
+        stage.open(page)
+        stage.enlarge(page, 1)
+        stage.until_moves(page, RUY_SANS[:1])

@@ -720,6 +720,17 @@ export class Recorder {
     this.hears.changed();
   }
 
+  /** Nothing more is kept while this is done, which ends the recording; unless it fails. */
+  async keepsNothing(work) {
+    await this.typing.exclusively(async () => {
+      await this.times.hold();
+      await work().catch((error) => {
+        this.times.goOn();
+        throw error;
+      });
+    });
+  }
+
   // How it is recorded.
 
   stop() {

@@ -248,13 +248,9 @@ export class Hall {
 
   /** Removes a board, with its games, or a capture. If the browser can't, the board is recorded as before. */
   async remove(seat) {
-    if (!seat.isCapture) {
-      const games = (await this.database.games()).filter(({ board }) => board === seat.id);
-      await this.database.removeBoard(seat.id, games.map(({ id }) => id));
-    }
+    if (!seat.isCapture) await seat.remove();
     this.seats.delete(seat.id);
     if (!seat.isCapture) {
-      seat.close();
       const name = `dgt_recorder board ${seat.id}`;
       if (this.locks.has(name)) this.locks.get(name)();
       this.locks.delete(name);

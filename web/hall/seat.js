@@ -338,7 +338,17 @@ export class Seat {
     return true;
   }
 
-  close() {
+  /** Removes it and its games from what is kept: it keeps nothing more. If the browser can't, it is recorded as before. */
+  async remove() {
+    const { recorder } = this;
+    if (recorder) await recorder.keepsNothing(() => this.removeKept());
+    else await this.removeKept();
+  }
+
+  async removeKept() {
+    const { database } = this.hall;
+    const games = (await database.games()).filter(({ board }) => board === this.id);
+    await database.removeBoard(this.id, games.map(({ id }) => id));
     this.guard.end();
   }
 }

@@ -176,15 +176,22 @@ export class Database {
     return key;
   }
 
-  /** Removes a board and its games. */
+  /** Removes a board and its games, with what was taken off them. */
   removeBoard(id, games) {
-    return this.change(['boards', 'games', 'chunks', 'settings'], (transaction) => {
+    return this.change(['boards', 'games', 'chunks', 'before', 'settings'], (transaction) => {
       transaction.objectStore('boards').delete(id);
       for (const game of games) {
         transaction.objectStore('games').delete(game);
         transaction.objectStore('chunks').delete(chunksOf(game));
         for (const what of [TIMES, OTHER_TIMES]) transaction.objectStore('settings').delete(settingsOf(what, game));
       }
+      const old = transaction.objectStore('before').openCursor();
+      old.onsuccess = () => {
+        const cursor = old.result;
+        if (!cursor) return;
+        if (games.includes(cursor.value.game)) cursor.delete();
+        cursor.continue();
+      };
     });
   }
 
