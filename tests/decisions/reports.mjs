@@ -1,7 +1,7 @@
 /** Lines of the program's report: what each is, and what they come to. */
 import { pictureOfPlacement } from "/web/device/protocol.js";
 import { Course, clocksOf } from "/web/game/course.js";
-import { lineOf, shownOf, wordsOf } from "/web/game/report.js";
+import { lineOf, shownOf } from "/web/game/report.js";
 
 const START = pictureOfPlacement("rnbqkbnr/pppppppp/8/8/8/8/PPPPPPPP/RNBQKBNR");
 
@@ -24,21 +24,21 @@ function courseOf(texts) {
   return course;
 }
 
-const OF_LIVE = ["standing", "changed at", "stands at start", "has agreed", "stood again"]; // a state, or a game's end, which live says
+// A state, or a game's end, which live says; and what is still to be reported, which the page reports line by line.
+const NOT_HERE = ["standing", "changed at", "stands at start", "has agreed", "stood again", "news"];
 
 function lookedAt(course) {
   return {
     moves: course.plies.map((ply) => ply.san),
     positions: course.fens,
     result: course.result,
-    news: course.news.filter((event) => event.kind !== "recovered").map(wordsOf),
   };
 }
 
 export function courses(counts, cases) {
   for (const [name, texts, expected] of cases("courses")) {
     const seen = lookedAt(courseOf(texts));
-    for (const [what, value] of Object.entries(expected).filter(([what]) => !OF_LIVE.includes(what))) {
+    for (const [what, value] of Object.entries(expected).filter(([what]) => !NOT_HERE.includes(what))) {
       counts.same(`${name}: ${what}`, seen[what], value);
     }
   }

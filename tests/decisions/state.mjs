@@ -1,7 +1,5 @@
-/** How long a state has lasted, in words, and the picture of a dump. What a board's state is, the program decides. */
+/** How long a state has lasted, in words. What a board's state is, the program decides. */
 import { Kind, lasting } from "/web/board/state.js";
-import { pictureOfDump, pictureOfPlacement } from "/web/device/protocol.js";
-import { bytesOf } from "./table.mjs";
 
 export function times(counts, cases) {
   for (const [seconds, text] of cases("lasting")) {
@@ -9,10 +7,4 @@ export function times(counts, cases) {
   }
   const alarms = Object.values(Kind).filter((kind) => kind === kind.toUpperCase());
   counts.same("kinds that are alarms", alarms, ["WRONG", "NO START", "SILENT", "UNPLUGGED"]);
-}
-
-export function dumps(counts, cases) {
-  for (const [name, shown] of cases("turned round")) {
-    counts.same(`a dump's picture, ${name}`, pictureOfDump(bytesOf(`rotated:${shown}`), true), pictureOfPlacement(shown));
-  }
 }

@@ -1,5 +1,5 @@
 /** Tags: which values they may have, and the text of a game as it is published. */
-import { pairOf, published, valueOf } from "/web/game/tags.js";
+import { published, valueOf } from "/web/game/tags.js";
 
 export function texts(counts, cases) {
   for (const [recorded, tags, expected] of cases("published")) {
@@ -13,11 +13,5 @@ export function values(counts, cases) {
   }
   for (const [name, typed, expected] of cases("malformed")) {
     counts.same(`${name} ${typed}`, counts.refused(typed, "Malformed", () => valueOf(name, typed)), expected);
-  }
-  for (const [typed, name, value] of cases("typed pairs")) {
-    counts.same(typed, pairOf(typed), [name, value]);
-  }
-  for (const [typed, expected] of cases("no pairs")) {
-    counts.same(typed, counts.refused(typed, "Malformed", () => pairOf(typed)), expected);
   }
 }

@@ -9,7 +9,7 @@ import { textOfLook } from '../game/looks.js';
 import { dayOf } from '../game/names.js';
 import { ofLive } from '../game/options.js';
 import { hasAlone, newCourse, publishedOf, textOf } from '../game/reading.js';
-import { shortOf, shownOf, wordsOf } from '../game/report.js';
+import { shownOf, wordsOf } from '../game/report.js';
 import { Refused } from '../game/typed.js';
 import { ADDED, ASKED, BACK, BROUGHT, HEARD, LOOKED, OVER, REOPENED, SUSPECT, isOf, kept as foundIn } from '../game/times.js';
 import { reached } from '../game/way_back.js';
@@ -167,7 +167,6 @@ export class Recorder {
     this.next.hear(line);
     if (this.isOver && offset >= this.game.end) return;
     this.course.take(line);
-    this.course.news.length = 0; // it is reported below
     if (isOld || offset >= this.endsAt) return;
     if (event.kind === 'recovered') {
       this.hears.says(`${event.text}: look whether these moves were played`);

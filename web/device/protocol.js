@@ -2,7 +2,6 @@
 
 export const DUMP_ID = 0x86;
 export const DUMP_SIZE = 67;
-const HEADER = 3; // bytes of a frame before its data
 
 export const LETTERS = '.PRNBKQprnbkq*'; // by piece code; `*` is one of the codes 13 to 15, which no position has
 /** The squares by number: a8 is 0, h8 is 7, h1 is 63. */
@@ -12,12 +11,6 @@ export const SQUARES = [...'87654321'].flatMap((rank) => [...'abcdefgh'].map((fi
 export function dumpsIn(made) {
   const starts = [...made.keys()].filter((at) => made[at] === DUMP_ID && at + DUMP_SIZE <= made.length);
   return starts.map((at) => made.slice(at, at + DUMP_SIZE));
-}
-
-/** The picture that a complete dump shows: field by field; field n of a rotated board is square 63 - n. */
-export function pictureOfDump(frame, rotated) {
-  const fields = [...frame].slice(HEADER);
-  return rotated ? fields.reverse() : fields;
 }
 
 /**

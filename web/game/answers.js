@@ -75,7 +75,7 @@ function howWritten(word, meant) {
  * Nf3`.
  */
 export function whoseMove(fen, played, line, before) {
-  const words = line.split(/\s+/u).map((word) => word.replace(NUMBER, '')).filter((word) => word && !/^[0-9]+$/.test(word));
+  const words = line.split(/\s+/u).map((word) => word.replace(NUMBER, '')).filter((word) => word);
   const sans = [...played, ...words.slice(0, before)];
   const fields = (fen || '').split(' ').filter((field) => field);
   const first = 2 * (Number(fields[5]) || 1) + (fields[1] === 'b' ? 1 : 0);

@@ -27,7 +27,7 @@ export function entryOf(at, word, given = null) {
 
 /** The answer before any line of it is read. `game` is the PGN, as bytes, if it was asked for. */
 function noAnswer() {
-  const none = { handling: '', other: '', number: '', asks: '', isFull: false, end: null, state: null, due: null };
+  const none = { handling: '', other: '', number: '', asks: '', end: null, state: null, due: null };
   return { kept: new Uint8Array(0), game: null, report: [], looks: [], ...none };
 }
 
@@ -118,8 +118,6 @@ export class Answers {
       [answer.number] = rest;
     } else if (word === 'ask') {
       [answer.asks] = rest;
-    } else if (word === 'full') {
-      answer.isFull = true;
     } else if (word === 'look') {
       answer.looks.push(readLook(rest.join(' ')));
     } else if (word === 'state') {
@@ -131,7 +129,7 @@ export class Answers {
     } else if (word === 'done') {
       answer.due = spanOf(rest[0]);
       return true;
-    } else {
+    } else if (word !== 'full') { // the recorder knows that by the size of the capture
       throw new NoAnswer(`live wrote: ${line.slice(0, 60)}`);
     }
     return false;

@@ -9,10 +9,8 @@ export class Course {
     this.fens = []; // of the start and after each ply, as far as they are reported
     this.result = '*';
     this.resultAt = -1; // the offset of the last line about it
-    this.recovered = []; // the pairs that were recovered
     this.placement = ''; // what the board shows
     this.clock = null; // what the clocks show, as far as it is reported
-    this.news = []; // the reported lines of the game: its changes, and the pairs before them
   }
 
   /** The next line. */
@@ -24,9 +22,6 @@ export class Course {
       this.fens.push(event.fen);
     } else if (event.kind === 'clock') {
       this.clock = event;
-    } else if (event.kind === 'recovered') {
-      this.recovered.push(event.text);
-      this.news.push(event);
     } else if (event.kind === 'move' || event.kind === 'result') {
       this.takeChange(event, offset);
     }
@@ -38,7 +33,6 @@ export class Course {
   }
 
   takeChange(change, offset) {
-    this.news.push(change);
     if (change.kind === 'result') {
       this.result = change.outcome;
       this.resultAt = offset;

@@ -1,19 +1,8 @@
-// The tags of a published game, in UTF-8: which tags there are, what values they may have, and the text with them.
-// Pure.
+// The tags of a published game, in UTF-8: what values they may have, and the text with them. Pure.
 //
 // `record` writes seven tags in ASCII. Its movetext stays as it is, after tag pairs that are written anew.
 
 const ROSTER = ['Event', 'Site', 'Date', 'Round', 'White', 'Black', 'Result']; // the first tags, in order
-const OF_PLAYER = ['Title', 'Elo', 'FideId', 'Team', 'Fed', 'USCF', 'NA', 'Type']; // after White and Black
-// The other tags of the PGN standard and those that broadcasts have added; but not those that come from the game
-// itself.
-const OTHERS = [
-  ...['White', 'Black'].flatMap((side) => OF_PLAYER.map((name) => side + name)),
-  ...['Board', 'TimeControl', 'EventDate', 'EventSponsor', 'EventType', 'EventRounds', 'EventCountry', 'Section', 'Stage'],
-  ...['Time', 'UTCTime', 'UTCDate', 'Mode', 'Annotator', 'Source', 'ECO', 'NIC', 'Opening', 'Variation', 'SubVariation'],
-  ...['GameId', 'BroadcastName', 'BroadcastURL', 'StudyName', 'ChapterName', 'WhiteClub', 'BlackClub'],
-];
-const BY_NAME = new Map([...ROSTER.slice(0, -1), ...OTHERS].map((name) => [name.toLowerCase(), name]));
 const GAME_SAYS = ['Result', 'FEN', 'SetUp', 'PlyCount', 'Termination', 'Variant'];
 const LONGEST_VALUE = 255; // characters of a value, as PGN has it
 const TITLES = ['GM', 'IM', 'FM', 'CM', 'WGM', 'WIM', 'WFM', 'WCM', 'AGM', 'AIM', 'AFM', 'ACM', 'NM', 'WNM', 'LM'];
@@ -47,11 +36,6 @@ export function cleaned(text) {
 /** Whether each character can be printed, except those that join letters. */
 export function isSeen(text) {
   return [...text].every((letter) => letter === ' ' || JOINERS.includes(letter) || !/^[\p{C}\p{Z}]$/u.test(letter));
-}
-
-/** The tag with this name, in any case; null if no such tag may be given. */
-export function knownName(text) {
-  return BY_NAME.get(text.trim().toLowerCase()) || null;
 }
 
 /** The published value of a tag; empty if there is none. Throws Malformed if the tag can't have it. */
@@ -166,23 +150,4 @@ export function published(recorded, tags, says = {}) {
   const others = [...values.keys()].filter((name) => !ROSTER.includes(name)).sort();
   const lines = [...ROSTER, ...others].map((name) => `[${name} "${escaped(values.has(name) ? values.get(name) : '?')}"]`);
   return lines.join('\n') + recorded.slice(head.length);
-}
-
-/** The name and the value of `NAME=VALUE`, as somebody types a tag. Throws Malformed if it is none. */
-export function pairOf(text) {
-  const at = text.indexOf('=');
-  if (at < 0) throw new Malformed(`'${text}' has no =: type NAME=VALUE, as WhiteElo=2050`);
-  const name = text.slice(0, at);
-  const known = knownName(name);
-  if (known === null) {
-    const isGames = GAME_SAYS.some((other) => other.toLowerCase() === name.trim().toLowerCase());
-    if (isGames) throw new Malformed(`${name.trim()} is what the game says, and can't be given`);
-    const how = 'type one that PGN knows, as WhiteElo, WhiteTitle, WhiteFideId, TimeControl';
-    throw new Malformed(`there is no tag '${name.trim()}': ${how}`);
-  }
-  try {
-    return [known, valueOf(known, text.slice(at + 1))];
-  } catch (error) {
-    throw error instanceof Malformed ? new Malformed(`${known}: ${error.message}`) : error;
-  }
 }
