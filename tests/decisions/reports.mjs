@@ -1,9 +1,6 @@
 /** Lines of the program's report: what each is, and what they come to. */
-import { pictureOfPlacement } from "/web/device/protocol.js";
 import { Course, clocksOf } from "/web/game/course.js";
 import { lineOf, shownOf } from "/web/game/report.js";
-
-const START = pictureOfPlacement("rnbqkbnr/pppppppp/8/8/8/8/PPPPPPPP/RNBQKBNR");
 
 export function lines(counts, cases) {
   for (const [text, expected] of cases("lines")) {
@@ -19,7 +16,7 @@ export function lines(counts, cases) {
 }
 
 function courseOf(texts) {
-  const course = new Course(START);
+  const course = new Course();
   texts.map(lineOf).forEach((line) => line && course.take(line));
   return course;
 }

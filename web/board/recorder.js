@@ -4,11 +4,12 @@
 import { joined } from '../device/protocol.js';
 import { ISNT_OVER, corrected, wentOn } from '../game/afterwards.js';
 import { Alarms, acknowledged } from '../game/alarms.js';
+import { Course } from '../game/course.js';
 import { countingForfeit } from '../game/forfeits.js';
 import { textOfLook } from '../game/looks.js';
 import { dayOf } from '../game/names.js';
 import { ofLive } from '../game/options.js';
-import { hasAlone, newCourse, publishedOf, textOf } from '../game/reading.js';
+import { hasAlone, publishedOf, textOf } from '../game/reading.js';
 import { shownOf, wordsOf } from '../game/report.js';
 import { Refused } from '../game/typed.js';
 import { ADDED, ASKED, BACK, BROUGHT, HEARD, LOOKED, OVER, REOPENED, SUSPECT, isOf, kept as foundIn } from '../game/times.js';
@@ -142,7 +143,7 @@ export class Recorder {
   reread() {
     this.old = this.attending.known; // bytes whose report isn't news
     this.isOld = true;
-    this.course = newCourse(this.options);
+    this.course = new Course();
     this.alarms = new Alarms(this.game.looks);
     this.next.readAgain();
     this.endsAt = Infinity; // how many bytes are the game's, once the program has said so

@@ -2,8 +2,7 @@
 
 /** The moves of a game with their positions, its result, and what the board shows. */
 export class Course {
-  constructor(start) {
-    this.start = start; // its picture
+  constructor() {
     this.plies = [];
     this.settledAt = []; // the offset of the last line about each ply
     this.fens = []; // of the start and after each ply, as far as they are reported

@@ -1,10 +1,10 @@
 // The course of a game of given bytes, and its text, by calls of the program.
 
-import { dumpsIn, joined, pictureOfPlacement } from '../device/protocol.js';
+import { dumpsIn, joined } from '../device/protocol.js';
 import { readAnswer } from './answers.js';
 import { Course } from './course.js';
 import { forfeitOf, tagsOfForfeit } from './forfeits.js';
-import { ofBoard, ofRecord, startOf } from './options.js';
+import { ofBoard, ofRecord } from './options.js';
 import { ProgramError } from './program.js';
 import { lineOf } from './report.js';
 import { published } from './tags.js';
@@ -12,14 +12,9 @@ import { readBack, refuseBack } from './way_back.js';
 
 export const NO_PLIES = '0';
 
-/** The course of a game of which nothing is reported yet. */
-export function newCourse(options) {
-  return new Course(pictureOfPlacement(startOf(options)));
-}
-
 /** The course of a game of these bytes. */
 export async function gameOf(program, options, sent) {
-  const course = newCourse(options);
+  const course = new Course();
   for (const text of await program.lines(['watch', ...ofBoard(options)], await program.whole(options, sent))) {
     const line = lineOf(text);
     if (line) course.take(line);

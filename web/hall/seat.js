@@ -5,10 +5,11 @@ import { mendOfOver, resting, standing, viewOf } from '../board/view.js';
 import { joined } from '../device/protocol.js';
 import { lockedDevice, systemOf } from '../device/systems.js';
 import { ISNT_OVER } from '../game/afterwards.js';
-import { dayOf } from '../game/names.js';
+import { Course } from '../game/course.js';
 import { isEmpty, wordsOfForfeit } from '../game/forfeits.js';
+import { dayOf } from '../game/names.js';
 import { optionsOf } from '../game/options.js';
-import { newCourse, textOf } from '../game/reading.js';
+import { textOf } from '../game/reading.js';
 import { Front } from '../kept/capture.js';
 import { textOf as textOfTimes } from '../kept/times.js';
 import { Guard } from '../guard.js';
@@ -256,7 +257,7 @@ export class Seat {
     const { recorder } = this;
     if (!recorder) {
       const none = { options: optionsOf(), name: '' };
-      return this.trouble ? viewOf(this.id, none, newCourse(none.options), this.standing(now)) : null;
+      return this.trouble ? viewOf(this.id, none, new Course(), this.standing(now)) : null;
     }
     const isRead = !recorder.isOld || this.trouble || recorder.trouble;
     if (this.view && !isRead) return this.view; // while a game is read anew, what was shown stays
