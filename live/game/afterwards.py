@@ -32,8 +32,8 @@ def is_read_anew(stood: str, start: str, plies: int) -> bool:
 
 
 def is_set_up(shown: str, start: str, plies: int) -> bool:
-    """Whether a board whose game is over, with so many plies, was set up for another one, since it shows the start. A game without a move
-    stands there itself: a piece that somebody has set straight is no set-up, and what is played from the start may be that game."""
+    """Whether a board whose game is over, with so many plies, was set up for another one: it shows the start. A game without a move stands
+    at the start itself. There a piece was only set straight, and moves from there may be that game's."""
     return plies > 0 and shown == start
 
 
