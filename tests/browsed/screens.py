@@ -13,6 +13,8 @@ from played.stage import same
 
 PICTURES = os.environ.get("PICTURES")  # a folder that takes pictures of the screens
 SIZES = ((390, 844), (1366, 768), (1920, 1080))
+WIDE = ((1024, 768), *SIZES[1:])  # beside whose board there is room for the moves
+LOWER = "document.querySelector('#lower').getBoundingClientRect().bottom <= innerHeight"
 CONTROLS = {"button", "link", "textbox", "checkbox", "combobox", "spinbutton", "switch", "radio", "slider", "searchbox"}
 # What can be seen and used: the name of each, by its id where it has one.
 FOCUSABLE = """
@@ -91,7 +93,8 @@ def looked_at(stage: Hall, page: Page, name: str) -> None:
 
 @with_chromium
 def sizes(folder: pathlib.Path) -> None:
-    """390, 1366 and 1920 pixels wide, light and dark: nothing overflows, and every control has a name and can be reached."""
+    """390, 1366 and 1920 pixels wide, light and dark: nothing overflows, and every control has a name and can be reached. On a wide screen
+    the board is so large that both players are seen with it."""
     with Hall(folder) as stage:
         first, second = stage.board(), stage.board()
         page = stage.tab()
@@ -102,6 +105,11 @@ def sizes(folder: pathlib.Path) -> None:
         stage.enlarge(page, 1)
         until_agrees(stage, page)
         play(stage, page, first, RUY, RUY_SANS)
+        for width, height in WIDE:
+            page.tab.look(width, height)
+            page.value(DRAWN)
+            same((width, "both players are on the screen", page.value(LOWER)), (width, "both players are on the screen", True))
+        page.tab.look(1366, 768)
         page.type("Anna-Katharina von Hohenstein-Breitenfeld", "#white")
         page.type("Jörg", "#black")
         looked_at(stage, page, "board")

@@ -6,11 +6,20 @@ import { at, button } from './elements.js';
 
 const KEPT = 300; // lines
 
+/** The large board is so much smaller as these elements above it are high. */
+function leaveRoom(elements) {
+  const { style } = document.documentElement;
+  const observer = new ResizeObserver(() => {
+    const height = elements.reduce((sum, one) => sum + one.offsetHeight, 0);
+    style.setProperty('--above', `${height}px`);
+  });
+  elements.forEach((one) => observer.observe(one));
+}
+
 export class Messages {
   constructor() {
     this.notices = new Map();
-    const style = document.documentElement.style; // the large board leaves room for the notices
-    new ResizeObserver(() => style.setProperty('--notices', `${at('notices').offsetHeight}px`)).observe(at('notices'));
+    leaveRoom([document.querySelector('header'), at('notices')]);
   }
 
   /** A line, about a board if it has a number. */
