@@ -107,6 +107,7 @@ def sizes(folder: pathlib.Path) -> None:
         play(stage, page, first, RUY, RUY_SANS)
         for width, height in WIDE:
             page.tab.look(width, height)
+            page.value(DRAWN)
             stage.until(lambda: page.value(LOWER) is True, f"both players on a screen {width} pixels wide")
         page.tab.look(1366, 768)
         page.type("Anna-Katharina von Hohenstein-Breitenfeld", "#white")
