@@ -122,7 +122,7 @@ class Listening(AttendedGame):
                     return
 
     def _plays_from(self, start: FromTheStart, events: Sequence[Event], are_news: bool) -> None:
-        """These may be moves from the start. Those from before this call only count: somebody was told of them then."""
+        """Counts moves from the start. Nobody is told again of those from before this call."""
         looks = [look for look in map(start.take, events) if look]
         if looks and are_news:
             begins = f"if the game begins only now, type {self._screen.begins()}: it has these moves then"
