@@ -27,6 +27,7 @@ said_line typed.Mixed = codes "add: mixed\n"
 said_line (typed.Meant word number san) = codes "add: meant " ++ (word_text number word.now ++ (codes " " ++ (san.bytes ++ codes "\n")))
 said_line (typed.Illegal word number) = codes "add: illegal " ++ (word_text number word.now ++ codes "\n")
 said_line (typed.Unknown word number) = codes "add: unknown " ++ (word_text number word.now ++ codes "\n")
+said_line (typed.Misnumbered word number) = codes "add: misnumbered " ++ (word_text number word.now ++ codes "\n")
 
 abbrev pub answer_line : Answer → List ℕ
 answer_line (Added said added) = said_line said

@@ -80,6 +80,9 @@ fn said_line(alloc: Global, said: &Typed<'_>) -> Result<Vec<u8>, AllocError>
         }
         Typed::Illegal(word, number) => word_line(alloc, b"add: illegal ", *number, word),
         Typed::Unknown(word, number) => word_line(alloc, b"add: unknown ", *number, word),
+        Typed::Misnumbered(word, number) => {
+            word_line(alloc, b"add: misnumbered ", *number, word)
+        }
     }
 }
 

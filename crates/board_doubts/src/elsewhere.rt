@@ -52,7 +52,11 @@ fn is_missing(code: u8, position: u8, shown: u8, from: u8, to: u8) -> bool
     ensures { result ≡ (((position == code) && not (shown == position)) && can_go_of code from to) }
 {
     let is_away = both(position == code, differ(position, shown));
-    both(is_away, can_go(code, from, to))
+    if is_away {
+        can_go(code, from, to)
+    } else {
+        false
+    }
 }
 
 /// Whether a piece of this side that moved here isn't shown where it is in the position.

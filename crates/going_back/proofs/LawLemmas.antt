@@ -1,5 +1,5 @@
 -- The game of the new capture.
-use Rattle.std.proofs.Common.{◌≡◌, ℕ, Bool, false, List, Option, None, Some, reverse, sym, subst, ap, ◌∙◌}
+use Rattle.std.proofs.Common.{◌≡◌, ℕ, Bool, false, List, Option, None, Some, reverse, refl, sym, subst, ap, ◌∙◌}
 use Rattle.std.proofs.lemmas.List.{reverse-reverse}
 use Rattle.chess_rules.specs.declared.parts.Parts.{Parts}
 use Rattle.dgt_frame.specs.declared.events.Event.{Event}
@@ -19,7 +19,8 @@ use Rattle.board_events.specs.Game.{IsGameOf}
 use Rattle.board_events.specs.Settings.{Setting}
 use Rattle.board_events.specs.Session.{entries_in}
 use Rattle.going_back.specs.Back.{Gives}
-use Rattle.going_back.specs.Laws.{WhatStaysIsRecorded}
+use Rattle.unseen_pairs.specs.Pairs.{Explains}
+use Rattle.going_back.specs.Laws.{WhatStaysIsRecorded, WhatWentStaysAway}
 
 none_is_some : {P : Type 0} (outcome : Outcome) → None ≡ Some outcome → P
 none_is_some outcome h = absurd cc
@@ -52,3 +53,8 @@ recorded_so once folds = λ setting tags game past stay made events rest valid (
     let score-is : g.settler.score ≡ score_of game.plies k.sign =
     folds setting.start (deduplicated (entries_in setting (past_of events))) g.settler.score (score_of game.plies k.sign) valid (subst F events-are g.settled.folds) k.folds in
     stays_so setting false tags game past (past_of events) stay made g k score-is
+
+pub stays_away : WhatWentStaysAway
+stays_away setting past stay made shown waiting seen r place entry (is, g) last confirms explains same =
+    let E : List ℕ → Type 0 = λ picture. Explains setting.start (moves_of (reverse stay)) picture r.pair in
+    g.no_pair refl (shown, last, (r.pair, subst E same explains.explains))

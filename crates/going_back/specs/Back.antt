@@ -1,14 +1,16 @@
 -- A game that goes back to one of its plies. Plies stand in their order, events have the latest first.
-use Rattle.std.specs.Prelude.{◌≡◌, ◌⊎◌, ◌<◌, ◌+◌, ℕ, Bool, List, ◌∷◌, ◌++◌, Some, None, length}
+use Rattle.std.specs.Prelude.{◌≡◌, ◌⊎◌, ◌<◌, ◌+◌, ℕ, Bool, true, List, ◌∷◌, ◌++◌, Some, None, length, reverse}
 use Rattle.dgt_frame.specs.declared.events.Event.{Event}
 use Rattle.settle_core.specs.declared.plies.Ply.{Ply}
 use Rattle.settle_core.specs.Entries.{last_picture}
+use Rattle.settle_core.specs.Folding.{moves_of}
 use Rattle.settle_core.specs.GameResult.{IsResult}
 use Rattle.settle_core.specs.Settler.{SettlerState, HasSettled, plies_of, position_of}
 use Rattle.board_events.specs.History.{is_trusted, reading_at}
 use Rattle.board_events.specs.Limits.{limit}
 use Rattle.board_events.specs.Session.{entries_in}
 use Rattle.board_events.specs.Settings.{Setting}
+use Rattle.unseen_pairs.specs.Pairs.{IsExplained}
 use Rattle.pair_frames.specs.PutIn.{ShowsWhole}
 use Rattle.board_captures.specs.Reading.{IsRead, IsTooLong, StandAlike}
 use Rattle.board_captures.specs.Shown.{board_shown, game_shown, size_of_board, size_of_game}
@@ -37,8 +39,15 @@ Differs made stay Unseen = ⊥
 Differs made stay TooLong = ⊥
 Differs made stay Memory = ⊥
 
+-- What the board shows after these events may be taken for two plies that weren't shown, behind these plies or with
+-- another one in place of the last.
+abbrev pub ShowsPair : Setting → List Event → List Ply → Type 0
+ShowsPair setting past stay = (seen : List ℕ) × (last_picture (entries_in setting past) ≡ Some seen)
+    × IsExplained setting.start (moves_of (reverse stay)) seen
+
 -- `record` makes the game of this capture that has these plies, with their clocks, and no other, and no result; and
--- after it the board stands as after these events.
+-- after it the board stands as after these events. Where unseen pairs are recovered, what the board shows is no pair: so
+-- none comes back at the next move.
 pub record Gives (setting : Setting) (recovers : Bool) (past : List Event) (stay : List Ply) (made : List ℕ) : Type 0 where
   pub events : List Event
   pub read : IsRead setting recovers made events
@@ -46,14 +55,16 @@ pub record Gives (setting : Setting) (recovers : Bool) (past : List Event) (stay
   pub settled : HasSettled settler setting.start (entries_in setting events)
   pub front : HasFrontAlone settler stay
   pub board : StandAlike setting events past
+  pub no_pair : recovers ≡ true → ShowsPair setting past stay → ⊥
 
--- Of this capture it makes another game; or the board stands otherwise after it.
+-- Of this capture it makes another game; or the board stands otherwise after it, or shows a pair that would be recovered.
 pub record GivesOther (setting : Setting) (recovers : Bool) (past : List Event) (stay : List Ply) (made : List ℕ) (error : BackError) : Type 0 where
   pub events : List Event
   pub read : IsRead setting recovers made events
   pub settler : SettlerState
   pub settled : HasSettled settler setting.start (entries_in setting events)
-  pub why : Differs settler stay error ⊎ ((error ≡ Board) × (StandAlike setting events past → ⊥))
+  pub why : Differs settler stay error
+      ⊎ ((error ≡ Board) × ((StandAlike setting events past → ⊥) ⊎ ((recovers ≡ true) × ShowsPair setting past stay)))
 
 -- What is wrong with this capture.
 abbrev pub Spoils : Setting → Bool → List Event → List Ply → List ℕ → BackError → Type 0

@@ -1,15 +1,20 @@
 -- What `record` makes of the new capture of a game that went back. Plies stand in their order, events have the latest
 -- first.
-use Rattle.std.specs.Prelude.{◌≡◌, ℕ, false, List, None}
+use Rattle.std.specs.Prelude.{◌≡◌, ◌≢◌, ℕ, false, true, List, None, Some, reverse}
 use Rattle.chess_rules.specs.Valid.{Valid}
 use Rattle.dgt_frame.specs.declared.events.Event.{Event}
 use Rattle.dgt_frame.specs.Streams.{Shows, Timed}
 use Rattle.settle_core.specs.declared.plies.Ply.{Ply}
+use Rattle.settle_core.specs.Entries.{Entry, last_picture}
+use Rattle.settle_core.specs.Folding.{moves_of}
 use Rattle.chess_game.specs.Games.{Content}
 use Rattle.chess_game.specs.Values.{TagValues}
 use Rattle.board_events.specs.Commands.{past_of}
 use Rattle.board_events.specs.Game.{IsGameOf}
+use Rattle.board_events.specs.Session.{entries_in}
 use Rattle.board_events.specs.Settings.{Setting}
+use Rattle.unseen_pairs.specs.declared.pair.Recovery.{Recovery}
+use Rattle.unseen_pairs.specs.Pairs.{Confirms, ExplainsAt}
 use Rattle.going_back.specs.Back.{GoesBack}
 
 -- The game of the events that it shows has exactly the plies that stay, with their clocks, and no result.
@@ -21,3 +26,14 @@ WhatStaysIsRecorded = (setting : Setting) (tags : TagValues) (game : Content) (p
     → Shows made events rest
     → IsGameOf game setting tags (past_of events)
     → (game.plies ≡ stay) × (game.result ≡ None)
+
+-- What went stays away behind `recover`: as long as the game has these plies alone, whatever waits and whatever picture
+-- comes, no pair is put in for what the board showed when the game went back.
+abbrev pub WhatWentStaysAway : Type 0
+WhatWentStaysAway = (setting : Setting) (past : List Event) (stay : List Ply) (made shown : List ℕ) (waiting : List Entry)
+    (seen : List ℕ) (r : Recovery) (place : ℕ) (entry : Entry)
+    → GoesBack setting true past stay made
+    → last_picture (entries_in setting past) ≡ Some shown
+    → Confirms setting.start (moves_of (reverse stay)) waiting seen r
+    → ExplainsAt setting.start (moves_of (reverse stay)) waiting r.pair place entry
+    → entry.picture ≢ shown

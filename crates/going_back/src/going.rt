@@ -1,5 +1,5 @@
 //! The new capture of a game that goes back: made, read again, and compared.
-ghost use Rattle.std.specs.Prelude.{◌≡◌, ◌⊎◌, ◌↔◌, ◌<◌, ◌≤◌, ◌+◌, ◌++◌, All, List, Some, false, IfErr, IfOk, IsTrue, MatchOption, OnOk, length, slice_index_or, take};
+ghost use Rattle.std.specs.Prelude.{◌≡◌, ◌⊎◌, ◌↔◌, ◌<◌, ◌≤◌, ◌+◌, ◌++◌, All, List, Some, false, true, IfErr, IfOk, IsTrue, MatchOption, OnOk, length, slice_index_or, take};
 ghost use Rattle.dgt_frame.specs.declared.events.Event.{Event as EventOf};
 ghost use Rattle.board_events.specs.Limits.{limit};
 ghost use Rattle.board_events.specs.Settings.{Setting};
@@ -9,6 +9,7 @@ ghost use Rattle.settle_core.specs.Folding.{moves_of};
 ghost use Rattle.settle_core.specs.Settler.{plies_of};
 ghost use Rattle.settle_core.specs.Settling.{Line};
 ghost use Rattle.settle_core.specs.declared.plies.Ply.{Ply as PlyOf};
+ghost use Rattle.unseen_pairs.specs.Pairs.{IsExplained};
 ghost use Rattle.board_captures.specs.Reading.{StandAlike, StandsForCapture, setting_of};
 ghost use Rattle.board_captures.specs.Shown.{size_of_board, size_of_game};
 ghost use Rattle.going_back.specs.Back.{Differs, Gives, GoesBack, HasFrontAlone, IsMade, Refuses, Spoils};
@@ -20,6 +21,7 @@ use chess_rules::Move;
 use dgt_frame::LIMIT;
 use settle_core::{Outcome, Ply, Settler};
 use std::alloc::{AllocError, Global};
+use unseen_pairs::is_explained;
 
 /// Why a game can't go back so far.
 #[derive(Clone, Copy, Debug, PartialEq, Eq)]
@@ -32,7 +34,8 @@ pub enum BackError {
     Signed(Outcome),
     /// The board still shows this move, which is legal behind the plies that stay.
     Moved(Move),
-    /// With what the board shows, other plies would stay; or it wouldn't stand as it stood.
+    /// With what the board shows, other plies would stay; or it wouldn't stand as it stood; or, where pairs are
+    /// recovered, two plies would come back at the next move.
     Board,
     /// The new capture has more than 67,108,864 bytes, or it has with what is put in.
     TooLong,
@@ -125,6 +128,23 @@ fn stand_alike(captured: &Captured, picture: &[u8; 64], made: &Captured) -> bool
     is_picture(made.picture(), picture)
 }
 
+/// Whether pairs are recovered, and this picture would be taken for one behind the plies of a capture.
+fn shows_pair(
+    alloc: Global,
+    method: &Method,
+    made: &Captured,
+    picture: &[u8; 64],
+) -> Result<bool, AllocError>
+    ensures { IfOk result (λ pair. IsTrue pair ↔ ((method.now.recovers ≡ true)
+        × IsExplained made.now.session.settler.start (moves_of made.now.session.settler.score.plies) picture.now)) }
+{
+    if !method.recovers {
+        return Ok(false);
+    }
+    let pair = is_explained(alloc, made.session.settler(), picture)?;
+    Ok(pair)
+}
+
 /// Reads a new capture again, and compares it with what it is to give: these plies alone, without a result, and the
 /// board as it stood, with this picture.
 fn compare(
@@ -153,7 +173,11 @@ fn compare(
     if !stand_alike(captured, picture, &made) {
         return Err(BackError::Board);
     }
-    Ok(())
+    match shows_pair(alloc, method, &made, picture) {
+        Ok(false) => Ok(()),
+        Ok(true) => Err(BackError::Board),
+        Err(_) => Err(BackError::Memory),
+    }
 }
 
 /// The bytes that show these plies of what was captured, and then the board as it stands, with this picture.
@@ -212,7 +236,8 @@ fn is_too_large(plies: usize, trusted: bool) -> bool
 /// - `Ended`: the position with which the game would end is checkmate or stalemate: that is its result.
 /// - `Signed`: the board still shows the sign of this result.
 /// - `Moved`: the board still shows this move.
-/// - `Board`: with what the board shows, other plies would stay, or it would not stand as it stood.
+/// - `Board`: with what the board shows, other plies would stay, or it would not stand as it stood; or, where pairs are
+///   recovered, it shows two plies that would come back at the next move.
 /// - `TooLong`: the capture has more than 67,108,864 bytes, or it has with what is put in.
 /// - `Memory`: memory ran out.
 pub fn go_back(

@@ -1,5 +1,5 @@
 //! What holds of a game that went back.
-ghost use Rattle.going_back.specs.Laws.{WhatStaysIsRecorded};
+ghost use Rattle.going_back.specs.Laws.{WhatStaysIsRecorded, WhatWentStaysAway};
 
 use dgt_frame::laws::shows_once;
 use settle_core::laws::folds_once;
@@ -13,3 +13,8 @@ pub fn what_stays_is_recorded()
     // For its clause: the entries fold to one score.
     folds_once();
 }
+
+/// Behind `recover`, no pair is put in for what the board showed when the game went back.
+pub fn what_went_stays_away()
+    ensures { WhatWentStaysAway }
+{}

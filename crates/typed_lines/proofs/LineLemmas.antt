@@ -14,10 +14,8 @@ use Rattle.chess_rules.specs.Legal.{Legal}
 use Rattle.chess_text.specs.San.{San}
 use Rattle.settle_core.specs.Settling.{position_after}
 use Rattle.typed_lines.specs.Letters.{bare}
-use Rattle.typed_lines.specs.Words.{typed_words, without_number}
-use Rattle.typed_lines.specs.Lines.{HasMoveWords, AreMoves, ReadsLine, ReadsWords, WordSays, StopsAt}
-use Rattle.typed_lines.specs.declared.reading.Typed.{Typed}
-use Rattle.typed_lines.specs.declared.reading.Typed.TheVariants as typed
+use Rattle.typed_lines.specs.Words.{without_number}
+use Rattle.typed_lines.specs.Lines.{AreMoves, WordSays, StopsAt}
 use Rattle.typed_lines.specs.Spelling.{IsOnly, IsItsSan, IsReadAs, SpellsBy}
 use Rattle.typed_lines.specs.declared.spelling.Way.{Way}
 use Rattle.typed_lines.specs.declared.spelling.Way.TheVariants.{Piece, WithFile, WithRank, WithSquare, Squares}
@@ -148,17 +146,6 @@ map_split xs i d lt =
     ap (map (λ (word : Bor (List ℕ)). word.now)) whole ∙ map-append (λ (word : Bor (List ℕ)). word.now) (take i xs) (get_or xs i d ∷ drop (i + 1) xs)
 
 -- ---- lines
-
-pub line_of_words : {E : Type 0} (r : Result Typed E) (p : Parts) (text : List ℕ) (found : List (List ℕ)) → found ≡ typed_words text → IfOk r (ReadsWords p found) → HasMoveWords text → IfOk r (ReadsLine p text)
-line_of_words (Err e) p text found same reads has = tt
-line_of_words (Ok (typed.Result outcome)) p text found same reads has = absurd reads
-line_of_words (Ok typed.Reopens) p text found same reads has = absurd reads
-line_of_words (Ok typed.Nothing) p text found same reads has = absurd reads
-line_of_words (Ok typed.Mixed) p text found same reads has = absurd reads
-line_of_words (Ok (typed.Moves moves)) p text found same reads has = let P : List (List ℕ) → Type 0 = λ ws. ReadsWords p ws (typed.Moves moves) in (has, subst P same reads)
-line_of_words (Ok (typed.Meant word number san)) p text found same reads has = let P : List (List ℕ) → Type 0 = λ ws. ReadsWords p ws (typed.Meant word number san) in (has, subst P same reads)
-line_of_words (Ok (typed.Illegal word number)) p text found same reads has = let P : List (List ℕ) → Type 0 = λ ws. ReadsWords p ws (typed.Illegal word number) in (has, subst P same reads)
-line_of_words (Ok (typed.Unknown word number)) p text found same reads has = let P : List (List ℕ) → Type 0 = λ ws. ReadsWords p ws (typed.Unknown word number) in (has, subst P same reads)
 
 pub some_words : (items : List (Bor (List ℕ))) (words : List (List ℕ)) → map (λ (word : Bor (List ℕ)). word.now) items ≡ words → items ≢ [] → words ≢ []
 some_words [] words is some none = some refl

@@ -9,6 +9,7 @@ use Rattle.chess_text.specs.San.{San}
 use Rattle.settle_core.specs.Settling.{position_after}
 use Rattle.typed_lines.specs.Letters.{in_english, is_from, letters}
 use Rattle.typed_lines.specs.Words.{typed_words, without_number}
+use Rattle.typed_lines.specs.Numbers.{line_words, misnumbered}
 use Rattle.typed_lines.specs.Results.{result_of}
 use Rattle.typed_lines.specs.Spelling.{IsOnly}
 use Rattle.typed_lines.specs.declared.spelling.Manner.{Manner}
@@ -108,7 +109,10 @@ ReadsLine p text (typed.Result outcome) = result_of text ≡ Some outcome
 ReadsLine p text typed.Reopens = (result_of text ≡ None) × (is_star (typed_words text) ≡ true)
 ReadsLine p text typed.Nothing = (result_of text ≡ None) × (typed_words text ≡ [])
 ReadsLine p text typed.Mixed = (result_of text ≡ None) × (is_star (typed_words text) ≡ false) × (list_any stands_alone (typed_words text) ≡ true)
-ReadsLine p text (typed.Moves moves) = HasMoveWords text × ReadsWords p (typed_words text) (typed.Moves moves)
+ReadsLine p text (typed.Moves moves) = HasMoveWords text × AreMoves p (typed_words text) moves.items
+    × (misnumbered p 0 (line_words text) ≡ None)
+ReadsLine p text (typed.Misnumbered word number) = HasMoveWords text × ((moves : List Move) × AreMoves p (typed_words text) moves)
+    × (misnumbered p 0 (line_words text) ≡ Some (word.now, number))
 ReadsLine p text (typed.Meant word number san) = HasMoveWords text × ReadsWords p (typed_words text) (typed.Meant word number san)
 ReadsLine p text (typed.Illegal word number) = HasMoveWords text × ReadsWords p (typed_words text) (typed.Illegal word number)
 ReadsLine p text (typed.Unknown word number) = HasMoveWords text × ReadsWords p (typed_words text) (typed.Unknown word number)

@@ -1,10 +1,11 @@
 //! What an arbiter types in one line: a result, moves, or `*`.
 //!
 //! Begin with `reading.rt`, which reads a line over `spelling.rt`, which knows how a move may be typed. `words.rt` has a
-//! line's words, `letters.rt` the bytes by which words are compared, `results.rt` the spellings of results.
+//! line's words, `numbers.rt` their move numbers, `letters.rt` the bytes by which words are compared, `results.rt` the spellings of results.
 #![tactic(auto)]
 
 mod letters;
+mod numbers;
 mod reading;
 mod results;
 mod spelling;

@@ -1,13 +1,16 @@
 //! What a typed line says.
-ghost use Rattle.std.specs.Prelude.{◌≡◌, ◌≤◌, ◌↔◌, Contains, IfOk, length, map};
+ghost use Rattle.std.specs.Prelude.{◌≡◌, ◌≤◌, ◌↔◌, ℕ, List, Contains, IfOk, length, map};
 ghost use Rattle.std.specs.List.{list_all, list_any};
 ghost use Rattle.chess_rules.specs.Legal.{Legal};
 ghost use Rattle.chess_rules.specs.declared.chess_move.Move.{Move as MoveOf};
 ghost use Rattle.typed_lines.specs.Letters.{is_from as from_test};
-ghost use Rattle.typed_lines.specs.Lines.{ReadsLine, ReadsWords, WordSays, ends_as_move as ends_test, ends_promoting as promoting_test, has_form as form_test, has_move_form as move_form_test, has_square_at as square_test, is_move_letter as move_letter_test, is_officer as officer_test, is_other_letter as other_letter_test, is_star as star_test, stands_alone as alone_test};
+ghost use Rattle.typed_lines.specs.Words.{typed_words};
+ghost use Rattle.typed_lines.specs.Numbers.{line_words as words_of};
+ghost use Rattle.typed_lines.specs.Lines.{HasMoveWords, ReadsLine, ReadsWords, WordSays, ends_as_move as ends_test, ends_promoting as promoting_test, has_form as form_test, has_move_form as move_form_test, has_square_at as square_test, is_move_letter as move_letter_test, is_officer as officer_test, is_other_letter as other_letter_test, is_star as star_test, stands_alone as alone_test};
 ghost use Rattle.typed_lines.specs.Spelling.{IsOnly};
 
 use crate::letters::{in_english, letters};
+use crate::numbers::{line_words, misnumbered};
 use crate::results::{is_text, result_of};
 use crate::spelling::{Manner, only};
 use crate::words::{move_words, without_number};
@@ -49,6 +52,8 @@ pub enum Typed<'a> {
     Illegal(&'a [u8], usize),
     /// A word that is neither a move nor a result.
     Unknown(&'a [u8], usize),
+    /// The words are moves, but this one begins with a move number that isn't its own.
+    Misnumbered(&'a [u8], usize),
 }
 
 fn is_from(low: u8, high: u8, b: u8) -> bool
@@ -214,6 +219,20 @@ fn is_star(words: &[&[u8]]) -> bool
     words.len() == 1 && is_text(words[0], b"*")
 }
 
+/// What the words say, where they are moves also by their numbers.
+fn numbered<'a>(p: &Position, words: &[&'a [u8]], said: Typed<'a>) -> Typed<'a>
+    ensures { (text : List ℕ) → map (λ word. word.now) words.now ≡ words_of text → HasMoveWords text
+        → ReadsWords p.now (typed_words text) said.entry → ReadsLine p.now text result }
+{
+    match said {
+        Typed::Moves(moves) => match misnumbered(p, words) {
+            Some((word, number)) => Typed::Misnumbered(word, number),
+            None => Typed::Moves(moves),
+        },
+        other => other,
+    }
+}
+
 /// Reads a typed line in a position.
 ///
 /// # Errors
@@ -235,5 +254,7 @@ pub fn read_line<'a>(alloc: Global, p: &Position, text: &'a [u8]) -> Result<Type
     if is_mixed(alloc, words.as_slice())? {
         return Ok(Typed::Mixed);
     }
-    read_moves(alloc, *p, words.as_slice())
+    let said = read_moves(alloc, *p, words.as_slice())?;
+    let all = line_words(alloc, text)?;
+    Ok(numbered(p, all.as_slice(), said))
 }

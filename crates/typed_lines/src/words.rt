@@ -10,7 +10,7 @@ pub fn is_blank(b: u8) -> bool
     b == b' ' || b == b'\t' || b == b'\r' || b == b'\n'
 }
 
-fn after_digits(text: &[u8]) -> &[u8]
+pub fn after_digits(text: &[u8]) -> &[u8]
     ensures { result.now ≡ after_digits_of text.now }
 {
     match text {
@@ -19,7 +19,7 @@ fn after_digits(text: &[u8]) -> &[u8]
     }
 }
 
-fn after_dots(text: &[u8]) -> &[u8]
+pub fn after_dots(text: &[u8]) -> &[u8]
     ensures { result.now ≡ after_dots_of text.now }
 {
     match text {
@@ -50,7 +50,7 @@ pub fn without_number(word: &[u8]) -> &[u8]
 }
 
 /// Whether the word is more than a move number.
-fn is_move_word(word: &[u8]) -> bool
+pub fn is_move_word(word: &[u8]) -> bool
     ensures { result ≡ is_filled_test (without_number_of word.now) }
 {
     !without_number(word).is_empty()

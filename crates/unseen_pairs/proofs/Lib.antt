@@ -14,3 +14,4 @@ pub mod OnTheWay
 pub mod Resting
 pub mod Alone
 pub mod AtRest
+pub mod SomePair

@@ -41,6 +41,10 @@ pub record Explains (start : Parts) (moves : List Move) (seen : List ℕ) (pair 
   pub after_two : IsAfterTwo (begins start moves pair) seen pair.first pair.second
   pub instead : pair.corrects ≡ true → IsInstead moves pair.first
 
+-- Some pair explains the picture after these moves.
+abbrev pub IsExplained : Parts → List Move → List ℕ → Type 0
+IsExplained start moves seen = (pair : Pair) × Explains start moves seen pair
+
 -- how many squares show this code
 abbrev pub times_shown : ℕ → List ℕ → ℕ
 times_shown code seen = count_by (λ shown. shown == code) seen

@@ -1,5 +1,5 @@
 -- How far the pairs that explain a picture are listed.
-use Rattle.std.specs.Prelude.{◌≡◌, ◌<◌, ◌⊎◌, ℕ, List, Contains, slice_index_or}
+use Rattle.std.specs.Prelude.{◌≡◌, ◌≢◌, ◌<◌, ◌⊎◌, ℕ, List, Contains, Option, Some, slice_index_or}
 use Rattle.chess_rules.specs.declared.chess_move.Move.{Move}
 use Rattle.chess_rules.specs.declared.parts.Parts.{Parts}
 use Rattle.unseen_pairs.specs.declared.pair.TwoPlies.{TwoPlies}
@@ -16,3 +16,10 @@ pub record ListsPairs (p : Parts) (seen : List ℕ) (moves : List Move) (n : ℕ
   pub sound : (x : TwoPlies) → Contains pairs x → IsAfterTwo p seen x.first x.second
   pub whole : (x : TwoPlies) (k : ℕ) → k < n → slice_index_or moves k x.first ≡ x.first → IsAfterTwo p seen x.first x.second
       → Contains pairs x
+
+-- A pair from this position explains the picture, and begins with another move than this one.
+pub record IsBegunOtherwise (p : Parts) (last : Option Move) (seen : List ℕ) : Type 0 where
+  pub first : Move
+  pub second : Move
+  pub after_two : IsAfterTwo p seen first second
+  pub otherwise : last ≢ Some first

@@ -1,4 +1,4 @@
-use Rattle.std.proofs.Common.{◌≡◌, ◌↔◌, IsTrue, Bool, true, false, not, List, ℕ, refl, sym, subst, arith}
+use Rattle.std.proofs.Common.{◌↔◌, IsTrue, Bool, true, false, not, List, ℕ, refl, sym, subst, arith}
 use Rattle.std.proofs.lemmas.Bool.{false≢true}
 use Rattle.chess_rules.specs.Picture.{picture}
 use Rattle.unseen_pairs.specs.Pairs.{IsMissedIn}
