@@ -1,10 +1,12 @@
 """Which function a wrong body changes, which are tried together, and what a check is read as. All worked by hand."""
 
 import pathlib
+import tempfile
 from typing import Callable, Dict, List, Sequence, Tuple
+from unittest import mock
 
 from decided.table import same
-from planted import checking, verdict, wrong_body, wrong_definition
+from planted import before, checking, crates, verdict, wrong_body, wrong_definition
 from planted.bare import bare
 from planted.rounds import next_round
 from planted.trying import tried
@@ -194,6 +196,7 @@ def verdicts() -> None:
     same("it has ended", said.ended, True)
     named = verdict.read("c", "./proofs/f/Answers.antt:1:1: error: `Rattle.c.g` is not in scope\nfn c::f: not proved\nonly=1 holes=0\n")
     same("only a name is gone", [verdict.names_alone(it, name) for it, name in [(named, "c::f"), (said, "c::lines::add")]], [True, False])
+    same("and that is said", verdict.reason(named, "c::f"), " BY A NAME ALONE: a proof file names what the edit took away")
     calls = "fn c::f: no proof: `search` did not prove `returns`; it calls `c::g`, which is not proved\nonly=1 holes=0\n"
     said = verdict.read("c", calls)
     same("a goal without a proof file", (verdict.is_refused(said, "c::f"), verdict.reason(said, "c::f")), (True, ", `returns`"))
@@ -203,8 +206,8 @@ def verdicts() -> None:
 
 
 def check_of(lines: Dict[str, Tuple[str, ...]], asked: List[List[str]]) -> Callable[[Dict[str, str], List[str], pathlib.Path], verdict.Said]:
-    """A check in which a function is refused where the text has its letter as a capital; `lines` has what it calls. With a '!' it
-    doesn't compile, nor with A and C together; with a '?' it speaks of all functions."""
+    """A check in which a goal of a function is refused where the text has its letter as a capital; `lines` has what it calls. With a
+    '!' it doesn't compile, nor with A and C together; with a '?' it speaks of all functions."""
 
     def check(texts: Dict[str, str], functions: List[str], _: pathlib.Path) -> verdict.Said:
         asked.append(functions)
@@ -215,7 +218,7 @@ def check_of(lines: Dict[str, Tuple[str, ...]], asked: List[List[str]]) -> Calla
             if below:
                 said.append(f"fn {it}: not proved; it calls `{below[0]}`, which is not proved")
             else:
-                said.append(f"fn {it}: {'not proved' if it in wrong else 'proved'}")
+                said.append(f"fn {it}: {'no proof: `search` did not prove `returns`' if it in wrong else 'proved'}")
         compiles = "!" not in texts["f"] and not ("A" in texts["f"] and "C" in texts["f"] and "c" in functions)
         return verdict.read("c", "\n".join([*said, "only=1 proved=0"]) if compiles else "error: no such type")
 
@@ -310,4 +313,80 @@ def libraries() -> None:
     same("what is below", checking.below(uses, "high"), ["low", "middle"])
 
 
-TABLES: Sequence[Callable[[], None]] = [places, without_bodies, edits, together, verdicts, plans, definitions, libraries]
+USES: before.Uses = {"low": ["itoa"], "high": ["low"], "other": []}
+# A file of a tree: whether the digest of high's wrong bodies changes with it, or with its being there.
+RESTS_ON = [
+    ("crates/high/src/lib.rt", True),
+    ("crates/high/specs/Sum.antt", True),
+    ("crates/high/proofs/sum/Answers.antt", True),
+    ("crates/high/wrong-bodies/none_added.edit", True),
+    ("crates/low/src/lib.rt", True),
+    ("crates/low/specs/Lib.antt", True),
+    ("crates/low/proofs/Lib.antt", True),
+    ("tests/planted/trying.py", True),
+    ("tests/wrong_bodies", True),
+    ("crates/high/wrong-definitions/half.edit", False),
+    ("crates/low/wrong-bodies/none_added.edit", False),
+    ("crates/other/src/lib.rt", False),
+    ("crates/high/README.md", False),
+    ("tests/planted/__pycache__/trying.pyc", False),
+]
+
+
+def unchanged() -> None:
+    with tempfile.TemporaryDirectory() as folder:
+        top = pathlib.Path(folder)
+        for path, _ in RESTS_ON:
+            (top / path).parent.mkdir(parents=True, exist_ok=True)
+            (top / path).write_text("one\n")
+
+        def digest(uses: before.Uses = USES, version: str = "kit 1") -> str:
+            return before.digest(top, uses, "high", "wrong-bodies", version)
+
+        first = digest()
+        for path, matters in RESTS_ON:
+            (top / path).write_text("two\n")
+            same(f"{path} changed", digest() != first, matters)
+            (top / path).unlink()
+            same(f"{path} gone", digest() != first, matters)
+            (top / path).write_text("one\n")
+        same("another toolchain", digest(version="kit 2") != first, True)
+        same("another line of crates.txt", digest({**USES, "low": ["itoa", "clap"]}) != first, True)
+        same("a crate that it doesn't stand on", digest({**USES, "other": ["low"]}), first)
+        same("a new edit", [(top / "crates/high/wrong-bodies/half.edit").write_text("x"), digest() != first][1], True)
+
+
+def written() -> None:
+    with tempfile.TemporaryDirectory() as folder:
+        top = pathlib.Path(folder)
+        (top / "tests").mkdir()
+        same("no file", before.read(top), {})
+        before.write(top, "wrong-bodies", {"low": "1a", "high": "2b"})
+        before.write(top, "wrong-definitions", {"low": "3c"})
+        before.write(top, "wrong-bodies", {"high": "4d"})
+        same("each run writes its own", before.read(top), {("wrong-bodies", "high"): "4d", ("wrong-definitions", "low"): "3c"})
+
+
+# What is in the file, the digests now, whether all are tried; what is tried, what isn't.
+AGAIN: List[Tuple[Dict[str, str], Dict[str, str], bool, List[str], List[str]]] = [
+    ({}, {"low": "1", "high": "2"}, False, ["low", "high"], []),
+    ({"low": "1", "high": "2"}, {"low": "1", "high": "2"}, False, [], ["low", "high"]),
+    ({"low": "1", "high": "2"}, {"low": "1", "high": "3"}, False, ["high"], ["low"]),
+    ({"low": "1", "high": "2"}, {"low": "1", "high": "2"}, True, ["low", "high"], []),
+    ({"low": "1", "high": "2"}, {}, False, ["low", "high"], []),  # they were named, so no digest was made
+]
+
+
+def tried_again() -> None:
+    for kept, digests, has_all, trying, taken in AGAIN:
+        names: Dict[str, List[str]] = {"low": [], "high": []}
+        known = {("wrong-bodies", crate): summed for crate, summed in kept.items()}
+        with mock.patch.object(before, "read", return_value=known):
+            got = crates.to_try(names, USES, "wrong-bodies", digests, has_all=has_all)
+        same(f"{kept}, {digests}, {has_all}", got, (trying, taken))
+
+
+TABLES: Sequence[Callable[[], None]] = [
+    *(places, without_bodies, edits, together, verdicts, plans, definitions, libraries),
+    *(unchanged, written, tried_again),
+]

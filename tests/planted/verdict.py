@@ -59,7 +59,7 @@ def reason(said: Said, function: str) -> str:
     own = goals(said, function)
     if own:
         return f", {own[0]}"
-    return " (a proof file names what the edit took away)" if said.errors.get(function) else ""
+    return " BY A NAME ALONE: a proof file names what the edit took away" if said.errors.get(function) else ""
 
 
 def waits(said: Said, function: str) -> bool:
