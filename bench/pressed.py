@@ -248,10 +248,10 @@ def taken_back(pictures: Pictures, last: int, plies: int) -> List[Picture]:
     return boards
 
 
-def replaced(table: Table, pictures: Pictures, last: int) -> Optional[List[Picture]]:
+def replaced(chance: random.Random, pictures: Pictures, last: int) -> Optional[List[Picture]]:
     """The boards while both sides put the piece that they moved last on another square; None if one of them can't."""
     side = last % 2
-    one = others(table.chance, pictures[last - 2], pictures[last - 1], side)
+    one = others(chance, pictures[last - 2], pictures[last - 1], side)
     if one is None:
         return None
     reply = way(pictures[last - 1], pictures[last])
@@ -260,7 +260,7 @@ def replaced(table: Table, pictures: Pictures, last: int) -> Optional[List[Pictu
     both = with_changes(one, [(reply[0], EMPTY), (reply[1], one[reply[0]])])
     if both not in list(moves(position(one, 1 - side))):
         return None
-    end = others(table.chance, one, both, 1 - side)
+    end = others(chance, one, both, 1 - side)
     return [both, end] if end else None
 
 
@@ -319,7 +319,7 @@ def wrong(arguments: Tuple[str, hurried.Game, float, str, str]) -> Optional[Told
     table.play(pictures[1 : last + 1])
     since = table.now
     if back:
-        boards = replaced(table, pictures, last) if kind == "replaced" else taken_back(pictures, last, back)
+        boards = replaced(table.chance, pictures, last) if kind == "replaced" else taken_back(pictures, last, back)
         if boards is None:
             return None
         table.do(boards, GOES_BACK)

@@ -2,28 +2,31 @@
 """How fast bin/recorder.html is, in Chromium, with boards that the page itself plays (bench/recorder_boards.js).
 
 Prints the file's size; the time from opening the file to the first board being asked; and for 1 and for 16 boards whose
-captures have an hour of play: from a move's last byte to its line on the screen, and to its text on the disk. The files are
-in the browser's private folder, since nobody is there to choose one; so the page comes from a server of this machine for
-that. A machine on which nothing else runs is needed: elsewhere the times are waits for a processor.
+captures have an hour of play: from opening the page until it shows a board, and until all agree; from a move's last byte to the drawn
+card, and to its text on the disk. The files are in the browser's private folder, since nobody is there to choose one; so the page comes
+from a server of this machine for that.
 
 Behind that: the processor time that the page took while it was measured, by the threads of its process, and what its main thread
 did.
 
-Two numbers may be given: how many boards there are, and how often each dump of the hour stands in a capture, one after the other: with
-72 it has 20 MB. With `chatter` behind them there is one more board, of which a square chatters all the time, at the pace of its line.
+With files of other pages all is measured with each of them, by turns: only figures of one run compare. `--load` has so many processes
+compute beside it.
 """
 
 from __future__ import annotations
 
+import argparse
+import contextlib
 import http.server
 import os
 import pathlib
 import re
 import statistics
+import subprocess
 import sys
 import threading
 import time
-from typing import Dict, List, Sequence, Tuple, cast
+from typing import Dict, Iterator, List, Sequence, Tuple, cast
 
 TOP = pathlib.Path(__file__).resolve().parent.parent
 sys.dont_write_bytecode = True
@@ -34,10 +37,9 @@ from played.recorder import processes  # noqa: E402
 PAGE = TOP / "bin" / "recorder.html"
 BOARDS = (TOP / "bench" / "recorder_boards.js").read_text()
 SECONDS = 3600  # of play that a capture has
-PLAYED = 60.0  # seconds of a measurement
+OPENING = 60.0  # seconds until all boards must be recorded
 MOVES = (("g1", "f3", "Nf3"), ("g8", "f6", "Nf6"), ("f3", "g1", "Ng1"), ("f6", "g8", "Ng8"))
 EACH = 40  # seconds in which a ply is made before the measurement
-CHATTER = "chatter"
 MAIN, WORKER, OTHERS, ELSE = "its main thread", "its workers, in which the programs run", "its other threads", "other processes"
 THREADS = {"chromium": MAIN, "CrRendererMain": MAIN, "DedicatedWorker": WORKER}  # by how their names begin
 DONE = {"ScriptDuration": "scripts", "RecalcStyleDuration": "styles", "LayoutDuration": "layout"}  # by the main thread
@@ -93,16 +95,28 @@ FileSystemFileHandle.prototype.createWritable = async function (...given) {
   stream.close = async () => { await close.call(stream); if (this.name.endsWith('.pgn')) written.push([this.name, performance.now(), text]); };
   return stream;
 };
+// A message of one's own comes when the frame is drawn in which something has changed.
+const drawn = new MessageChannel();
+drawn.port1.onmessage = ({ data }) => { const now = performance.now(); for (const [number, text] of data) (window.shown ||= []).push([number, now, text]); };
 window.watch = () => new MutationObserver(() => {
-  const now = performance.now();
+  const news = [];
   document.querySelectorAll('#boards .last').forEach((last, at) => {
-    if (seen[at] !== last.textContent) { seen[at] = last.textContent; (window.shown ||= []).push([at + 1, now, last.textContent]); }
+    if (seen[at] !== last.textContent) { seen[at] = last.textContent; news.push([at + 1, last.textContent]); }
   });
+  if (news.length > 0) drawn.port2.postMessage(news);
 }).observe(document.getElementById('boards'), { subtree: true, childList: true, characterData: true });
+// When the first board is shown, and when all agree.
+window.opening = {};
+const looks = setInterval(() => {
+  const states = [...document.querySelectorAll('#boards .state')].map((one) => one.textContent);
+  if (states.length > 0) opening.first ??= performance.now();
+  if (states.length === boards.ports.size && states.every((text) => text.includes('agrees'))) opening.all ??= performance.now();
+  if (opening.all) clearInterval(looks);
+}, 20);
 """
 
 
-def serving() -> http.server.ThreadingHTTPServer:
+def serving(page: pathlib.Path) -> http.server.ThreadingHTTPServer:
     """A server of this machine alone, for the page."""
 
     class Handler(http.server.BaseHTTPRequestHandler):
@@ -110,12 +124,27 @@ def serving() -> http.server.ThreadingHTTPServer:
             self.send_response(200)
             self.send_header("Content-Type", "text/html")
             self.end_headers()
-            self.wfile.write(PAGE.read_bytes())
+            self.wfile.write(page.read_bytes())
 
         def log_message(self, format: str, *args: object) -> None:
             """Nothing is printed of a request."""
 
-    return http.server.ThreadingHTTPServer(("127.0.0.1", 0), Handler)
+    server = http.server.ThreadingHTTPServer(("127.0.0.1", 0), Handler)
+    threading.Thread(target=server.serve_forever, daemon=True).start()
+    return server
+
+
+@contextlib.contextmanager
+def computing(count: int) -> Iterator[None]:
+    """So many processes compute meanwhile."""
+    words = [sys.executable, "-c", "while True: pass"]
+    children = [subprocess.Popen(words) for _ in range(count)]
+    try:
+        yield
+    finally:
+        for child in children:
+            child.kill()
+            child.wait()
 
 
 def opened(browser: Browser, url: str, before: str) -> Tab:
@@ -130,27 +159,31 @@ def press(tab: Tab, name: str) -> None:
     tab.call("Runtime.evaluate", expression=f"document.getElementById('{name}').click()", userGesture=True)
 
 
-def first_asked() -> float:
+def first_asked(page: pathlib.Path) -> float:
     """Milliseconds from opening the file to the first board being asked, where it was recorded before: the median of five."""
     found: List[float] = []
     with Browser() as browser:
-        tab = opened(browser, PAGE.as_uri(), "boards.add(1);")
+        tab = opened(browser, page.as_uri(), "boards.add(1);")
         tab.until("document.getElementById('add').disabled", False)
         press(tab, "add")
         tab.until("document.querySelector('#boards .state')?.textContent", "agrees")
         tab.close()
         for _ in range(5):
-            tab = opened(browser, PAGE.as_uri(), "boards.add(1, true);")
+            tab = opened(browser, page.as_uri(), "boards.add(1, true);")
             tab.until("boards.ports.get(1).asked !== null")
             found.append(cast(float, tab.value("boards.ports.get(1).asked")))
             tab.close()
     return statistics.median(found)
 
 
-def told(name: str, seconds: Sequence[float]) -> None:
+def told(name: str, seconds: Sequence[float], count: int) -> None:
+    """Of so many moves, each as far as it came in time."""
     ordered = sorted(1000 * second for second in seconds)
+    if not ordered:
+        print(f"    {name}: never")
+        return
     worst = ordered[min(len(ordered) - 1, int(0.99 * len(ordered)))]
-    print(f"    {name}: median {statistics.median(ordered):.0f} ms, 99 of 100 within {worst:.0f} ms, {len(ordered)} moves")
+    print(f"    {name}: median {statistics.median(ordered):.0f} ms, 99 of 100 within {worst:.0f} ms, {len(ordered)} of {count} moves")
 
 
 def last_move(pgn: str) -> str:
@@ -178,8 +211,8 @@ def taken(browser: Browser, tab: Tab) -> Dict[str, float]:
     return found
 
 
-def play(browser: Browser, url: str, count: int, dumps: int, chatters: bool) -> None:
-    """So many boards, each with a capture of an hour, in which each dump comes so often."""
+def play(browser: Browser, url: str, count: int, dumps: int, chatters: bool, seconds: float) -> None:
+    """So many boards, each with a capture of an hour, in which each dump comes so often: opened, and played for so long."""
     tab = opened(browser, url, "")
     tab.until("document.getElementById('add').disabled", False)
     moves = str([[start, end] for start, end, _ in MOVES])
@@ -193,8 +226,15 @@ def play(browser: Browser, url: str, count: int, dumps: int, chatters: bool) -> 
         left, reached = (("abcdefgh".index(name[0]) + 8 * (8 - int(name[1]))) for name in MOVES[ply % len(MOVES)][:2])
         squares[reached], squares[left] = squares[left], "."
     tab = opened(browser, url, f"const START_SQUARES = '{''.join(squares)}';" + before + WATCHES)
-    for number in range(1, there + 1):
-        tab.until(f"document.querySelectorAll('#boards .state')[{number - 1}]?.textContent.includes('waits')", False)
+    ends = time.monotonic() + OPENING
+    while time.monotonic() < ends and not tab.value("opening.all"):
+        time.sleep(0.1)
+    first, all_agree = (cast(float, tab.value(f"opening.{name} ?? 0")) for name in ("first", "all"))
+    recorded = f"all agree after {all_agree:.0f} ms" if all_agree else f"not all agree after {OPENING:.0f} s"
+    print(f"{there} boards with an hour of play, {dumps} dumps a second: opened, the first card after {first:.0f} ms, {recorded}")
+    if not seconds or not all_agree:
+        tab.close()
+        return
     press(tab, "folder")
     if chatters:
         tab.value(f"boards.chatter({there}, 'a2')")
@@ -205,7 +245,7 @@ def play(browser: Browser, url: str, count: int, dumps: int, chatters: bool) -> 
     played: List[Tuple[int, float, str]] = []
     began = time.monotonic()
     at: Dict[int, int] = dict.fromkeys(range(1, count + 1), plies)
-    while time.monotonic() < began + PLAYED:
+    while time.monotonic() < began + seconds:
         for number in at:
             start, end, san = MOVES[at[number] % len(MOVES)]
             move = f"{at[number] // 2 + 1}.{'..' if at[number] % 2 else ''} {san}"
@@ -230,9 +270,9 @@ def play(browser: Browser, url: str, count: int, dumps: int, chatters: bool) -> 
         lines += [(line[0] - then) / 1000] if line else []
         texts += [(text[0] - then) / 1000] if text else []
     beside = ", beside one that chatters" if chatters else ""
-    print(f"{count} boards with an hour of play, {dumps} dumps a second, {len(played)} moves in {PLAYED:.0f} s{beside}:")
-    told("to the line on the screen", lines)
-    told("to the text on the disk", texts)
+    print(f"  {len(played)} moves in {seconds:.0f} s{beside}:")
+    told("to the drawn card", lines, len(played))
+    told("to the text on the disk", texts, len(played))
     threads = ", ".join(f"{what} {used[what]:.0f}" for what in (MAIN, WORKER, OTHERS, ELSE))
     print(f"    processor time, ms a second: {threads}")
     print(f"    of its main thread: {', '.join(f'{what} {used[what]:.0f}' for what in DONE.values())}")
@@ -240,15 +280,30 @@ def play(browser: Browser, url: str, count: int, dumps: int, chatters: bool) -> 
 
 
 def main() -> int:
-    print(f"bin/recorder.html: {PAGE.stat().st_size / 1000:.0f} kB")
-    print(f"from opening the file to the first board being asked: {first_asked():.0f} ms")
-    server = serving()
-    threading.Thread(target=server.serve_forever, daemon=True).start()
-    counts, dumps = ([int(sys.argv[1])], int(sys.argv[2])) if len(sys.argv) > 2 else ([1, 16], 1)
-    for count in counts:
-        with Browser() as browser:
-            play(browser, f"http://127.0.0.1:{server.server_address[1]}/", count, dumps, CHATTER in sys.argv[3:])
-    server.shutdown()
+    parser = argparse.ArgumentParser(description=__doc__, formatter_class=argparse.RawDescriptionHelpFormatter)
+    parser.add_argument("pages", nargs="*", type=pathlib.Path, default=[PAGE], help="files of pages; bin/recorder.html without any")
+    parser.add_argument("--boards", type=int, nargs="+", default=[1, 16], help="how many boards there are, one count after the other")
+    parser.add_argument("--dumps", type=int, default=1, help="how often each dump of the hour stands in a capture: with 72 it has 20 MB")
+    parser.add_argument("--chatter", action="store_true", help="one more board, of which a square chatters, at the pace of its line")
+    parser.add_argument("--seconds", type=float, default=60.0, help="for how long is played; with 0 the page is only opened")
+    parser.add_argument("--turns", type=int, default=1, help="how often all is measured")
+    parser.add_argument("--load", type=int, default=0, help="processes that compute meanwhile")
+    given = parser.parse_args()
+    pages = [page.resolve() for page in given.pages]
+    servers = [serving(page) for page in pages]
+    with computing(given.load):
+        for _ in range(given.turns):
+            for count in [0, *given.boards]:
+                for page, server in zip(pages, servers):
+                    print(f"{page}: {page.stat().st_size / 1000:.0f} kB", flush=True)
+                    if count == 0:
+                        print(f"from opening the file to the first board being asked: {first_asked(page):.0f} ms", flush=True)
+                        continue
+                    with Browser() as browser:
+                        url = f"http://127.0.0.1:{server.server_address[1]}/"
+                        play(browser, url, count, given.dumps, given.chatter, given.seconds)
+    for server in servers:
+        server.shutdown()
     return 0
 
 

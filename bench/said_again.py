@@ -14,7 +14,7 @@ sys.dont_write_bytecode = True
 sys.path[:0] = [str(TOP / "tests"), str(TOP)]
 from live.broadcast.said_again import said_again  # noqa: E402
 from live.game import timed, times  # noqa: E402
-from live.game.began import Began, began_line, this_start  # noqa: E402
+from live.game.began import Began, began_line, part_line, summed, this_start  # noqa: E402
 from live.game.files import Paths  # noqa: E402
 from live.game.program import Program  # noqa: E402
 from played.stage import program  # noqa: E402
@@ -52,8 +52,10 @@ def main(words: List[str]) -> int:
         heading = times.heading(0, capture[: times.HEADED])
         heard = [(number, times.HEARD, end - before) for number, (before, end) in enumerate(zip([0, *ends], ends), 1)]
         pathlib.Path(paths.capture).write_bytes(capture)
-        pathlib.Path(timed.times_of(paths.capture)).write_bytes(heading + times.lines([(0, times.BEGIN, 0), *heard]))
-        pathlib.Path(paths.began).write_bytes(began_line((0, len(heading)), Began(timed.milliseconds() - places - 1, this_start())))
+        lines = heading + times.lines([(0, times.BEGIN, 0), *heard])
+        pathlib.Path(timed.times_of(paths.capture)).write_bytes(lines)
+        call = began_line((0, len(heading)), Began(timed.milliseconds() - places - 1, this_start()))
+        pathlib.Path(paths.began).write_bytes(summed([call, part_line(0, 0, lines)], 0))
         began = time.monotonic()
         said = said_again(Program(program()), [paths], 900.0, time.monotonic)
         seconds = time.monotonic() - began
