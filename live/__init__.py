@@ -15,3 +15,14 @@ writes `round.pgn`.
 `doors/`: the command lines of `dgt_live` and `dgt_round`, and how a call ends.
 `loop.py`, `guard.py`, `beside.py`, `refused.py`, `descriptors.py`, `lock.py`: what all of these use.
 """
+
+import sys
+import types
+
+# `dataclasses` imports `inspect`, which takes an eighth of a start. Before Python 3.12 it uses that only for a class without a docstring.
+if sys.version_info < (3, 12) and not {"dataclasses", "inspect"} & set(sys.modules):
+    unused = types.ModuleType("inspect")
+    vars(unused)["signature"] = lambda described: ""
+    sys.modules["inspect"] = unused
+    __import__("dataclasses")
+    del sys.modules["inspect"], unused

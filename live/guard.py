@@ -110,6 +110,9 @@ class Guard:
 
 def traced(error: BaseException) -> str:
     """Where an error was raised, line by line."""
-    import traceback  # hardly ever needed, and not small
-
-    return "".join(traceback.format_exception(type(error), error, error.__traceback__)).rstrip("\n")
+    lines, step = ["Traceback (most recent call last):"], error.__traceback__
+    while step:
+        code = step.tb_frame.f_code
+        lines.append(f'  File "{code.co_filename}", line {step.tb_lineno}, in {code.co_name}')
+        step = step.tb_next
+    return "\n".join([*lines, f"{type(error).__name__}: {error}"])

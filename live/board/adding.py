@@ -8,21 +8,24 @@ from typing import Tuple
 from live.board.obeying import JUST_ENDED, Obeying
 from live.board.recording import Recording
 from live.board.taking_off import take_result_off
+from live.called import DGT_LIVE
 from live.game import answers
-from live.game.answers import BOARD, ILLEGAL, LONG, Said, meaning, whose_move
+from live.game.answers import BOARD, LONG, Said, meaning, place_of
 from live.game.changing import add_and_make, add_by_name, told_of_next
 from live.game.course import Course
 from live.game.files import Paths
 from live.game.forfeiting import is_unended
 from live.game.game import Game, forget_question
 from live.game.made_anew import course_of
-from live.game.reply import Answer, Refused
+from live.game.reply import Answer, Asked, Refused
 from live.game.way_back import NO_RESULT
 from live.game.which_game import UNENDED, UNPLAYED, which_game
 from live.refused import DONE
 from live.steps import Steps
 
 ADDED = "added"
+HOLDS = 60.0  # seconds for which the answer to a question counts
+FORFEITS = {"1-0": ("Black", "+-"), "0-1": ("White", "-+")}  # who hasn't come, and what is typed then
 
 
 def add(obeying: Obeying, line: str, sure: bool) -> Steps[Answer]:
@@ -42,6 +45,8 @@ def add(obeying: Obeying, line: str, sure: bool) -> Steps[Answer]:
             now = obeying.recorded(ADDED)
     if said.outcome and games.before and not sure:
         yield from _be_sure(obeying, said.outcome, games.before)
+    elif said.outcome and not sure and not games.course.plies:
+        _ask_once(obeying, said.outcome)
     if not said.put or not games.game.capture.has_room(len(said.put)):
         raise _refusal(games.game, games.course, said, line)
     now.put(said.put, said.outcome)
@@ -66,14 +71,22 @@ def _be_sure(obeying: Obeying, outcome: str, before: Paths) -> Steps[None]:
         raise Refused(f"{why}. Type {outcome} {before.name}, or {outcome} {name}")
 
 
+def _ask_once(obeying: Obeying, outcome: str) -> None:
+    """Asks about a result of a game without a move, unless it was just asked about."""
+    asked, now = obeying.asked_about, obeying.guard.now()
+    if asked is None or asked[0] != outcome or now - asked[1] > HOLDS:
+        obeying.asked_about = outcome, now
+        absent = FORFEITS.get(outcome)
+        forfeit = f". If {absent[0]} has not come, type {obeying.screen.typed(absent[1])}" if absent else ""
+        raise Asked(f"no move was made yet{forfeit}. For {outcome} all the same, type it again within a minute")
+    obeying.asked_about = None
+
+
 def _refusal(game: Game, course: Course, said: Said, line: str) -> Refused:
     """Why nothing is added to the recorded game."""
     if said.put:
         return answers.refuse(Said(LONG), line, "")
-    if said.kind != ILLEGAL:
-        return answers.refuse(said, line, "")
-    played = [ply.san for ply in course.plies]
-    return answers.refuse(said, line, whose_move(game.options.fen, played, line, int(said.words[0])))
+    return answers.refuse(said, line, place_of(said, game.options.fen, [ply.san for ply in course.plies], line))
 
 
 def add_before(obeying: Obeying, paths: Paths, text: str, opens: bool) -> Steps[Answer]:
@@ -82,7 +95,7 @@ def add_before(obeying: Obeying, paths: Paths, text: str, opens: bool) -> Steps[
     status, answer = yield from obeying.beside(functools.partial(add_by_name, program, paths, text, 0))
     if status == DONE and opens:
         more = yield from obeying.beside(functools.partial(told_of_next, paths))
-        answer += f". Nobody records it now: to go on with it, Ctrl-C, and then dgt_live {obeying.plan.device} {paths.name}"
+        answer += f". Nobody records it now: to go on with it, Ctrl-C, and then {DGT_LIVE} {obeying.plan.device} {paths.name}"
         answer += f". {more}" if more else ""
     if status == DONE:
         obeying.screen.say(answer.replace("added to", "added by hand to", 1))

@@ -1,5 +1,4 @@
-"""What an arbiter types to the games of one board. This module and those that it needs take 0.3 MiB, so a recorder loads them with
-the first line."""
+"""What an arbiter types to the games of one board."""
 
 from __future__ import annotations
 
@@ -8,6 +7,7 @@ from typing import Optional
 
 from live.board import adding, forfeited, renaming, taking_off
 from live.board.obeying import Obeying
+from live.called import DGT_LIVE
 from live.game.files import Paths
 from live.game.forfeiting import drop_forfeit
 from live.game.forfeits import Forfeit, read_typed
@@ -18,6 +18,8 @@ from live.refused import DONE
 from live.refused import Refused as Failed
 from live.steps import Steps
 
+OTHER_GAME = '{name} is another game: put its names right by {live} --white Ben {name}. If the name ends so, type name White="Ben {name}"'
+
 
 class Arbiter:
     """Obeys what is typed. Each line gets an answer, with its status."""
@@ -26,18 +28,21 @@ class Arbiter:
         self._obeying, self._games = obeying, obeying.games
 
     def typed(self, text: str) -> Steps[Answer]:
-        """A line of the terminal. It may end with the name of this game or of the one before."""
+        """A line of the terminal. In a series it may end with the name of this game or of the one before."""
         words, _, name = text.rpartition(" ")
         last, here = self._games.before, self._games.game.paths.name
-        named = last is not None and name in (last.name, here)
+        plan = self._obeying.plan
+        named = plan.rules.series and name in (here, last.name if last else here)
+        if plan.rules.series and not named and is_naming(text) and os.path.lexists(Paths(name).capture):
+            return refusal(text, Refused(OTHER_GAME.format(name=name, live=DGT_LIVE)))
         before = last if last and name == last.name else None
         status, answer = yield from self._obeyed(words if named else text, before, sure=named, may_quit=True)
         is_list = answer.endswith((WAYS, ALL_WAYS))
         return status, with_more(answer, *ONE_BOARD) if is_list else answer
 
-    def add(self, text: str) -> Steps[Answer]:
+    def add(self, text: str, is_sure: bool) -> Steps[Answer]:
         """A line that was typed elsewhere."""
-        return (yield from self._obeyed(text, None, sure=True, may_quit=False))
+        return (yield from self._obeyed(text, None, is_sure, may_quit=False))
 
     def _obeyed(self, text: str, before: Optional[Paths], sure: bool, may_quit: bool) -> Steps[Answer]:
         try:

@@ -5,6 +5,7 @@ from __future__ import annotations
 from typing import Callable, List, Optional, Protocol, Tuple
 
 from live.board.standing import Standing
+from live.board.advice import Moves
 from live.game.alarms import Alarms, acknowledged
 from live.game.attended import Answer, Doubt, Over
 from live.game.attending import Attending, HearsAnswers, Past, Told
@@ -89,16 +90,21 @@ class AttendedGame:
         """What somebody must look at."""
         return self._alarms.looks
 
-    def look_at(self, look: Look, byte: int = 0, otherwise: str = "") -> None:
-        """Somebody must look at this, which is about a ply that came with this byte, if about any. It is said if it is new, and what to do
-        if it isn't right as it is."""
+    def look_at(self, look: Look, byte: int = 0) -> None:
+        """Somebody must look at this, which is about a ply that came with this byte, if about any. It is said if it is new, and what to
+        do. One that is open, and only counts more moves now, is noted in the log."""
+        counts_on = any(look.counts_on(one) for one in self.looks.open)
         if self._alarms.add(look, byte):
-            answer = f"{look.text}. Look at it, and type {self._screen.ok()}"
-            if otherwise:
-                self._screen.say(f"{answer};", otherwise)
+            if counts_on:
+                self._screen.note(look.text)
             else:
-                self._screen.say(answer)
+                self._screen.look(look, self._moves)
             self.look_again()
+
+    @property
+    def _moves(self) -> Moves:
+        """The plies of the game, as far as advice needs them."""
+        return Moves()
 
     def look_again(self) -> None:
         """The alarms have changed."""

@@ -7,10 +7,11 @@ import dataclasses
 import functools
 import math
 from dataclasses import dataclass
-from typing import TYPE_CHECKING, Callable, List, Optional, Protocol, Sequence, Tuple
+from typing import Callable, List, Optional, Protocol, Sequence, Tuple
 
 from live.beside import Worker
 from live.board.asked_first import AskedFirst
+from live.board.exchanged import Return, Returned, came_back
 from live.board.plan import Plan
 from live.board.recorder import Recorder
 from live.board.recording import Recording
@@ -19,9 +20,10 @@ from live.board.typed_lines import Line, TypedLines
 from live.board.whose import Owner
 from live.game import files
 from live.game.alarms import kept_looks
+from live.game.changing import add_by_name
 from live.game.course import Course
-from live.game.forfeiting import forfeit_of
 from live.game.files import Paths
+from live.game.forfeiting import forfeit_of
 from live.game.game import kept_serial, result_of
 from live.game.log import Log, log_once
 from live.game.looks import Looks
@@ -38,9 +40,6 @@ from live.loop import Timer, Turns
 from live.refused import DONE, FAILED, Refused
 from live.steps import Steps, beside
 from live.terminal.screen import Screen
-
-if TYPE_CHECKING:
-    from live.board.exchanged import Return, Returned
 
 PAUSES = (2.0, 5.0, 10.0, 20.0, 40.0, 60.0)  # seconds between tries to record a board
 ENDED = "its recording has ended"
@@ -179,7 +178,7 @@ class Board:
         """An error was raised: everything that was open is closed."""
         self._note(error)
         self._leave()
-        self._put_off(reason_of(error) if isinstance(error, (Refused, OSError)) else f"{type(error).__name__}: {error}", error)
+        self._put_off(reason_of(error), error)
 
     def _leave(self) -> None:
         """Stops recording."""
@@ -253,8 +252,6 @@ class Board:
 
     def came_back(self, heard_at: Optional[float], has_slept: bool) -> None:
         """Its board was unplugged or silent, and is heard again."""
-        from live.board.exchanged import came_back
-
         if back := came_back(heard_at, has_slept, self._loop.now()):
             self._back = back
             self._hears.came_back()
@@ -264,8 +261,6 @@ class Board:
         """When it was away last, and what tells it from others; None if it wasn't, or its game is over."""
         if self._back is None or self.is_over:
             return None
-        from live.board.exchanged import Returned
-
         return Returned(self._back, self.number, self._course.placement)
 
     def suspect(self, others: Sequence[int]) -> None:
@@ -328,12 +323,15 @@ class Board:
         """A line of the terminal of a single board, which gets an answer."""
         self._lines.take(Line(text, lambda: self._obeys(text, is_typed=True), answered))
 
-    def add(self, text: str, answered: Callable[[Answer], None], begins: Callable[[], None] = lambda: None) -> None:
-        """A line that was typed elsewhere, which gets an answer; `begins` is called when the lines before it are answered."""
+    def add(
+        self, text: str, answered: Callable[[Answer], None], begins: Callable[[], None] = lambda: None, is_sure: bool = True
+    ) -> None:
+        """A line that was typed elsewhere, which gets an answer; `begins` is called when the lines before it are answered. What
+        isn't sure is asked about."""
 
         def obeys() -> Steps[Answer]:
             begins()
-            return self._obeys(text, is_typed=False)
+            return self._obeys(text, is_typed=False, is_sure=is_sure)
 
         def then(answer: Answer) -> None:
             self._hears.changed()
@@ -351,14 +349,13 @@ class Board:
 
         self.add(text, then)
 
-    def _obeys(self, text: str, is_typed: bool) -> Steps[Answer]:
+    def _obeys(self, text: str, is_typed: bool, is_sure: bool = False) -> Steps[Answer]:
         recorder = self._recorder
         if recorder is None and self.is_begun:
             return refusal(text, NotDone(BEING_OPENED))
         if recorder is None:
             return (yield from self._add_to_closed(text))
-        arbiter = yield from recorder.arbiter()
-        return (yield from (arbiter.typed(text) if is_typed else arbiter.add(text)))
+        return (yield from (recorder.arbiter.typed(text) if is_typed else recorder.arbiter.add(text, is_sure)))
 
     def _refuses(self, text: str, error: Exception) -> Answer:
         """The answer to a line that raised an error: it ends nothing."""
@@ -495,6 +492,4 @@ class Board:
 
 
 def _add_by_name(program: Program, paths: Paths, text: str) -> Answer:
-    from live.game.changing import add_by_name  # beside the loop
-
     return add_by_name(program, paths, text, 0)

@@ -3,11 +3,14 @@ program decides when the board is asked and whose board it is."""
 
 from __future__ import annotations
 
-from typing import TYPE_CHECKING, List, Optional, Protocol
+from typing import List, Optional, Protocol
 
+from live.board import advice
+from live.board.another_board import AnotherBoard
 from live.board.asked_first import AskedFirst
 from live.board.on_the_way import ANOTHER
 from live.board.standing import Standing
+from live.called import DGT_LIVE
 from live.device.connection import Connection
 from live.game.attended import KEEP, OTHER, SILENT, UNPLUGGED, WAITS, WAKE, Answer
 from live.game.attending import OF_THE_LINE, Told
@@ -17,9 +20,6 @@ from live.game.times import HEARD, OPENED, TOOK
 from live.guard import Guard
 from live.refused import ANOTHER_CALL, printable
 from live.terminal.screen import Screen
-
-if TYPE_CHECKING:
-    from live.board.another_board import AnotherBoard
 
 NO_BOARD = (WAITS, UNPLUGGED)  # states that don't say whether the board answers
 
@@ -110,7 +110,7 @@ class Cable:
     def tell(self, standing: Standing) -> None:
         """Reports the line's state to a new listener."""
         if self._unplugged:
-            standing.unplugged(self._unplugged_at, self._connection.is_server)
+            standing.unplugged(self._unplugged_at, self._connection.is_server, self._how_it_is_there())
         if self._silent:
             standing.was_away = True
 
@@ -179,8 +179,6 @@ class Cable:
 
     def _attend_another(self) -> None:
         """The game's own board may come over another cable, so another child attends this one."""
-        from live.board.another_board import AnotherBoard  # few cables need it
-
         self._hears.happened(ANOTHER)
         self._another = AnotherBoard(self._guard, self._program, self.number, self)
 
@@ -262,24 +260,21 @@ class Cable:
         if not self._once and self._hears.standing and self.name:  # a game that is over ends without it; one that isn't played needs none
             self._screen.cable(self._gone())
         if self._hears.standing:
-            self._hears.standing.unplugged(self._unplugged_at, self._connection.is_server)
+            self._hears.standing.unplugged(self._unplugged_at, self._connection.is_server, self._how_it_is_there())
         if self.number:
             self._hears.missing()
         if self._once:
             self._hears.gone(self._gone_for_good(), self._was_plugged)
 
     def _gone(self) -> str:
+        """That it isn't there, and what to do so that it is."""
+        why = self._connection.why
+        return f"{self.name} isn't there{f' ({printable(why)})' if why else ''}: {self._how_it_is_there()}"
+
+    def _how_it_is_there(self) -> str:
         """What to do so that it is there again."""
-        why, screen = self._connection.why, self._screen
-        if why and self._was_plugged:
-            what = "look at the serial server, its power and its network; it is tried again and again"
-        elif why:
-            what = f"look at the serial server, its power and its network. Is it another address? {screen.other_address()}"
-        elif self._was_plugged:
-            what = "plug it in again; the recording then goes on"
-        else:
-            what = f"plug it in. Is it another device? {screen.other_device()}"
-        return f"{self.name} isn't there{f' ({printable(why)})' if why else ''}: {what}"
+        screen, is_server = self._screen, bool(self._connection.why)
+        return advice.of_line(is_server, "" if self._was_plugged else screen.other_address() if is_server else screen.other_device())
 
     def _gone_for_good(self) -> str:
         """Why it isn't there, if it isn't waited for; and what to do if it never was."""
@@ -287,17 +282,14 @@ class Cable:
         if self._was_plugged:
             return f"{self._device} has gone away{why}"
         looks = "look at the serial server, its power, its network and its address"
-        return f"{self._device} isn't there{why}: {looks if why else 'plug it in; dgt_live --devices lists what is there'}"
+        return f"{self._device} isn't there{why}: {looks if why else f'plug it in; {DGT_LIVE} --devices lists what is there'}"
 
     def silence(self, silent: bool) -> None:
         """The board sends no dumps, or sends them again."""
         self._silent = silent
         self._connection.silence(silent)
         if silent:
-            self._screen.cable(
-                f"no board answers on {self.name}; it is asked again and again. Look at the cable,",
-                "the board's power, whether it is the right device, and whether another program has it open",
-            )
+            self._screen.cable(f"no board answers on {self.name}: {advice.AT_THE_CABLE}")
         else:
             self._screen.say(f"the board on {self.name} answers again")
         if self._hears.standing:

@@ -6,6 +6,7 @@ import os
 from typing import Protocol
 
 from live.board.standing import Standing
+from live.board.advice import IN_MEMORY
 from live.board.state import DISK_FULL, mend_of, trouble_of
 from live.game.files import Capture, folder_of, text_of, unwritten
 from live.game.game import Game
@@ -59,7 +60,7 @@ class Disk:
         if self._capture.waits:
             self._screen.say(
                 f"{trouble}: {self._capture.path} can't be written ({why}). {mend_of(full)}:",
-                "what comes is kept in memory, and is tried again each second",
+                IN_MEMORY,
             )
         elif not trouble:
             self._capture.lost = 0

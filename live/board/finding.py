@@ -6,6 +6,7 @@ import os
 from typing import Callable, Dict, FrozenSet, Optional, Protocol, Sequence, Set, Tuple
 
 from live.beside import Worker
+from live.device.numbers import ask
 from live.device.serial_line import devices
 from live.game.program import Program
 from live.guard import traced
@@ -37,8 +38,6 @@ def on_free_devices(program: Program, used: Set[str], asked: FrozenSet[str]) -> 
     free = {device: name or device for device, name in devices() if device not in used}
     if not free or asked == frozenset(free):
         return frozenset(free), {}
-    from live.device.numbers import ask  # few boards are missing
-
     return frozenset(free), {number: free[device] for device, number in ask(program, list(free)).numbers.items()}
 
 

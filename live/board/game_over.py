@@ -125,17 +125,12 @@ class Listening(AttendedGame):
         """Counts moves from the start. Nobody is told again of those from before this call."""
         looks = [look for look in map(start.take, events) if look]
         if looks and are_news:
-            begins = f"if the game begins only now, type {self._screen.begins()}: it has these moves then"
-            self.look_at(looks[-1], otherwise=begins if self._result == NO_RESULT else self._how_it_goes_on)
+            self.look_at(looks[-1])
 
     def _plays_on(self, moves: int, is_known: bool) -> None:
         is_news, self._played = moves > self._played, moves
         if is_news and not is_known and not self._from_the_start:
-            self.look_at(went_on(self._last, moves, self._result), otherwise=self._how_it_goes_on)
-
-    @property
-    def _how_it_goes_on(self) -> str:
-        return f"if the game isn't over, type {self._screen.reopens()}: it goes on with these moves"
+            self.look_at(went_on(self._last, moves, self._result))
 
     def _shows_looks(self) -> None:
         self._shows()

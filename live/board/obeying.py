@@ -10,7 +10,7 @@ from __future__ import annotations
 import contextlib
 import functools
 import os
-from typing import Callable, Optional, Protocol, TypeVar, Union
+from typing import Callable, Optional, Protocol, Tuple, TypeVar, Union
 
 from live.beside import Worker
 from live.board.attended_game import PATIENCE
@@ -89,6 +89,7 @@ class Obeying:
     def __init__(self, guard: Guard, worker: Worker, screen: Screen, plan: Plan, hears: HearsRecorder, games: Games) -> None:
         self.guard, self.screen, self.plan, self.hears, self.games = guard, screen, plan, hears, games
         self._worker = worker
+        self.asked_about: Optional[Tuple[str, float]] = None  # the result of a game without a move, and when it was asked about
 
     def beside(self, job: Callable[[], Result]) -> Steps[Result]:
         """Waits for a job that is done beside the loop."""

@@ -5,6 +5,7 @@ from __future__ import annotations
 import enum
 from dataclasses import dataclass
 
+from live.called import DGT_LIVE
 from live.game.course import Course
 
 
@@ -53,8 +54,8 @@ def told(reason: Reason, result: str, goes_on: str, reopens: str, is_alone: bool
 def told_of_before(name: str, course: Course) -> str:
     """What to do with a game that was over before this call began."""
     if course.is_given:
-        goes_on = f'To go on with it all the same: dgt_live --add "*" {name}'
+        goes_on = f'To go on with it all the same: {DGT_LIVE} --add "*" {name}'
     else:
         last = course.plies[-2].short if len(course.plies) > 1 else "0"
-        goes_on = f'If its last move was another one: dgt_live --back "{last}" {name}'
+        goes_on = f'If its last move was another one: {DGT_LIVE} --back "{last}" {name}'
     return f"for another game choose another name. {goes_on}"

@@ -3,29 +3,34 @@
 from __future__ import annotations
 
 import contextlib
-import importlib
 import os
-from typing import TYPE_CHECKING, Optional, Type, Union
+from typing import Optional, Set, Type, Union
 
 from live.beside import Worker
+from live.board.arbiter import Arbiter
 from live.board.asked_first import AskedFirst
+from live.board.advice import Moves
 from live.board.attended_game import AttendedGame
+from live.board.beginning import begin_anew, begin_next, not_begun
 from live.board.cable import Cable
 from live.board.disk import unwritten_of
+from live.board.game_over import Listening
+from live.board.obeying import Obeying
 from live.board.on_the_way import LENDS, OnTheWay
 from live.board.plan import HearsRecorder, Plan, numbered
 from live.board.reasons import Reason, told, told_of_before
 from live.board.recording import Recording
+from live.board.setting_up import SettingUp
 from live.board.standing import Standing
-from live.board.whose import another, back, may_take
+from live.board.whose import MOST_NUMBERS, another, back, changing, may_take
 from live.game.alarms import acknowledge, keep_looks, kept_looks
+from live.game.answers import dump_at_end
 from live.game.attended import NUMBER, Answer
 from live.game.attending import Told
 from live.game.control import Control
 from live.game.course import Course
 from live.game.files import Paths, text_of
-from live.game.game import Game, end_mark, forget_question, mark_end, mebibytes
-from live.game.game import keep_other, keep_serial, kept_other, kept_serial
+from live.game.game import Game, end_mark, forget_question, keep_other, keep_serial, kept_other, kept_serial, mark_end, mebibytes
 from live.game.log import Log
 from live.game.looks import Look, Looks
 from live.game.making_pgn import Made
@@ -35,13 +40,7 @@ from live.game.reply import Answer as Reply
 from live.guard import Guard
 from live.loop import Callback
 from live.refused import DONE, FAILED, Broken, Refused
-from live.steps import Steps, beside
 from live.terminal.screen import Screen
-
-if TYPE_CHECKING:
-    from live.board.arbiter import Arbiter
-    from live.board.game_over import Listening
-    from live.board.setting_up import SettingUp
 
 AGAIN = 1.0  # seconds between two tries to begin a game anew
 
@@ -64,6 +63,7 @@ class Recorder:
         self._ends_later = False  # whether to end once nothing is held any more
         self._unbegun = ""  # why a game can't be begun, as it was said
         number = plan.serial or kept_serial(opened.game.paths)
+        self._strange: Set[str] = set()  # the numbers that it had on its cable and that no board has
         self._cable = Cable(guard, opened.game.program, screen, plan.device, plan.once, number, self, asked)
         self.now: Union[Recording, SettingUp, Listening, None] = None  # what takes the board's bytes
         self._take(opened.game, opened.close)
@@ -160,8 +160,6 @@ class Recorder:
 
     def _await_moves(self, before: Optional[Recording] = None) -> None:
         """The game is over: moves that are still made are reported."""
-        from live.board.game_over import Listening
-
         listening = Listening(self._guard, self._screen, self.game, self.course, self, before)
         if before:
             before.close()
@@ -199,8 +197,6 @@ class Recorder:
         self._look_for_start(end, self.course, before)
 
     def _look_for_start(self, end: int, course: Course, before: Optional[Recording] = None) -> None:
-        from live.board.setting_up import SettingUp
-
         setting_up = SettingUp(self._guard, self._screen, self.game, course, end, self, before)
         if before:
             before.close()
@@ -215,8 +211,6 @@ class Recorder:
 
     def _begin_behind(self, size: int) -> None:
         """The game begins with the board as it stood with these bytes. If that can't be written, it is tried again."""
-        from live.game.answers import dump_at_end
-
         if not isinstance(self.now, Recording) or self._ending or self._closing:
             return
         self.begins_anew, capture = True, self.game.capture
@@ -241,8 +235,6 @@ class Recorder:
 
     def _begin(self, content: bytes) -> Optional[Game]:
         """Begins the next game, or this one anew. None if that can't be done: why is said once."""
-        from live.board.beginning import begin_anew, begin_next, not_begun
-
         game, capture, is_next = self.game, self.game.capture.number, not self.begins_anew
         paths = self._next() if is_next else game.paths
         if is_next and os.path.exists(paths.pgn):
@@ -358,7 +350,9 @@ class Recorder:
         if owner and (self._plan.serial or number == kept_other(self.game.paths)):
             self._screen.say(f"{self.cable} has the board of {owner.name}, serial number {number}: it goes to that game")
         elif owner or not self._has_ended:
-            self.look_at(another(self.number, number, owner, bool(self.course.plies)))
+            self._strange |= {number} if owner is None else set()
+            is_changing = owner is None and len(self._strange) > MOST_NUMBERS
+            self.look_at(changing(self.number) if is_changing else another(self.number, number, owner, bool(self.course.plies)))
 
     @property
     def _has_ended(self) -> bool:
@@ -375,7 +369,8 @@ class Recorder:
 
     def back(self, other: str) -> None:
         """Its own board is on its cable again."""
-        if not (self._plan.serial if self._hears.owner(other) else self._has_ended):
+        is_known = self._plan.serial if self._hears.owner(other) else self._has_ended
+        if not is_known and len(self._strange) <= MOST_NUMBERS:  # else its number may be one of many
             self.look_at(back(self.number, other))
 
     def look_at(self, look: Look) -> None:
@@ -385,7 +380,7 @@ class Recorder:
             return
         with contextlib.suppress(OSError):
             keep_looks(self.game.paths, kept_looks(self.game.paths).with_one_more(look))
-        self._screen.say(f"{look.text}. Look at it, and type {self._screen.ok()}")
+        self._screen.look(look, Moves([ply.short for ply in self.course.plies]))
 
     def _may_take(self) -> bool:
         """Whether the board on the cable is another one, and `ok` gives it to this game."""
@@ -421,13 +416,10 @@ class Recorder:
 
     # Typed lines.
 
-    def arbiter(self) -> Steps[Arbiter]:
-        """What obeys typed lines. It is loaded beside the loop."""
+    @property
+    def arbiter(self) -> Arbiter:
+        """What obeys typed lines."""
         if self._arbiter is None:
-            yield from beside(self._worker, lambda: importlib.import_module("live.board.arbiter"))
-            from live.board.arbiter import Arbiter
-            from live.board.obeying import Obeying
-
             self._arbiter = Arbiter(Obeying(self._guard, self._worker, self._screen, self._plan, self._hears, self))
         return self._arbiter
 

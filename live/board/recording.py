@@ -6,12 +6,15 @@ import os
 from typing import Callable, List, Optional, Protocol, Sequence, Tuple
 
 from live.beside import Worker
+from live.board.advice import Moves
 from live.board.attended_game import PATIENCE, AttendedGame, HearsGame
 from live.board.disk import Disk, unwritten_of
+from live.board.exchanged import told_of_exchange
 from live.board.reasons import SAID, Reason, Rules
 from live.board.standing import Standing
 from live.board.state import lasting, mend_of, trouble_of
 from live.game import times
+from live.game.afterwards import corrected
 from live.game.attended import SUSPECT, Doubt, Over
 from live.game.doubted import byte_of, look_of
 from live.game.edited import told_of_edit
@@ -259,9 +262,11 @@ class Recording(AttendedGame):
         self._suspected += [other for other in others if other not in self._suspected]
 
     def _look_at_suspected(self) -> None:
-        from live.board.exchanged import told_of_exchange  # few games need it
-
         self.look_at(told_of_exchange(self._suspected))
+
+    @property
+    def _moves(self) -> Moves:
+        return Moves([ply.short for ply in self.course.plies])
 
     def _shows_looks(self) -> None:
         self.standing.look(self.looks.short)
@@ -375,8 +380,6 @@ class Recording(AttendedGame):
         if reason is Reason.SET_UP:
             self._say_what_is_dropped(self.end)
         if reason is Reason.CORRECTED and self.dropped:
-            from live.game.afterwards import corrected  # few games need it
-
             self.look_at(corrected(self.dropped[0].short))
         elif not over.sure:
             self._screen.say(f"LOOK at the last moves of {self.game.paths.pgn}: where the game ended isn't sure")

@@ -103,7 +103,7 @@ class SettingUp(AttendedGame):
 
     def _looks(self, look: Look) -> None:
         """Moves were made, and the game is over."""
-        self.look_at(look, otherwise=f"if the game isn't over, type {self._screen.reopens()}: it goes on with these moves")
+        self.look_at(look)
 
     def _leaves(self) -> None:
         """The program that attended the game does so no more."""

@@ -6,26 +6,28 @@ import dataclasses
 import functools
 import os
 from dataclasses import dataclass
-from typing import TYPE_CHECKING, Callable, Optional, Tuple
+from typing import Callable, Optional, Tuple
 
+from live.board.advice import Moves, all_of
 from live.board.board import Board, Wanted
+from live.board.finding import Finder
 from live.board.plan import Plan
 from live.board.state import Kind
+from live.called import DGT_LIVE
 from live.device.line import check, check_free
 from live.game.files import Paths, size_of
 from live.game.game import end_mark, largest, mebibytes
 from live.game.opening import Chooses, Chosen, Opening, added_to_kept
 from live.game.options import Options, as_typed
 from live.game.program import Program
-from live.game.reply import Answer, reason_of, refusal
+from live.game.reply import HELPS, Answer, reason_of, refusal
+from live.game.report import listed
 from live.game.tags import Tags
+from live.game.typed import MESSAGES, MOVES
 from live.guard import traced
 from live.loop import Callback, Loop
 from live.refused import DONE, FAILED, REFUSED, Broken, Refused
 from live.terminal.screen import Screen
-
-if TYPE_CHECKING:
-    from live.board.finding import Finder
 
 QUITS = ("q", "quit")
 
@@ -112,8 +114,6 @@ class Single:
     def missing(self) -> None:
         """Its board, whose serial number is known, isn't on its cable: it is looked for from now on."""
         if self._finder is None:
-            from live.board.finding import Finder
-
             self._finder = Finder(self._loop, self._program, lambda: [self.board], self.trouble)
 
     def close(self) -> None:
@@ -161,6 +161,14 @@ class Single:
             return
         if not text.strip():
             return
+        if text == MOVES:
+            self._screen.show(listed(self.board.plies, self.board.result))
+            return
+        if text == MESSAGES:
+            self._screen.again()
+            return
+        if text.strip().lower() in HELPS and self.advice:
+            self._screen.show(self.advice)
         self.board.typed(text, functools.partial(self._answered, self.board.is_recorded))
 
     def _answered(self, is_recorded: bool, answer: Answer) -> None:
@@ -191,8 +199,6 @@ class Single:
         """The name of its game's files."""
         return os.path.basename(self.board.paths.name)
 
-    in_front = ""
-
     def standing(self) -> Tuple[str, Optional[float], bool]:
         """The board's state in words, since when, and whether it is an alarm."""
         state, now = self.board.state, self._loop.now()
@@ -203,6 +209,12 @@ class Single:
             return (f"{look}; over" if look else "over"), None, bool(look)
         since = None if state.kind is Kind.WAITS else state.since
         return state._replace(since=now).text(now), since, state.is_alarm
+
+    @property
+    def advice(self) -> str:
+        """What is to be done about it; empty if nothing is."""
+        state = None if self.board.trouble else self.board.state
+        return all_of(state, self.board.looks.open, False, lambda line: line, Moves([ply.short for ply in self.board.plies]))
 
     def player_name(self, option: str) -> str:
         """The name for `--white` or `--black`."""
@@ -218,12 +230,12 @@ def why_over(paths: Paths, given: Options, kept: Options) -> Optional[Refused]:
     """The refusal of a game that is over, or whose capture is full; None if it goes on."""
     if end_mark(paths) is not None:
         what = [
-            f"{paths.name} is over: choose another name. To add to it: dgt_live --add 1-0 {paths.name}.",
-            f'To go on with it all the same: dgt_live --add "*" {paths.name}',
+            f"{paths.name} is over: choose another name. To add to it: {DGT_LIVE} --add 1-0 {paths.name}.",
+            f'To go on with it all the same: {DGT_LIVE} --add "*" {paths.name}',
         ]
         reading = " ".join(as_typed(given.reading().words()))
         if reading:
-            what.append(f"For --first, --recover and --strict leave the device out: dgt_live {reading} {paths.name}")
+            what.append(f"For --first, --recover and --strict leave the device out: {DGT_LIVE} {reading} {paths.name}")
         return Refused(REFUSED, *what)
     options = kept.with_given(given)
     if size_of(paths.capture) >= largest(options):

@@ -57,9 +57,10 @@ class Standing:
             self.board.unplugged_since = None
             self.show()
 
-    def unplugged(self, at: float, is_server: bool) -> None:
-        """The line has gone away, as the program says too; but a serial server's may be open again before its board is there."""
-        self.was_away = True
+    def unplugged(self, at: float, is_server: bool, line: str) -> None:
+        """The line has gone away, as the program says too; but a serial server's may be open again before its board is there. `line` says
+        what to do."""
+        self.was_away, self.board.line = True, line
         if is_server:
             self.board.unplugged_since = at
             self.show()

@@ -69,6 +69,7 @@ class State(NamedTuple):
     hint: str = ""
     disk: str = ""  # what keeps something from being written
     look: str = ""  # what somebody must look at
+    line: str = ""  # what to do so that its line is there again
 
     @property
     def is_alarm(self) -> bool:
@@ -130,6 +131,7 @@ class BoardState:
     result: str = ""  # that the board has shown
     differs: Tuple[str, ...] = ()  # the squares that the report has named last
     unplugged_since: Optional[float] = None  # a serial server may be there without a board
+    line: str = ""  # what to do so that its line is there again
     _stood: Stood = Stood("WAITS")
     _since: float = 0.0
 
@@ -146,8 +148,8 @@ class BoardState:
     def state(self) -> State:
         """The state now."""
         if self.unplugged_since is not None:
-            return State(Kind.UNPLUGGED, self.unplugged_since, disk=self.disk, look=self.look)
+            return State(Kind.UNPLUGGED, self.unplugged_since, disk=self.disk, look=self.look, line=self.line)
         stood, kind = self._stood, Kind.of(self._stood.kind)
         squares = self.differs if kind is Kind.IN_HAND else stood.squares
         hint = {"": "", "TURNED-ROUND": self.turned_hint, "OTHER-BOARD": OTHER_BOARD}[stood.hint]
-        return State(kind, self._since, squares, self.result if kind is Kind.RESULT else "", hint, self.disk, self.look)
+        return State(kind, self._since, squares, self.result if kind is Kind.RESULT else "", hint, self.disk, self.look, self.line)

@@ -9,6 +9,7 @@ from typing import Optional
 from live.game.looks import Look
 
 WHERE = "at the cable"
+MOST_NUMBERS = 3  # of boards that nobody knows, each of which is named on a cable
 
 
 @dataclass(frozen=True)
@@ -32,6 +33,12 @@ def another(own: str, shown: str, owner: Optional[Owner], has_moves: bool) -> Lo
     has = f"it has the board of {owner.name}, serial number {shown}, and not {own}"
     right = "; if they are right now, ok takes this board" if may_take(owner, has_moves) else ""
     return Look(WHERE, f"{has}: what it sends goes to the game of {owner.name}. Put the cables right{right}", WHERE)
+
+
+def changing(own: str) -> Look:
+    """The message about a board that gives another number again and again."""
+    has = f"it has a board that gives one serial number after the other, and not {own}: what it sends is kept back"
+    return Look(WHERE, f"{has}. Put the cables right, or take another board", WHERE)
 
 
 def back(own: str, other: str) -> Look:

@@ -4,10 +4,10 @@ too late than too early. So what waits for its time waits rather too long. Pure.
 from __future__ import annotations
 
 from dataclasses import dataclass
-from typing import List, Mapping, Optional
+from typing import AbstractSet, List, Mapping, Optional
 
 from live.game import times
-from live.game.began import Began, Begin
+from live.game.began import Began, Begin, Part, as_written
 from live.game.times import OF_BYTES, OVER, Call, Kept
 
 
@@ -64,10 +64,11 @@ def over_at(calls: List[Call]) -> Optional[int]:
     return next((count for call in reversed(calls) for _, what, count in reversed(call.events) if what == OVER), None)
 
 
-def calls_of(content: bytes, first: bytes) -> "tuple[List[Call], int]":
+def calls_of(content: bytes, first: bytes, parts: Mapping[int, AbstractSet[Part]]) -> "tuple[List[Call], int]":
     """The calls in a file of times, and its generation; none if it is of another capture than the one that begins so, or can't be
-    read."""
+    read. Only lines in these parts count, by generation: what isn't as it was written, and what follows up to the next call, is unknown."""
     found = times.kept(content)
     if not isinstance(found, Kept) or found.size > len(first) or times.digest(first[: found.size]) != found.digest:
         return [], 0
-    return times.calls(content, found), found.generation
+    places = as_written(content, parts.get(found.generation, set()))
+    return times.calls(content, found, places), found.generation

@@ -7,18 +7,23 @@ from __future__ import annotations
 
 import contextlib
 import os
+from dataclasses import replace
 from typing import Callable, Dict, Iterable, List, Optional, Protocol, Sequence, Set, Tuple
 
 from live.beside import Worker
+from live.broadcast import went_out
 from live.broadcast.games import Game, Shots, written_name
 from live.broadcast.going_out import GoingOut
+from live.broadcast.matches import UNKNOWN, Paired
 from live.broadcast.publishing import Publisher
 from live.broadcast.said_again import Said, games_before, said_again
+from live.broadcast.shot import Shot
 from live.broadcast.steady import Steady
-from live.broadcast.view import Player, SpectatorBoard
+from live.broadcast.view import Player, SpectatorBoard, said_of_matches
 from live.broadcast.waiting import Waiting
-from live.game.files import AnyPath, Paths, folder_of, sync_folder
-from live.game.forfeits import told_to_readers
+from live.broadcast.went_out import Keeper, WentOut
+from live.game.files import AnyPath, Paths, folder_of, remove, sync_folder
+from live.game.forfeits import NO_RESULT, told_to_readers
 from live.game.program import Program
 from live.game.tags import published
 from live.guard import Guard, traced
@@ -34,6 +39,7 @@ AGAIN = 1.0  # seconds after which it begins again if an error has ended it, and
 TRIES = 4  # of the program to say again what was hidden of a game
 NOT_PUBLISHED = "NOT PUBLISHED"
 SIDES = ("White", "Black")
+Due = Tuple[Tuple[SpectatorBoard, ...], Tuple[Paired, ...]]  # the boards, and those of the table that aren't recorded
 
 
 class HearsBroadcast(Protocol):
@@ -61,7 +67,8 @@ class Others(Protocol):
 class OneGame:
     """A game as it goes out. If it goes out late, the program must first say again what was said of it; until then nothing is shown."""
 
-    def __init__(self, name: str, out: GoingOut) -> None:
+    def __init__(self, name: str, out: GoingOut, before: Optional[Shot] = None) -> None:
+        self._before = before  # what readers had of it when this call began
         self.name, self.waiting, self.steady = name, Waiting(out.delay), Steady(out.hold)
         self.is_told = True  # whether what was said of it before is known
         self._shots = Shots()
@@ -76,6 +83,8 @@ class OneGame:
             self._releases(came)
             self.waiting.take(came, self.steady.take(came, shot))
         self._releases(now)
+        if self._before:
+            self.waiting.was_out(self._before)
         self.is_told = True
 
     def _releases(self, now: float) -> None:
@@ -99,14 +108,14 @@ class OneGame:
         """Moves on to this time."""
         self.waiting.look(now)
 
-    def show(self, game: Game) -> bool:
-        """Shows what is due. Returns whether that has changed."""
+    def show(self, game: Game) -> None:
+        """Shows what is due."""
         shot = self.waiting.shot
         names = {side: written_name(game, side) for side in SIDES}
         tags = {**game.tags, **names}
         shown_of = (id(shot), game.number, tuple(tags.items()))
         if shown_of == self._shown:
-            return False
+            return
         self._shown, self._shot = shown_of, shot  # the shot is kept, so that its id stays its own
         of = (tuple(tags.items()), shot.text, shot.forfeit)
         if of != self._text[0]:
@@ -116,7 +125,6 @@ class OneGame:
         shown = SpectatorBoard(game.number, white, black, shot, self._text[1], self.waiting.delay)
         if shown != before:
             self.board = shown
-        return shown != before
 
 
 class Broadcast:
@@ -137,12 +145,24 @@ class Broadcast:
         self.on_news: Optional[Callable[[], None]] = None  # called when what the page shows has changed; None if there is no page
         self._others: List[Others] = []
         self._of: Dict[int, OneGame] = {}
-        self.boards: Tuple[SpectatorBoard, ...] = ()
+        self._before = self._kept_before()
+        self.boards, self._pairs = self._before.boards, self._before.pairs  # as they are out, with the table's boards that aren't recorded
+        self.unrecorded: Callable[[], Iterable[Paired]] = lambda: ()  # the table's boards that aren't recorded
+        self._results: Dict[int, Waiting] = {}  # the results that the table has for them
         self._is_known = False  # whether the games have been looked at
         self._changed: Optional[Set[int]] = set()  # the games to look at soon; None for all
         self.alarm = ""  # why the text can't be carried away
         self._closed = False
         self._begin()
+
+    def _kept_before(self) -> WentOut:
+        """What was out before this call, if it goes out late."""
+        if self._place and self._out.delay:
+            return went_out.read(went_out.path_of(self._place), self._out.delay)
+        if self._place:
+            with contextlib.suppress(OSError):  # it is put right with the next delay
+                remove(went_out.path_of(self._place))
+        return WentOut()
 
     def _begin(self) -> None:
         self._timer: Optional[Timer] = None
@@ -152,7 +172,12 @@ class Broadcast:
         self._publisher: Optional[Publisher] = None
         self._beside: Optional[Worker] = None
         self._of = {number: one for number, one in self._of.items() if one.is_told}
+        self._next: Optional[Due] = None  # nothing of this call has gone out yet
+        self._keeper: Optional[Keeper] = None
         self._make_folder()
+        if self._place and self._out.delay:
+            self._keeper = Keeper(guard, went_out.path_of(self._place), self._out.delay)
+            guard.opened(self._keeper.close)
         if self._place:
             self._file = Published(guard, self._place, self.text, self._hears.say)
             guard.opened(self._file.stop)
@@ -224,7 +249,6 @@ class Broadcast:
             self._changed = None  # nothing that was seen goes back; then all are looked at
             return
         self._changed = set()
-        is_news = False
         for number, game in games.items():
             one = self._of[number]
             if number in untold:
@@ -232,24 +256,53 @@ class Broadcast:
             if changed is None or number in changed or one is not before.get(number):
                 try:
                     one.take(game, self._loop.now)
-                    is_news = one.show(game) or is_news
+                    one.show(game)
                 except Exception as error:  # it stays as it was, and the others go on
                     self._hears.trouble(traced(error))
-        boards = tuple(one.board for one in self._of.values() if one.board)
-        if is_news or [board.number for board in boards] != [board.number for board in self.boards]:
-            self.boards = boards
-            if self.on_news:
-                self.on_news()
-            if self._file:
-                self._file.changed()
+        due = tuple(one.board for one in self._of.values() if one.board), self._take_unrecorded()
+        if due != self._next:
+            self._next = due
+            self._keep(due)
         self._wait()
+
+    def _keep(self, due: Due) -> None:
+        """What is due goes out; if it is late, once it is kept that it does."""
+        boards, pairs = due
+        if self._keeper:
+            names = tuple(os.path.basename(self._of[board.number].name) for board in boards)
+            self._keeper.keep(WentOut(boards, names, pairs), lambda: self._goes_out(due))
+        else:
+            self._goes_out(due)
+
+    def _goes_out(self, due: Due) -> None:
+        self.boards, self._pairs = due
+        if self.on_news:
+            self.on_news()
+        if self._file:
+            self._file.changed()
+
+    def _take_unrecorded(self) -> Tuple[Paired, ...]:
+        """The boards that aren't recorded. A result that the table gets for one goes out as late as one of a game."""
+        now, pairs, before = self._loop.now(), list(self.unrecorded()), self._results
+        self._results = {pair.number: before.get(pair.number) or Waiting(self._out.delay) for pair in pairs}
+        for pair in pairs:
+            self._results[pair.number].take(now, Shot(pair.score or NO_RESULT))
+            if pair in self._before.pairs:
+                self._results[pair.number].was_out(Shot(pair.score or NO_RESULT))
+            self._results[pair.number].look(now)
+        return tuple(replace(pair, score=self._results[pair.number].shot.result.replace(NO_RESULT, UNKNOWN)) for pair in pairs)
+
+    @property
+    def matches(self) -> Tuple[Tuple[str, object], ...]:
+        """What is said of matches of teams."""
+        return said_of_matches(self.boards, self._pairs)
 
     def _one(self, game: Game) -> OneGame:
         """The game as it goes out; from its beginning if its name has changed."""
         one = self._of.get(game.number)
         name = self._paths(game).name
         if one is None or one.name != name:
-            one = OneGame(name, self._out)
+            one = OneGame(name, self._out, self._before.of(game.number, os.path.basename(name)))
             last = game.board.paths
             games = [Paths(f"{folder_of(last.capture)}/{each}") for each in games_before(os.path.basename(name), os.path.basename(last.name))]
             one.is_told = not self._out.delay or not any(os.path.lexists(paths.capture) for paths in games)
@@ -368,6 +421,8 @@ class Broadcast:
                 one.steady.release()
             if self._is_known:
                 self._look()
+            if self._keeper:
+                self._keeper.finish()
             if self._file and self.boards:  # without a game there is no text
                 self._file.close()
             for other in self._others:

@@ -6,6 +6,7 @@ from __future__ import annotations
 import json
 import math
 import os
+import shlex
 from dataclasses import dataclass
 from typing import Optional, Sequence, Tuple
 
@@ -56,8 +57,6 @@ def read_hold(text: str) -> float:
 
 def read_command(text: str, option: str = "--publish") -> Tuple[str, ...]:
     """The words of a command; `~/` before it is the home folder. Refused if it has none."""
-    import shlex  # only a few calls need it
-
     try:
         words = tuple(shlex.split(text))
     except ValueError:

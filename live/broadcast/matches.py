@@ -3,53 +3,127 @@
 from __future__ import annotations
 
 from dataclasses import dataclass
-from typing import Dict, FrozenSet, List, Sequence, Tuple
+from typing import Dict, FrozenSet, List, Optional, Sequence, Set, Tuple
 
-HALF_POINTS = {"1-0": (2, 0), "0-1": (0, 2), "1/2-1/2": (1, 1)}  # of a game that goes on, or that both lose, there are none
+HALF_POINTS = {"1-0": (2, 0), "0-1": (0, 2), "1/2-1/2": (1, 1), "0-0": (0, 0), "*": (0, 0)}  # a game that goes on has none yet
+UNKNOWN = ""  # the score of a board that isn't recorded, if the table has no result for it
+IN_THE_TABLE = "put that right in the table, save it, and type r"
+MOST_TOLD = 5  # matches that are named one by one
+MOST_ODD = 4  # of so many boards one may have a misspelt team
+
+Teams = FrozenSet[str]
 
 
 @dataclass(frozen=True)
 class Paired:
-    """A board: the teams of White and of Black, and the score of its game or of its forfeit."""
+    """A board: the teams of White and of Black, the score of its game or of its forfeit, and whether spectators see it."""
 
     number: int
     teams: Tuple[str, str]
     score: str = "*"
+    is_shown: bool = True
 
 
 @dataclass(frozen=True)
 class Match:
-    """Two teams, first that of White at their first board, with the points of their games that are over."""
+    """Two teams, first that of White at their first board; the points of their games that are over, or None if they aren't known, and
+    why not; and those of its boards that spectators see."""
 
     teams: Tuple[str, str]
-    points: Tuple[float, float]
+    points: Optional[Tuple[float, float]]
     boards: Tuple[int, ...]
+    why: str = ""
 
     @property
     def values(self) -> Dict[str, object]:
         """It as JSON has it."""
-        return {"teams": self.teams, "points": self.points, "boards": self.boards}
+        why = {"why": self.why} if self.why else {}
+        return {"teams": self.teams, "points": self.points, "boards": self.boards, **why}
 
 
 def matches_of(boards: Sequence[Paired]) -> Tuple[Match, ...]:
-    """The matches of a round, in the order of their first boards. There are none unless each board has two teams, each team meets one
-    other alone, and two of them meet at more than one board: else it is an open whose players have clubs."""
-    pairs: Dict[FrozenSet[str], List[Paired]] = {}
-    for board in boards:
-        pairs.setdefault(frozenset(board.teams), []).append(board)
-    teams = [team for pair in pairs for team in pair]
-    if "" in teams or len(teams) != 2 * len(pairs) or len(set(teams)) < len(teams) or len(boards) == len(pairs):
+    """The matches of a round, in the order of their first boards, as far as spectators see a board of them. There are none unless more
+    than half of the boards are of teams that meet one another and no other, at more than one board: else it is an open whose players have
+    clubs. A board or two whose players have one team are a mistake; in an open they are more."""
+    if MOST_ODD * sum(one == other != "" for one, other in (board.teams for board in boards)) >= max(1, len(boards)):
         return ()
-    return tuple(_match(games) for games in pairs.values())
+    groups = _groups(boards)
+    certain = sum(len(group) for group in groups if len(group) > 1 and _are_two(group))
+    if 2 * certain <= len(boards):
+        return ()
+    lost = [board for board in boards if not any(board.teams)]
+    matches = [_match(sorted(group, key=lambda board: board.number), lost) for group in groups if any(map(any, (one.teams for one in group)))]
+    return tuple(sorted((match for match in matches if match.boards), key=lambda match: match.boards))
 
 
-def _match(games: Sequence[Paired]) -> Match:
-    first, other = games[0].teams
-    halves = {first: 0, other: 0}
-    for game in games:
-        for team, half_points in zip(game.teams, HALF_POINTS.get(game.score, (0, 0))):
+def _groups(boards: Sequence[Paired]) -> List[List[Paired]]:
+    """The boards whose teams meet one another, also over others."""
+    groups: List[Tuple[Set[str], List[Paired]]] = []
+    for board in boards:
+        names, group = set(filter(None, board.teams)), [board]
+        met = [one for one in groups if one[0] & names]
+        for others, more in met:
+            names |= others
+            group = [*more, *group]
+        groups = [*(one for one in groups if one not in met), (names, group)]
+    return [group for _, group in groups]
+
+
+def _counts(group: Sequence[Paired]) -> Dict[Teams, int]:
+    counts: Dict[Teams, int] = {}
+    for board in group:
+        if all(board.teams) and len(set(board.teams)) > 1:
+            counts[frozenset(board.teams)] = counts.get(frozenset(board.teams), 0) + 1
+    return counts
+
+
+def _are_two(group: Sequence[Paired]) -> bool:
+    """Whether these boards are a match, of which few have a team that is misspelt or missing."""
+    most = max(_counts(group).values(), default=0)
+    return most > 1 and MOST_ODD * (len(group) - most) <= len(group)
+
+
+def _match(group: Sequence[Paired], lost: Sequence[Paired]) -> Match:
+    counts = _counts(group)
+    teams = max(counts, key=lambda pair: counts[pair], default=frozenset())
+    odd = [board for board in group if frozenset(board.teams) != teams]
+    first = next((board.teams for board in group if board not in odd), group[0].teams)
+    unknown = [board.number for board in group if board.score not in HALF_POINTS]
+    why = "; ".join(filter(None, (*map(_told_of_odd, (*odd, *lost)), told_of_unknown(unknown))))
+    shown = tuple(board.number for board in group if board.is_shown)
+    return Match(first, None if why else _points(first, group), shown, why)
+
+
+def _points(teams: Tuple[str, str], group: Sequence[Paired]) -> Tuple[float, float]:
+    halves = dict.fromkeys(teams, 0)
+    for game in group:
+        for team, half_points in zip(game.teams, HALF_POINTS[game.score]):
             halves[team] += half_points
-    return Match((first, other), (halves[first] / 2, halves[other] / 2), tuple(game.number for game in games))
+    return halves[teams[0]] / 2, halves[teams[1]] / 2
+
+
+def _told_of_odd(board: Paired) -> str:
+    one, other = board.teams
+    if one and other:
+        return f"board {board.number} has {one} – {other}"
+    return f"board {board.number} has no {'team' if one or other else 'teams'}{' for Black' if one else ' for White' if other else ''}"
+
+
+def told_of_unknown(numbers: Sequence[int]) -> str:
+    """That the results of these boards aren't known."""
+    names = list(map(str, sorted(numbers)))
+    if not names:
+        return ""
+    which = f"boards {', '.join(names[:-1])} and {names[-1]}" if names[1:] else f"board {names[0]}"
+    return f"the result{'s' if names[1:] else ''} of {which} {'are' if names[1:] else 'is'}n't known"
+
+
+def told_of_matches(matches: Sequence[Match]) -> List[str]:
+    """Lines for the arbiter about matches that show no score."""
+    without = [match for match in matches if match.why]
+    lines = [f"the match {' – '.join(match.teams)} shows no score: {match.why}: {IN_THE_TABLE}" for match in without[:MOST_TOLD]]
+    more = len(without) - MOST_TOLD
+    return [*lines, f"{more} more match{'es show' if more > 1 else ' shows'} no score"] if more > 0 else lines
 
 
 def printed(points: float) -> str:

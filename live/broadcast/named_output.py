@@ -22,7 +22,7 @@ EXAMPLE = "agency = 3, /home/anna/agency.sh"
 LONG_EXAMPLE = "public = 15, web /home/anna/site, /home/anna/public.sh"
 NO = "no"
 MOST = 8  # outputs: each has some files open for each board, and boards come first
-TEXT, HIDDEN = "broadcast.pgn", "*.delayed"
+TEXT, SHOWN, HIDDEN = "broadcast.pgn", "broadcast.shown", "*.delayed"
 
 
 @dataclass(frozen=True)
@@ -116,10 +116,16 @@ def refuse_shared_sites(web: str, outputs: Sequence[Output]) -> None:
         sites[place] = output.web, f"the site of output {output.name}"
 
 
+def sites_given(web: str, outputs: Sequence[Output]) -> List[Tuple[str, str]]:
+    """The folder of each site, behind the option that gives it."""
+    sites = (("--web", web), *((f"{OPTION} {output.name}", output.web) for output in outputs))
+    return [(option, site) for option, site in sites if site]
+
+
 def refuse_games_in_site(folder: pathlib.Path, web: str, outputs: Sequence[Output]) -> None:
     """Refuses a site in whose folder the round keeps its games: it would overwrite their round.pgn, and publish them at once."""
-    for option, site in (("--web", web), *((f"{OPTION} {output.name}", output.web) for output in outputs)):
-        if site and is_within(os.path.realpath(folder), os.path.realpath(site)):
+    for option, site in sites_given(web, outputs):
+        if is_within(os.path.realpath(folder), os.path.realpath(site)):
             why = f"the round keeps its games there, in {folder}, and readers would get them at once: give the site another folder"
             raise Refused(REFUSED, f"{option}: {site}: {why}")
 
@@ -143,7 +149,7 @@ def left_in(folder: pathlib.Path) -> List[str]:
 
 def _own(place: pathlib.Path) -> List[pathlib.Path]:
     """The files of an output in its folder: what an earlier version had hidden, then its text."""
-    return [path for name in (HIDDEN, new_of(HIDDEN), TEXT, new_of(TEXT)) for path in sorted(place.glob(name))]
+    return [path for name in (HIDDEN, new_of(HIDDEN), TEXT, new_of(TEXT), SHOWN, new_of(SHOWN)) for path in sorted(place.glob(name))]
 
 
 def refuse_unknown(removed: Sequence[str], known: Sequence[str]) -> None:

@@ -9,6 +9,7 @@ from typing import Callable, Dict, Iterable, List, Optional, Sequence
 from live.broadcast.broadcast import Broadcast, HearsBroadcast
 from live.broadcast.games import Game
 from live.broadcast.going_out import GoingOut
+from live.broadcast.matches import Paired
 from live.broadcast.named_output import TEXT, Output
 from live.game.files import Paths
 from live.game.program import Program
@@ -50,6 +51,11 @@ class Outputs:
                 does(one)
             except Exception as error:
                 self._hears.trouble(traced(error))
+
+    def beside(self, unrecorded: Callable[[], Iterable[Paired]]) -> None:
+        """These boards of the table aren't recorded."""
+        for one in self._all:
+            one.unrecorded = unrecorded
 
     def changed(self, number: Optional[int] = None) -> None:
         """The game with this number has changed. Without a number any game may have changed, or there are others."""

@@ -10,7 +10,7 @@ from __future__ import annotations
 
 import functools
 from dataclasses import dataclass
-from typing import List, Optional
+from typing import List, Optional, Tuple
 
 from live.game.report import Clock
 
@@ -29,6 +29,11 @@ class Clocks:
     black: str = ""
     runs: str = ""
     at: float = 0.0
+
+    @property
+    def times(self) -> Tuple[str, str]:
+        """What both show."""
+        return self.white, self.black
 
 
 STANDING = Clocks()

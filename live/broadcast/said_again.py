@@ -106,10 +106,11 @@ class Kept:
 
     def came(self, until: int) -> List[Came]:
         """When its bytes came, all of them by this time. The end of an earlier capture is in its times alone."""
-        calls, generation = calls_of(self.times, part_of(self.source, 0, HEADED))
+        began = read_began(self.began)
+        calls, generation = calls_of(self.times, part_of(self.source, 0, HEADED), began.parts)
         over = None if self.is_last else over_at(calls)
         size = self.size if over is None else min(self.size, over)
-        return within(came(calls, generation, read_began(self.began), this_start(), until), size, until)
+        return within(came(calls, generation, began.calls, this_start(), until), size, until)
 
 
 def _content(path: str) -> bytes:

@@ -28,6 +28,11 @@ class Shot:
         """Whether the game has neither a move nor a result, nor its text."""
         return not self.forfeit and not self.moves and self.result == "*" and self.text.partition(b"\n\n")[2].strip() in (b"", b"*")
 
+    def has_game_of(self, other: Shot) -> bool:
+        """Whether both are the same game: its moves and its result."""
+        moves = [[ply.san for ply in shot.moves] for shot in (self, other)]
+        return moves[0] == moves[1] and (self.result, self.forfeit) == (other.result, other.forfeit)
+
 
 NOTHING = Shot()
 

@@ -3,7 +3,7 @@
 from __future__ import annotations
 
 from dataclasses import dataclass
-from typing import Dict, Iterable, Optional, Tuple
+from typing import Dict, Iterable, Optional, Sequence, Tuple
 
 from live.broadcast.matches import Paired, matches_of
 from live.broadcast.shot import Shot
@@ -74,7 +74,8 @@ class SpectatorBoard:
         return json_text(values)
 
 
-def said_of_matches(boards: Iterable[SpectatorBoard]) -> Tuple[Tuple[str, object], ...]:
-    """What is said of a round whose boards are matches of teams."""
-    matches = matches_of([Paired(board.number, (board.white.team, board.black.team), board.score) for board in boards])
+def said_of_matches(boards: Iterable[SpectatorBoard], others: Sequence[Paired] = ()) -> Tuple[Tuple[str, object], ...]:
+    """What is said of a round whose boards are matches of teams; `others` are boards that aren't recorded."""
+    shown = [Paired(board.number, (board.white.team, board.black.team), board.score) for board in boards]
+    matches = matches_of([*shown, *others])
     return (("matches", [match.values for match in matches]),) if matches else ()

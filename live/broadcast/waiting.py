@@ -50,6 +50,16 @@ class Waiting:
             self.out = self.entries.pop(0)
         return self.out is not before
 
+    def was_out(self, shot: Shot) -> None:
+        """Spectators had this before: of what waits it is shown, with all before it. Of several moments with the same moves, it is the one
+        with the same clocks, else the first."""
+        same = [at for at, entry in enumerate(self.entries) if entry.shot.has_game_of(shot)]
+        run = [at for index, at in enumerate(same) if at == same[0] + index]
+        clocks = [at for at in run if self.entries[at].shot.clocks.times == shot.clocks.times]
+        for at in (clocks or run)[:1]:
+            self.out = self.entries[at]
+            del self.entries[: at + 1]
+
     @property
     def known(self) -> List[Entry]:
         """What is shown, and what waits."""

@@ -3,18 +3,16 @@
 from __future__ import annotations
 
 import math
-from typing import TYPE_CHECKING, Optional, Protocol
+from typing import Optional, Protocol
 
+from live.device.first_dump import FirstDump
 from live.device.line import Line, line_of
 from live.device.serial_line import BUSY_PATIENCE, Busy, SerialLine, cable_name
+from live.device.trial import Trial
+from live.game.program import Program
 from live.game.times import ANSWERED, ASKED, CALLED, GONE, OPENED
 from live.guard import Guard
 from live.loop import Timer
-
-if TYPE_CHECKING:
-    from live.device.first_dump import FirstDump
-    from live.device.trial import Trial
-    from live.game.program import Program
 
 LOOK_AGAIN = 0.5  # seconds between two tries to open a device that isn't there
 CONNECT_AGAIN = 2.0  # and to connect to a serial server
@@ -125,9 +123,6 @@ class Connection:
         if isinstance(self._line, SerialLine):
             self._plugged()
         else:
-            from live.device.first_dump import FirstDump  # of serial servers alone
-            from live.device.trial import Trial
-
             self._trial, self._first = Trial(now), FirstDump(self._guard, self._program, self)
             self._call_again_later()
 

@@ -3,15 +3,14 @@
 from __future__ import annotations
 
 import os
-from typing import TYPE_CHECKING, Union
+from typing import Union
 
-from live.device import serial_line
+from live.device import network_line, serial_line
 from live.device.network_address import HOW, is_network, read_address
+from live.device.network_line import NetworkLine
 from live.device.serial_line import Busy, SerialLine
 from live.refused import ANOTHER_CALL, FAILED, Refused
 
-if TYPE_CHECKING:
-    from live.device.network_line import NetworkLine
 
 Line = Union[SerialLine, "NetworkLine"]
 
@@ -20,8 +19,6 @@ def line_of(device: str) -> Line:
     """The line of this device, which isn't open yet."""
     if not is_network(device):
         return SerialLine(device)
-    from live.device.network_line import NetworkLine
-
     return NetworkLine(device)
 
 
@@ -38,8 +35,6 @@ def check_free(device: str) -> None:
     if not is_network(device):
         serial_line.check_free(device)
         return
-    from live.device import network_line
-
     try:
         network_line.check_free(device)
     except Busy:

@@ -8,12 +8,13 @@ import os
 import pwd
 import stat
 import termios
-from typing import List, Optional, Tuple
+from typing import Dict, List, Optional, Tuple
 
+from live.called import DGT_LIVE
 from live.lock import locked
 from live.refused import ANOTHER_CALL, FAILED, Refused
 
-SEE_DEVICES = "see which devices there are with dgt_live --devices"
+SEE_DEVICES = f"see which devices there are with {DGT_LIVE} --devices"
 PLUGGED = ("ttyUSB", "ttyACM", "rfcomm")  # how the names of their devices begin; the last is a Bluetooth board's
 CONTROLLING_TERMINAL = os.makedev(5, 0)  # the number of /dev/tty, under any name
 BUSY_PATIENCE = 3.0  # seconds: a call that was just killed may still hold the lock
@@ -29,9 +30,19 @@ def serial_folders() -> List[str]:
     return [f"{serial_folder()}/by-id", f"{serial_folder()}/by-path"]
 
 
-def serial_names() -> List[str]:
-    """The names in the folders that exist, in order within each folder."""
-    return [f"{folder}/{name}" for folder in filter(os.path.isdir, serial_folders()) for name in sorted(os.listdir(folder))]
+def names_in(folder: str) -> List[str]:
+    """The paths in a folder, in order; none if it can't be listed, as when the last cable is pulled."""
+    try:
+        return [f"{folder}/{name}" for name in sorted(os.listdir(folder))]
+    except OSError:
+        return []
+
+
+def serial_names() -> Dict[str, str]:
+    """The names of the cables that are plugged in, first by the cable itself, each with its device. Each is looked up once, since it
+    may go meanwhile."""
+    found = {name: os.path.realpath(name) for folder in serial_folders() for name in names_in(folder)}
+    return {name: device for name, device in found.items() if os.path.exists(device)}
 
 
 def cable_name(device: str) -> str:
@@ -39,17 +50,17 @@ def cable_name(device: str) -> str:
     if os.path.dirname(device) in serial_folders():
         return device
     wanted = os.path.realpath(device)
-    found = (name for name in serial_names() if os.path.realpath(name) == wanted and os.path.exists(name))
-    return next(found, device)
+    return next((name for name, place in serial_names().items() if place == wanted), device)
 
 
 def devices() -> List[Tuple[str, str]]:
     """Each device that may be a board, with the name of its cable, or an empty one."""
-    above = os.path.dirname(serial_folder())
-    names = [f"{above}/{name}" for name in os.listdir(above) if name.startswith(PLUGGED)] if os.path.isdir(above) else []
-    found = {os.path.realpath(name) for name in (*names, *serial_names()) if os.path.exists(name)}
-    named = {device: cable_name(device) for device in found}
-    return sorted((device, "" if name == device else name) for device, name in named.items())
+    plugged = [name for name in names_in(os.path.dirname(serial_folder())) if os.path.basename(name).startswith(PLUGGED)]
+    places = [os.path.realpath(name) for name in plugged]
+    found = {device: "" for device in places if os.path.exists(device)}
+    for name, device in serial_names().items():
+        found[device] = found.get(device) or name
+    return sorted(found.items())
 
 
 def login_name() -> str:
@@ -93,7 +104,7 @@ def check(device: str, may_wait: bool) -> None:
     except OSError as error:
         raise Refused(FAILED, f"{device} can't be looked at ({error.strerror}): {SEE_DEVICES}") from None
     if not stat.S_ISCHR(found.st_mode):
-        raise Refused(FAILED, f"{device} is no device: see dgt_live --devices")
+        raise Refused(FAILED, f"{device} is no device: see {DGT_LIVE} --devices")
     if found.st_rdev == CONTROLLING_TERMINAL:
         raise Refused(FAILED, is_terminal(device))
     try:

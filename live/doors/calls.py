@@ -3,15 +3,14 @@
 from __future__ import annotations
 
 from dataclasses import dataclass
-from typing import TYPE_CHECKING, Dict, List, Optional, Sequence, Tuple
+from typing import Dict, List, Optional, Sequence, Tuple
 
-from live.game.options import PLAIN, RECOVER, SEE_HELP, STRICT, TAG, VALUED, Options
-from live.game.options import assigned, meant, no_option, typed_tag, typed_value
+from live.broadcast.going_out import read_command, read_delay, read_hold
+from live.called import DGT_LIVE
+from live.game.options import PLAIN, RECOVER, SEE_HELP, STRICT, TAG, VALUED, Options, assigned, meant, no_option, typed_tag, typed_value
 from live.game.reply import BACK
 from live.refused import ARGUMENTS, Refused
-
-if TYPE_CHECKING:
-    from live.web.address import Pages
+from live.web.address import Pages, read_pages
 
 LINGER = "--linger"  # of earlier versions
 RECORDING = (LINGER, "--page", "--arbiter-page", "--delay", "--publish", "--hold")  # options of a recording that have a value
@@ -106,7 +105,7 @@ def parse(arguments: Sequence[str]) -> Call:
     if len(plain) > wanted:
         raise Refused(ARGUMENTS, f"{plain[wanted]} {QUOTES}: {SEE_HELP}")
     if len(plain) < wanted or not plain[-1]:
-        what = "type a DEVICE and a NAME, as dgt_live /dev/ttyUSB0 game"
+        what = f"type a DEVICE and a NAME, as {DGT_LIVE} /dev/ttyUSB0 game"
         if typed:
             what = "type the NAME of a game after --add and --back"
         raise Refused(ARGUMENTS, f"{what}: {SEE_HELP}")
@@ -133,8 +132,6 @@ def pages_of(page: Optional[str], arbiter_page: Optional[str], hosts: Sequence[s
     """Where pages are served; None if nowhere. The module that reads addresses is loaded only if it is needed."""
     if page is None and arbiter_page is None:
         return None
-    from live.web.address import read_pages
-
     return read_pages(page, arbiter_page, hosts)
 
 
@@ -142,8 +139,6 @@ def going_out(delay: Optional[str], publish: Optional[str]) -> Tuple[Optional[fl
     """The delay in seconds, if one is given, and the words of the command that publishes."""
     if delay is None and publish is None:
         return None, ()
-    from live.broadcast.going_out import read_command, read_delay
-
     return None if delay is None else read_delay(delay), () if publish is None else read_command(publish)
 
 
@@ -151,8 +146,6 @@ def hold_of(text: Optional[str]) -> Optional[float]:
     """The seconds for which a last ply must stand before it goes out, if they are typed."""
     if text is None:
         return None
-    from live.broadcast.going_out import read_hold
-
     return read_hold(text)
 
 

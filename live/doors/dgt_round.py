@@ -14,9 +14,10 @@ from live.broadcast.kept_out import keep_out, kept_out
 from live.broadcast.kept_out import told_of_kept as told_of_kept_out
 from live.broadcast.named_output import OPTION as OUTPUT
 from live.broadcast.named_output import (
-    Output, held, left_in, name_in, read_outputs, refuse_games_in_site, refuse_links, refuse_shared_sites, refuse_unknown, removed, told_of,
+    Output, held, left_in, name_in, read_outputs, refuse_games_in_site, refuse_links, refuse_shared_sites, refuse_unknown, removed, sites_given, told_of,
     without_those,
 )  # fmt: skip
+from live.called import DGT_ROUND
 from live.doors import calls
 from live.doors.calls import LINGER, QUOTES, refuse_both, refuse_hosts, told_of_linger
 from live.doors.door import Outcome, through
@@ -28,7 +29,6 @@ from live.game.options import RECOVER, STRICT, TAG, UNKNOWN, Options
 from live.game.options import as_typed, assigned, meant, no_option, typed_tag, typed_value
 from live.game.program import Program
 from live.lock import locked
-from live.later import keep_what_is_loaded_later
 from live.loop import Loop, Signals
 from live.refused import ARGUMENTS, DONE, FAILED, REFUSED, Refused
 from live.round.display import terminal_of_lines
@@ -36,7 +36,7 @@ from live.round.encodings import ENCODING, encoding_in, known_encoding
 from live.round.round import Round, first_pairings, refuse_another_round
 from live.round.place import chosen_folder, refuse_exchanged
 from live.round.row import Hall
-from live.round.site import SiteFiles, kept_rounds
+from live.round.site import SiteFiles, refuse_no_site
 from live.round.sources import Source
 from live.round.tournament import Tournament, made, tournament_of
 from live.round.tournament_files import RESULTS, TournamentFiles, all_text, results_text
@@ -46,7 +46,7 @@ from live.web.doors import Title, TwoPages
 from live.web.kept_pages import keep_pages, pages_of
 from live.web.round_page import ArbiterView
 
-SEE_HELP = "see dgt_round --help"
+SEE_HELP = f"see {DGT_ROUND} --help"
 TAGS = ("--event", "--site", "--date", "--round")
 NEW, EMBED, WEB = "--new", "--embed", "--web"
 VALUED = (*TAGS, TAG, LINGER, "--page", "--page-host", "--arbiter-page", EMBED, WEB, "--delay", "--publish", "--hold", OUTPUT, ENCODING, MATCHES)
@@ -65,8 +65,8 @@ line that is wrong stops no other. dgt_live --devices lists devices, numbers.
 While it records, type
   3 1-0       the result of board 3: 1-0, 0-1, 1/2-1/2; by forfeit +-, -+, --
   3 Nf3 Nc6   moves that board 3 has missed; 3 back takes one off, 3 * a result
-  3, 3 ok     the state of board 3; you have looked at its LOOK
-  r, q        read FILE again (HUP does so too); end (Ctrl-C asks nothing)
+  3, 3 moves, 3 ok   board 3: its state; its game; you have looked at its LOOK
+  r, messages, q     read FILE again, as HUP does; earlier messages; end
 OPTION, kept but *: --event, --place, --site, --date, --round; --tag NAME=VALUE
   --page [ADDRESS:]PORT     a page for spectators, as --page 8000
   --page-host NAME, --arbiter-page [ADDRESS:]PORT   its names; the arbiter's
@@ -91,7 +91,6 @@ class Asked:
     web: str = ""  # the folder of the static site
     hold: Optional[float] = None  # seconds for which a last ply must stand before it goes out; None leaves it as it was
     outputs: Tuple[Output, ...] = ()  # beside the first one
-    moved: Tuple[Tuple[str, str], ...] = ()  # the folder of a site in a tournament's, and the one that its path alone names
     known: Tuple[str, ...] = ()  # the names of outputs that the tournament's settings have
     encoding: str = ""  # of tables that aren't Unicode; empty if none is given
     is_encoding_typed: bool = False  # and not set
@@ -211,18 +210,14 @@ def of_tournament(arguments: Sequence[str], tournament: Tournament, typed: Asked
 def with_sites_in(asked: Asked, folder: pathlib.Path, typed: Asked) -> Asked:
     """With the sites that aren't typed in this folder, unless their paths are absolute. Refused if one is in another's folder."""
     names = [output.name for output in typed.outputs]
-    moved: List[Tuple[str, str]] = []
 
     def placed(web: str, is_typed: bool) -> str:
-        place = str(folder / web) if web and not is_typed else web
-        if place != web:
-            moved.append((place, web))
-        return place
+        return str(folder / web) if web and not is_typed else web
 
     web = placed(asked.web, bool(typed.web))
     outputs = tuple(replace(output, web=placed(output.web, output.name in names)) for output in asked.outputs)
     refuse_shared_sites(web, outputs)
-    return replace(asked, web=web, outputs=outputs, moved=tuple(moved))
+    return replace(asked, web=web, outputs=outputs)
 
 
 def folder_of(asked: Asked) -> Tuple[pathlib.Path, int]:
@@ -231,6 +226,8 @@ def folder_of(asked: Asked) -> Tuple[pathlib.Path, int]:
     if is_of_an_output(str(folder)):
         raise Refused(REFUSED, f"{folder} is the folder of an output of a round: choose another FOLDER")
     refuse_games_in_site(folder, asked.web, asked.outputs)
+    for option, site in sites_given(asked.web, asked.outputs):
+        refuse_no_site(option, pathlib.Path(site))
     try:
         folder.mkdir(exist_ok=True)
         lock = os.open(folder, os.O_RDONLY | os.O_DIRECTORY)
@@ -269,7 +266,6 @@ def told_of_kept(given: Options, kept: Options) -> str:
 
 def play(asked: Asked, program: Program, signals: Signals) -> Outcome:
     """Records the round."""
-    keep_what_is_loaded_later()
     asked.options.refuse_breaks()
     refuse_exchanged(asked.file, asked.folder)
     given = turned(recordable(asked.options, unknown))
@@ -289,7 +285,7 @@ def play(asked: Asked, program: Program, signals: Signals) -> Outcome:
     told, given = told_of_kept(given, kept), given.filled(kept, TAGS)
     loop = Loop()
     hall = Hall(program, str(folder), given, terminal_of_lines(loop))
-    refuse_another_round(source, read, hall)
+    of_others = refuse_another_round(source, read, hall)
     where, are_kept = pages_of(files, asked.pages)
     pages = TwoPages(loop, where, are_kept)
     delay = delay_of(files, asked.delay, [Paths(str(folder / pairing.file_name)) for pairing in read.boards])
@@ -301,7 +297,7 @@ def play(asked: Asked, program: Program, signals: Signals) -> Outcome:
     title = ", ".join(filter(None, (event, given.round and f"round {given.round}"))) or file.stem
     told_of_removed = [removed(folder, output) for output in asked.outputs if not output.out]
     told_of_named = [*filter(None, told_of_removed), *told_of(folder, asked.outputs, left_in(folder))]
-    games = Round(loop, source, read, title, replace(hall, out=GoingOut(delay, asked.publish, hold=hold), outputs=held(asked.outputs, hold)))
+    games = Round(loop, source, read, title, replace(hall, out=GoingOut(delay, asked.publish, hold=hold), outputs=held(asked.outputs, hold)), of_others)
     for line in filter(None, (told_of_place, told, *asked.told)):
         games.say(line)
     if late:
@@ -351,18 +347,9 @@ def files_of(tournament: Tournament, loop: Loop, games: Round) -> TournamentFile
 
 
 def told_of_sites(asked: Asked) -> List[str]:
-    """Where each site is; and where an earlier version has begun it, which took a relative path from here, and `~` for a name."""
-    lines = []
-    home, moved = os.path.expanduser("~"), dict(asked.moved)
-    for whose, web in (("", asked.web), *((f" of output {output.name}", output.web) for output in asked.outputs if output.out)):
-        if not web:
-            continue
-        place = os.path.abspath(web)
-        lines.append(f"the site{whose} is in {place}")
-        earlier = moved.get(web) or (f"~{place[len(home):]}" if place.startswith(f"{home}/") else web)
-        if kept_rounds(pathlib.Path(earlier)) and not kept_rounds(pathlib.Path(place)):
-            lines.append(f"an earlier site{whose} is in {os.path.abspath(earlier)}: to go on with it, end this, and move it to {place}")
-    return lines
+    """Where each site is."""
+    sites = (("", asked.web), *((f" of output {output.name}", output.web) for output in asked.outputs if output.out))
+    return [f"the site{whose} is in {os.path.abspath(web)}" for whose, web in sites if web]
 
 
 def sites_of(asked: Asked, loop: Loop, games: Round, title: Title) -> List[SiteFiles]:
@@ -374,7 +361,7 @@ def sites_of(asked: Asked, loop: Loop, games: Round, title: Title) -> List[SiteF
 
 def site_of(folder: str, broadcast: Broadcast, loop: Loop, games: Round, title: Title) -> SiteFiles:
     """The static site of an output."""
-    site = SiteFiles(loop, pathlib.Path(folder), title, lambda: broadcast.boards, games.say, games.trouble)
+    site = SiteFiles(loop, pathlib.Path(folder), title, lambda: broadcast.boards, lambda: broadcast.matches, games.say, games.trouble)
     broadcast.take_along(site)
     return site
 

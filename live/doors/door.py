@@ -27,7 +27,8 @@ def through(command: str, call: Callable[[Signals], Outcome]) -> int:
         status, complaint = refused.status, refused.text(command)
     except OSError as error:
         status, complaint = FAILED, f"{command}: {printable(str(error))}\n"
-    leave_as_found()
+    finally:
+        leave_as_found()
     try:
         if sys.stdout:
             sys.stdout.flush()

@@ -5,7 +5,7 @@ from __future__ import annotations
 from dataclasses import dataclass
 from typing import Optional, Sequence, Tuple
 
-from live.game.looks import OVER, Look
+from live.game.looks import AFTER_RESULT, OVER, Look
 from live.game.report import Event, Move
 
 SURE = 2  # moves: one alone may be a piece that somebody sets straight
@@ -22,7 +22,7 @@ def went_on(after: str, moves: int, result: str) -> Look:
 
 def corrected(ply: str) -> Look:
     """This ply corrects the last one of a game after its result, with which the game is over."""
-    return Look(f"at {ply}", "it corrects the last move after its result: compare with the score sheets")
+    return Look(f"at {ply}", AFTER_RESULT)
 
 
 def is_read_anew(stood: str, start: str, plies: int) -> bool:

@@ -16,6 +16,8 @@ SLOWEST = 60.0  # seconds that a call may take
 TOO_LONG = "input: too long"
 MOVES, RESULT = "moves", "result"  # the kinds of what is added
 NOTHING, MIXED, ILLEGAL, MEANT, UNKNOWN, ENDED, BOARD, LONG = "nothing", "mixed", "illegal", "meant", "unknown", "ended", "board", "long"
+MISNUMBERED = "misnumbered"
+PLACED = (ILLEGAL, MISNUMBERED)  # the kinds whose sentence says where in the game it is
 NO_PLIES = "0"
 A_RESULT = "the result "  # and the result that is added
 NUMBERED = re.compile(r"\d+\s+([A-Za-z*]|[01½][-–—−:/.]|[+-][+-])", re.ASCII)  # a line that begins as in a round
@@ -106,7 +108,7 @@ def what_ends(plies: Sequence[str]) -> str:
 
 
 def refuse(said: Said, line: str, place: str) -> Refused:
-    """Why a line adds nothing. `place` says who is to move, where a move isn't legal."""
+    """Why a line adds nothing. `place` is what `place_of` says."""
     if NUMBERED.match(line.strip()) and said.kind in (UNKNOWN, MIXED):
         return Refused(f"leave out the number in front. {WAYS}")
     ok = OK_NUMBERED.fullmatch(line.strip())
@@ -116,6 +118,8 @@ def refuse(said: Said, line: str, place: str) -> Refused:
         return Refused(SENTENCES[said.kind])
     if said.kind == ILLEGAL:
         return Refused(f"{said.words[1]} is no legal move: {place}. {NOTHING_ADDED}")
+    if said.kind == MISNUMBERED:
+        return Refused(f"{NUMBER.findall(said.words[1])[0]} isn't the number of the next move: {place}. {NOTHING_ADDED}")
     if said.kind == MEANT:
         return Refused(f"{written_so(*said.words[1:])}. {NOTHING_ADDED}")
     if said.kind == UNKNOWN:
@@ -148,14 +152,26 @@ def moves_in(line: str) -> List[str]:
     return [word for word in words if word]
 
 
-def whose_move(fen: Optional[str], played: Sequence[str], line: str, before: int) -> str:
-    """Who is to move after the plies of a game from this start, and after so many moves of a line; `Black is to move, after 2. Nf3`."""
-    sans = [*played, *moves_in(line)[:before]]
+def place_of(said: Said, fen: Optional[str], played: Sequence[str], line: str) -> str:
+    """Where in a game with these moves a line goes wrong; empty if that isn't said. Before a move that isn't legal, who is to move;
+    before one with a wrong number, the right one."""
+    if said.kind not in PLACED:
+        return ""
+    sans = [*played, *moves_in(line)[: int(said.words[0])]]
+    half = first_half(fen) + len(sans)
+    after = f", after {number_of(half - 1)} {sans[-1]}" if sans else ""
+    if said.kind == MISNUMBERED:
+        return f"{number_of(half)} is next{after}"
+    return f"{'Black' if half % 2 else 'White'} is to move{after}"
+
+
+def first_half(fen: Optional[str]) -> int:
+    """The half-move with which a game from this start begins: twice its number, and one more for Black's."""
     fields = (fen or "").split()
-    black_begins = fields[1:2] == ["b"]
-    first = 2 * (int(fields[5]) if len(fields) > 5 and fields[5].isdigit() else 1) + black_begins
-    side = "Black" if (first + len(sans)) % 2 else "White"
-    if not sans:
-        return f"{side} is to move"
-    last = first + len(sans) - 1
-    return f"{side} is to move, after {last // 2}{'...' if last % 2 else '.'} {sans[-1]}"
+    number = int(fields[5]) if len(fields) > 5 and fields[5].isdigit() else 1
+    return 2 * number + (fields[1:2] == ["b"])
+
+
+def number_of(half: int) -> str:
+    """The number of a half-move, as `14.` or `14...`."""
+    return f"{half // 2}{'...' if half % 2 else '.'}"

@@ -6,9 +6,10 @@ import os
 from dataclasses import replace
 from typing import Optional, Tuple
 
+from live.called import DGT_LIVE
 from live.game import answers
 from live.game.alarms import acknowledge, kept_looks
-from live.game.answers import BOARD, ILLEGAL, Said, meaning, whose_move
+from live.game.answers import BOARD, PLACED, Said, meaning, place_of
 from live.game.file_names import ROUND
 from live.game.files import Paths, existing, not_written, open_game
 from live.game.forfeiting import drop_forfeit, keep_forfeit
@@ -43,9 +44,8 @@ def add_to_closed(game: Game, line: str, is_there: bool = False) -> Tuple[Said, 
     if replaced:
         return replaced[0], f". {replaced[1]}"
     if not said.put:
-        played = game_of(game.program, game.options, sent).plies if said.kind == ILLEGAL else []
-        place = whose_move(game.options.fen, [ply.san for ply in played], line, int(said.words[0])) if said.kind == ILLEGAL else ""
-        raise answers.refuse(said, line, place)
+        played = game_of(game.program, game.options, sent).plies if said.kind in PLACED else []
+        raise answers.refuse(said, line, place_of(said, game.options.fen, [ply.san for ply in played], line))
     Text(game).look(mark)
     game.times.cut(end)
     after = game.capture.bytes(end)
@@ -172,7 +172,7 @@ def told_of_series(paths: Paths) -> str:
     if next_of(paths) is None:
         return ""
     first = told_of_next(paths)
-    return f"in a series, go on with it by dgt_live DEVICE {paths.name}, until it is over. {f'{first}. ' if first else ''}Then start the series again"
+    return f"in a series, go on with it by {DGT_LIVE} DEVICE {paths.name}, until it is over. {f'{first}. ' if first else ''}Then start the series again"
 
 
 def told_of_next(paths: Paths) -> str:
@@ -183,7 +183,7 @@ def told_of_next(paths: Paths) -> str:
             return ""
     except OSError:
         return ""
-    return f"If {following.name} has moves of {paths.name}, take them off: dgt_live --back 0 {following.name}"
+    return f"If {following.name} has moves of {paths.name}, take them off: {DGT_LIVE} --back 0 {following.name}"
 
 
 def next_of(paths: Paths) -> Optional[Paths]:

@@ -17,8 +17,9 @@ WHY = {
     "UNPRESSED": "six moves were made and nobody pressed the clock: if the game is over, take them off here",
     "OTHER-TIME": "players think while the other side's time runs: the clock may lie the other way round",
 }
-UNKNOWN = "moves may be missing: compare with the score sheets"  # for a word of a newer program
 ABOUT_CLOCK = "clock"
+THE_START = "the start"  # in the place of a ply
+UNKNOWN = "moves may be missing: compare with the score sheets"  # for a word of a newer program
 
 
 def byte_of(doubt: Doubt, ends: Sequence[int]) -> int:
@@ -31,7 +32,7 @@ def byte_of(doubt: Doubt, ends: Sequence[int]) -> int:
 def look_of(doubt: Doubt, plies: Sequence[Move]) -> Look:
     """What somebody must look at, in a game that has these plies. A ply that isn't known is named by its number."""
     if not doubt.plies:
-        name = "the start"
+        name = THE_START
     elif doubt.plies <= len(plies):
         name = plies[doubt.plies - 1].short
     else:

@@ -12,7 +12,7 @@ from live.refused import ARGUMENTS, REFUSED, Refused
 
 # A shell completes to the last one.
 ENDINGS = (
-    ".before.dgt", ".dgt", ".edited.pgn", ".broadcast.pgn", ".pgn", ".options", ".log", ".look", ".back", ".serial", ".end",
+    ".before.dgt", ".dgt", ".edited.pgn", ".broadcast.pgn", ".broadcast.shown", ".pgn", ".options", ".log", ".look", ".back", ".serial", ".end",
     ".forfeit", ".front", ".delayed", ".delay", ".out", ".pages", ".cable", ".times", ".began", ".zip", ".",
 )  # fmt: skip
 ROUND, BROADCAST = "round", "broadcast"

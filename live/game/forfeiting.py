@@ -7,6 +7,7 @@ import contextlib
 from typing import List, Optional
 
 from live.game.files import Paths, beginning, existing, put_in_place, remove
+from live.game.forfeits import fits
 from live.game.game import is_unplayed, result_of
 
 LONGEST = 16  # bytes of the file, whoever wrote it
@@ -35,8 +36,6 @@ def forfeit_of(paths: Paths, pgn: bytes) -> str:
     kind = kept_forfeit(paths) if is_unplayed(pgn) else ""
     if not kind:
         return ""
-    from live.game.forfeits import fits  # few games are forfeited
-
     return kind if fits(kind, result_of(pgn), pgn) else ""
 
 

@@ -3,6 +3,7 @@
 from __future__ import annotations
 
 import contextlib
+import zlib
 
 from live.game.files import Capture, Paths, existing, put_in_place
 
@@ -26,6 +27,4 @@ def front_of(paths: Paths, capture: Capture) -> int:
 
 
 def _checksum(content: bytes) -> int:
-    import zlib  # few games go back
-
     return zlib.crc32(content)

@@ -5,6 +5,7 @@ from __future__ import annotations
 from dataclasses import dataclass
 from typing import Container, Iterable, List, Tuple
 
+AFTER_RESULT = "it corrects the last move after its result: compare with the score sheets"
 OVER = "over"  # what an alarm about moves after a result is about
 
 
@@ -25,6 +26,10 @@ class Look:
     def text(self) -> str:
         """In full."""
         return f"{self.short}: {self.why}"
+
+    def counts_on(self, before: Look) -> bool:
+        """Whether it only counts more moves after a result than the one before."""
+        return self.about == before.about == OVER and self.what == before.what
 
     def is_about(self, settled: Container[str]) -> bool:
         """Whether it is about one of these. Moves after a result are settled if the last ply before it is: then it is gone too."""

@@ -92,17 +92,20 @@ def today() -> str:
 
 def _date(text: str, match: Match[str]) -> str:
     """The date with these parts, if there is such a day."""
-    import datetime  # it takes much memory, and few dates are typed
-
     given = match.groupdict()
     year, month, day = given["year"], _padded(given.get("month")), _padded(given.get("day"))
     # A leap year and a long month replace unknown ones.
     numbers = [int(part) if part.isdigit() else known for part, known in ((year, 2000), (month, 1), (day, 1))]
-    try:
-        datetime.date(*numbers)
-    except ValueError:
-        raise Unreadable(f"{_shown(text)!r} isn't in the calendar: write it as 2024.05.31, year, month and day") from None
+    if not is_a_day(*numbers):
+        raise Unreadable(f"{_shown(text)!r} isn't in the calendar: write it as 2024.05.31, year, month and day")
     return f"{year}.{month}.{day}"
+
+
+def is_a_day(year: int, month: int, day: int) -> bool:
+    """Whether there is such a day."""
+    is_leap = year % 4 == 0 and (year % 100 != 0 or year % 400 == 0)
+    days = 0 if not 1 <= month <= 12 else 28 + is_leap if month == 2 else 30 if month in (4, 6, 9, 11) else 31
+    return year >= 1 and 1 <= day <= days
 
 
 def _padded(part: Optional[str]) -> str:

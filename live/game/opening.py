@@ -17,6 +17,7 @@ from live.game.making_pgn import Text, told_of_reading, told_of_result
 from live.game.options import PUBLISHED, UNKNOWN, Options, as_typed
 from live.game.program import Program
 from live.game.reading import Old, nothing_old, read_game
+from live.game.refusal import reason
 from live.game.timed import Times
 from live.loop import Callback
 from live.refused import FAILED, REFUSED, Refused
@@ -38,6 +39,9 @@ CALLED: Dict[str, str] = {
     "--black": "the black player's name",
     "--date": "the date",
 }
+
+
+SIDES_OF_CLOCK = ("white", "black")
 
 
 def unknown(option: str) -> str:
@@ -82,13 +86,14 @@ def turned(given: Options) -> Options:
 
 
 def checked(program: Program, typed: Options) -> Options:
-    """With names and dates as PGN has them. Refused if the program refuses them."""
+    """With names and dates as PGN has them. Refused if the program refuses them. It is asked about a position alone: names and dates
+    are as it takes them by now."""
     typed.refuse_breaks()
     given = turned(recordable(typed))
+    if given.fen is None and given.first in (None, *SIDES_OF_CLOCK):
+        return given
     answer = program.run("record", *given.of_record())
     if answer.returncode != 0:
-        from live.game.refusal import reason
-
         raise Refused(answer.returncode, reason(answer.stderr.decode("utf-8", "replace")))
     return given
 

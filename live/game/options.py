@@ -6,6 +6,7 @@ import dataclasses
 from dataclasses import dataclass
 from typing import Callable, Dict, List, Mapping, Optional, Sequence, Tuple
 
+from live.called import DGT_LIVE
 from live.game.tags import Malformed, pair_of
 from live.refused import ARGUMENTS, REFUSED, Refused
 
@@ -23,7 +24,7 @@ VALUED = (FIRST, FEN, *TAGS)
 ROTATED, RECOVER, STRICT = "--rotated", "--recover", "--strict"
 NOT_ROTATED = f"{ROTATED}=no"  # takes ROTATED back
 PLAIN = (ROTATED, NOT_ROTATED, RECOVER, STRICT)
-SEE_HELP = "see dgt_live --help"
+SEE_HELP = f"see {DGT_LIVE} --help"
 INITIAL = "rnbqkbnr/pppppppp/8/8/8/8/PPPPPPPP/RNBQKBNR"
 
 

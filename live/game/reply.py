@@ -8,6 +8,7 @@ from typing import Tuple
 from live import refused
 from live.refused import REFUSED
 
+HELPS = ("help", "?", "undo")
 BACK, OK, REOPENS = "back", "ok", "*"  # what messages say is to be typed: takes plies off; acknowledges alarms; takes a result off
 NO_TEXT = "it is no text in UTF-8, so nothing of it counts. Type it again; a terminal in another encoding must be set to UTF-8"
 SHOWN = 60  # characters of a line that an answer shows
@@ -36,7 +37,9 @@ def reason_of(error: Exception) -> str:
     if isinstance(error, OSError):
         name = f"{os.fsdecode(error.filename)}: " if isinstance(error.filename, (str, bytes)) else ""
         return name + (error.strerror or str(error))
-    return error.lines[0] if isinstance(error, refused.Refused) else str(error)
+    if isinstance(error, refused.Refused):
+        return error.lines[0]
+    return str(error) if isinstance(error, Refused) else f"{type(error).__name__}: {error}"
 
 
 def refusal(text: str, error: Exception) -> Answer:

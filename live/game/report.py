@@ -35,6 +35,12 @@ class Move:
         return front + "  ".join(filter(None, (self.short, self.clock)))
 
 
+def listed(plies: Sequence[Move], result: str) -> str:
+    """The moves of a game in one line: `1. e4 e5 2. Nf3 *`."""
+    words = [ply.short if at == 0 or not ply.number.endswith("...") else ply.san for at, ply in enumerate(plies)]
+    return " ".join([*words, result]) if words else "no move was made yet"
+
+
 @dataclass(frozen=True)
 class Result:
     """The game's result is now this; `*` if it has none any more."""

@@ -19,7 +19,7 @@ from typing import Callable, List, Optional, Protocol, Tuple
 
 from live.device.protocol import DUMP_SIZE
 from live.game import times
-from live.game.began import Began, began_line, keep_began, this_start
+from live.game.began import Began, BeganFile, as_written, began_line, part_line, this_start
 from live.game.files import LARGEST, Capture, Paths, existing, open_regular, part_of, put_in_place, remove, sync_folder, text_of
 from live.loop import Away, Callback, Counting, Loop
 
@@ -28,7 +28,6 @@ MOST_WAIT = 1000  # events that wait for the first bytes of a capture
 AT_ONCE = 65536  # bytes of a capture that the program may be told as a whole, though no times of theirs are known
 OFTEN = (times.HEARD, times.ASKED)  # a move comes in several reads
 LATE = 20  # milliseconds from an event to its line
-NOTHING = "Nothing is to be done"
 
 
 class Turns(Protocol):
@@ -78,6 +77,7 @@ class Times:
         self._line: Tuple[str, ...] = ()  # what was last noted of the line
         self.leave: Callback = self.close  # ends it
         self.generation = 0  # how often the game has gone back
+        self._calls = BeganFile(paths.began)
         self._number: Optional[int] = None  # of the open file
         self._size = 0  # bytes of its lines
         self._is_new = self._is_read = False  # whether no file can be the capture's; whether it is known what stands in it
@@ -115,13 +115,13 @@ class Times:
         self.generation = self._gone_back()
         if isinstance(found, times.Kept) and self._is_ours(found):
             self.generation, self._size, self._away = found.generation, found.ends, self._since_written()
-            self._told += told_of(found, path, len(content), self._capture.path, self._capture.size)
+            self._told += times.told_of(found, path, len(content), self._capture.path, self._capture.size)
         elif content:
             self._is_foreign = True
             why = "is of a newer program" if isinstance(found, times.Newer) else "is of another capture" if found else "isn't readable"
-            self._told.append(f"{path} {why}: it is kept as {self._beside()}, and another one is begun. {NOTHING}")
+            self._told.append(f"{path} {why}: it is kept as {self._beside()}, and another one is begun. {times.NOTHING}")
         elif self._capture.size and not self._is_new:
-            self._told.append(f"{path} is missing: when the game's first {self._capture.size} bytes came isn't known. {NOTHING}")
+            self._told.append(f"{path} is missing: when the game's first {self._capture.size} bytes came isn't known. {times.NOTHING}")
         self._is_read = True
 
     def _is_ours(self, found: times.Kept) -> bool:
@@ -337,6 +337,7 @@ class Times:
         self._keep_begins(events, self._size + len(heading))
         if os.write(number, content) < len(content):
             raise OSError(errno.ENOSPC, os.strerror(errno.ENOSPC))
+        self._keep_part(self._size, content)
         self._size += len(content)
         late = self.clock() - events[-1][0] if events else 0
         if late >= LATE:  # the file is as old as its last line: from there on nobody is known to have been there
@@ -351,13 +352,18 @@ class Times:
 
     def _keep_begins(self, events: List[times.Happened], size: int) -> None:
         """Keeps when calls begin, before the lines that say that they do: those come at the end of a file of this size."""
-        lines = b""
+        lines = []
         for number, (at, what, _) in enumerate(events):
             if what == times.BEGIN:
                 begin = (self.generation, size + len(times.lines(events[:number], self._from)))
-                lines += began_line(begin, Began(at, this_start()))
+                lines.append(began_line(begin, Began(at, this_start())))
         if lines:
-            keep_began(self._paths.began, lines)
+            self._calls.keep(lines)
+
+    def _keep_part(self, begins: int, content: bytes) -> None:
+        """Keeps the sum of what was just written there. Without it the lines count as unknown."""
+        with contextlib.suppress(OSError):
+            self._calls.keep([part_line(self.generation, begins, content)])
 
     def _open(self) -> int:
         """Opens the file for what was found: what is torn goes, and what isn't of this capture is kept beside."""
@@ -390,7 +396,7 @@ class Times:
             self.unexpected = (*self.unexpected, f"{self._path}: {trouble}")
         if trouble != self._trouble:
             self._trouble = trouble
-            self._told.append(f"{self._path} can't be written ({self._trouble}): times are missing. {NOTHING}")
+            self._told.append(f"{self._path} can't be written ({self._trouble}): times are missing. {times.NOTHING}")
         self._again = Loop.now() + TRIES_AGAIN
         self._lose()
 
@@ -454,9 +460,12 @@ class Times:
                 after = times.cut(before, found, size, first) if isinstance(found, times.Kept) else before
                 if after != before:
                     self._close()
+                    is_whole = as_written(before, self._calls.parts(self.generation)) == [(0, len(before))]
                     if times.moves_calls(before, after):
                         remove(self._paths.began)  # which speaks of their places
                     put_in_place(self._path, after)
+                    if is_whole:  # else nobody knows what of it is
+                        self._keep_part(0, after)
                     self._size = len(after)
             except Exception as error:
                 self._fails(error)
@@ -486,15 +495,3 @@ class Times:
 def times_of(capture: str) -> str:
     """The times of a capture that is kept beside a game."""
     return f"{capture[:-len('.dgt')]}.times"
-
-
-def told_of(found: times.Kept, path: str, size: int, capture: str, have: int) -> List[str]:
-    """What is said of a file of this size, whose capture has so many bytes."""
-    told = []
-    if size > found.ends:
-        told.append(f"{path} was torn: its last {size - found.ends} bytes are dropped. {NOTHING}")
-    if found.covered > have:
-        told.append(f"{path} tells of {found.covered - have} bytes more than {capture} has, as after a power cut. {NOTHING}")
-    elif found.covered < have:
-        told.append(f"{path} has no times for the last {have - found.covered} bytes of {capture}. {NOTHING}")
-    return told

@@ -18,6 +18,7 @@ OF_BYTES = (HEARD, BROUGHT, ADDED)  # the capture got so many bytes
 COUNTS = (BEGIN, AWAY, *OF_BYTES, STOPPED, ASKED, OVER, SUSPECT)  # words with a number
 ALONE = (OPENED, ANSWERED, GONE, CALLED, TOOK, LOOKED, BACK, REOPENED)
 TOO_LARGE = 2**64
+NOTHING = "Nothing is to be done"
 FNV_START, FNV_TIMES = 14695981039346656037, 1099511628211  # of FNV-1a with 64 bits
 
 NUMBER = "(0|[1-9][0-9]{0,19})"
@@ -100,15 +101,19 @@ class Call:
         return max((at for at, _, _ in self.events), default=0)
 
 
-def calls(content: Content, found: Kept) -> List[Call]:
-    """The calls of a file, in their order."""
+def calls(content: Content, found: Kept, places: Optional[Sequence[Tuple[int, int]]] = None) -> List[Call]:
+    """The calls of a file, in their order. If `places` are given, only the lines there count; of a call those before the first other
+    one."""
     made: List[Call] = []
-    for line in EVENT.finditer(content, found.begins, found.ends):
-        at, counted, count, alone = line.groups()
-        if counted == BEGIN.encode():
-            made.append(Call(line.start(), int(count), []))
-        elif made:
-            made[-1].events.append((int(at), (counted or alone).decode(), int(count) if counted else None))
+    for begins, ends in [(0, found.ends)] if places is None else places:
+        is_known = False  # whether the lines are of the last call, and all before them are known
+        for line in EVENT.finditer(content, max(begins, found.begins), min(ends, found.ends)):
+            at, counted, count, alone = line.groups()
+            if counted == BEGIN.encode():
+                made.append(Call(line.start(), int(count), []))
+                is_known = True
+            elif is_known:
+                made[-1].events.append((int(at), (counted or alone).decode(), int(count) if counted else None))
     return made
 
 
@@ -178,3 +183,15 @@ def moves_calls(before: bytes, after: bytes) -> bool:
         for content, found in ((before, kept(before)), (after, kept(after)))
     )
     return new != old[: len(new)]
+
+
+def told_of(found: Kept, path: str, size: int, capture: str, have: int) -> List[str]:
+    """What is said of a file of this size, whose capture has so many bytes."""
+    told = []
+    if size > found.ends:
+        told.append(f"{path} was torn: its last {size - found.ends} bytes are dropped. {NOTHING}")
+    if found.covered > have:
+        told.append(f"{path} tells of {found.covered - have} bytes more than {capture} has, as after a power cut. {NOTHING}")
+    elif found.covered < have:
+        told.append(f"{path} has no times for the last {have - found.covered} bytes of {capture}. {NOTHING}")
+    return told

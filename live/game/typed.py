@@ -7,16 +7,16 @@ import re
 from dataclasses import dataclass
 from typing import Union
 
-from live.game.reply import BACK, NO_TEXT, OK, REOPENS, Helped, Refused
+from live.game.reply import BACK, HELPS, NO_TEXT, OK, REOPENS, Helped, Refused
 
 WAYS = "Type 1-0, 0-1, 1/2-1/2, moves as Nf3 Nc6, back, *, ok or help"
 ALL_WAYS = "Type 1-0, 0-1, 1/2-1/2, moves (Nf3 Nc6), back (a ply off), back 14. Bxf6, * (no result) or ok"
-HELPS = ("help", "?", "undo")
 QUITS = (["q"], ["quit"])
+MOVES, MESSAGES = "moves", "messages"  # lists the moves of a game; what was said before
 NOUGHTS = "0-0"  # a result, or castling typed with noughts
 BOTH_LOSE = f"{NOUGHTS}: do both lose? PGN has no such result: leave the game without one, and note it. Castling is O-O"
 ABSENT = "+- (Black has not come; -+ White, -- both)"
-ONE_BOARD = (ABSENT, "name White=Anna (a name put right)", "or q to end the recording")  # what can be typed there too
+ONE_BOARD = (ABSENT, "name White=Anna (a name put right)", "moves (of the game so far), messages (of before)", "or q to end the recording")  # what can be typed there too
 WHICH_PLY = "which ply? Type it as the screen printed it, as back 14. Bxf6 or back 14... Qd7; or back alone, or back 0"
 OF_A_PLY = re.compile(r"(\d{1,4})((?: ?\.)+) ?", re.ASCII)  # its number, and one full stop for White or more for Black
 

@@ -9,12 +9,12 @@ from typing import Callable, List, Optional
 from live.game.log import time_of
 from live.guard import traced
 from live.loop import Loop, Timer
-from live.round.table import RowView, screen
+from live.round.table import RowView, listing, screen
 from live.terminal.painter import Painter
-from live.terminal.terminal import Terminal
+from live.terminal.terminal import Shows, Terminal
 
 NARROWEST = 40  # columns of a terminal: if it has fewer, the rows are broken
-KEPT = 20  # messages
+KEPT = 200  # messages
 DRAWS_EACH = 0.1  # seconds
 TICK = 1.0
 PRINTED = 2.0  # seconds that a slow reader has for the last lines
@@ -42,6 +42,7 @@ class Display:
         self._told = ""  # the last reported reason why the table couldn't be drawn
         self._painter = None if terminal else Painter(loop)
         self._messages: List[str] = []
+        self._listed: List[str] = []  # in the place of the table, until a line is typed
         self._draws: Optional[Timer] = None
         self._tick = loop.after(TICK, self._each_second)
 
@@ -52,13 +53,36 @@ class Display:
         if self._terminal:
             self._terminal.line(line)
 
+    def list_messages(self) -> None:
+        """Shows the messages of before."""
+        if self._painter:
+            self._listed = list(self._messages)
+            self.changed()
+        elif self._terminal:
+            for line in self._messages[:]:
+                self._terminal.line(line)
+
+    def show_long(self, text: str) -> None:
+        """Shows a long text, on a terminal in the place of the table."""
+        self.say(text)
+        if self._painter:
+            self._listed = [self._messages[-1]]
+
     def changed(self) -> None:
         """What is shown has changed: it is drawn soon."""
         if self._painter and self._draws is None:
             self._draws = self._loop.after(DRAWS_EACH, self._draw)
 
+    @property
+    def shows(self) -> Optional[Shows]:
+        """What shows a half-typed line, if anything does."""
+        if self._painter:
+            self._painter.edits = os.isatty(0)
+        return self._painter
+
     def forget(self) -> None:
         """Draws everything again: somebody has typed a line."""
+        self._listed = []
         if self._painter:
             self._painter.forget()
 
@@ -77,6 +101,9 @@ class Display:
             columns, lines = self._painter.size()
             title = f"{time_of(time.time())}  {self._title}"
             now = self._loop.now()
+            if self._listed:
+                self._painter.draw(listing(title, self._views(), self._listed, lines, max(NARROWEST, columns)))
+                return
             self._painter.draw(screen(title, self._views(), self._messages, now, lines, max(NARROWEST, columns)))
 
     def _each_second(self) -> None:

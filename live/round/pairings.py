@@ -6,6 +6,7 @@ import re
 from dataclasses import dataclass, field
 from typing import Dict, List, Optional, Sequence, Tuple, Union
 
+from live.called import DGT_LIVE
 from live.device.network_address import HOW, is_network, read_address
 from live.device.protocol import SERIAL_LENGTH
 from live.game.file_names import OF_A_GAME, OF_A_ROUND
@@ -41,6 +42,7 @@ MOST_UNKNOWN = 5  # columns that are reported one by one
 SERIAL = re.compile(f"[!-~]{{{SERIAL_LENGTH}}}")
 NAME = re.compile(r"[\w][\w .+-]*")
 EXAMPLE = "1,/dev/ttyUSB0,Anna,Ben"
+NO_DEVICE = f"it names no device: type /dev/ttyUSB0, or what {DGT_LIVE} --devices lists"
 
 
 @dataclass(frozen=True)
@@ -72,6 +74,12 @@ class Pairing:
         """Whether its line says that it isn't played: it needs no board."""
         return bool(score_of(self.result))
 
+    @property
+    def teams(self) -> Tuple[str, str]:
+        """White's and Black's, empty if there is none."""
+        tags = dict(self.tags)
+        return tags.get("WhiteTeam", ""), tags.get("BlackTeam", "")
+
     def words(self, tags: Sequence[str]) -> Tuple[str, ...]:
         """The options of the game, with those for all games."""
         words = ["--rotated"] if self.rotated else []
@@ -93,6 +101,7 @@ class Wrong:
     why: str
     file: str = ""  # the name of its table, if there is more than one
     pairing: Optional[Pairing] = field(default=None, compare=False)  # the line, if it is wrong only for its device
+    unplaced: Optional[Pairing] = field(default=None, compare=False)  # the line, if it only lacks a device
 
 
 @dataclass(frozen=True)
@@ -200,13 +209,13 @@ def _read(number: int, line: str, sheet: Sheet) -> Union[Pairing, Wrong, LeftOut
         no_game = without_a_game(board, values["white"], values["black"])
         if no_game:
             return LeftOut(f"line {number}: {no_game}")
-    why = _trouble({name: values[name] for name in COLUMNS}, has_devices and not score_of(result))
+    why = _trouble({name: values[name] for name in COLUMNS})
     if why:
         return Wrong(number, board, why)
     tags, remarks = _tags(number, values)
     if why_none:
         remarks = (*remarks, f"line {number}, column result: {why_none}; it isn't used")
-    return Pairing(
+    pairing = Pairing(
         number,
         board,
         values["device"],
@@ -222,6 +231,8 @@ def _read(number: int, line: str, sheet: Sheet) -> Union[Pairing, Wrong, LeftOut
         tags,
         remarks,
     )
+    lacks = has_devices and not (pairing.device or pairing.serial or pairing.is_forfeited)
+    return Wrong(number, board, NO_DEVICE, unplaced=pairing) if lacks else pairing
 
 
 def divided_otherwise(line: str, sheet: Sheet) -> Tuple[str, Optional[int]]:
@@ -306,10 +317,8 @@ def _number(text: str) -> Optional[int]:
     return int(text) if re.fullmatch("[0-9]{1,3}", text) and int(text) > 0 else None
 
 
-def _trouble(values: Dict[str, str], needs_device: bool) -> str:
+def _trouble(values: Dict[str, str]) -> str:
     """What is wrong with the values of a line, if anything."""
-    if needs_device and not (values["device"] or values["serial"]):
-        return "it names no device: type /dev/ttyUSB0, or what dgt_live --devices lists"
     if is_network(values["device"]) and read_address(values["device"]) is None:
         return f"device is {shown(values['device'])}: {HOW}"
     odd = next((name for name, value in values.items() if not is_seen(value)), "")
@@ -329,7 +338,7 @@ def _trouble(values: Dict[str, str], needs_device: bool) -> str:
         game = OF_A_GAME.sub("", values["name"])
         return f"name is {shown(values['name'])}: a file of the game {game} may be called so: type another"
     if values["serial"] and not SERIAL.fullmatch(serial_number(values["serial"])):
-        return f"serial is {shown(values['serial'])}: type its {SERIAL_LENGTH} characters, as dgt_live --devices lists them"
+        return f"serial is {shown(values['serial'])}: type its {SERIAL_LENGTH} characters, as {DGT_LIVE} --devices lists them"
     if values["name"] and not NAME.fullmatch(values["name"]):
         return f"name is {shown(values['name'])}: type letters, digits, blanks, . - +"
     return ""

@@ -7,6 +7,7 @@ import pathlib
 import shlex
 from typing import Iterable, Tuple
 
+from live.called import DGT_ROUND
 from live.game.file_names import ROUND
 from live.game.files import Paths
 from live.refused import ARGUMENTS, Refused
@@ -17,7 +18,7 @@ def refuse_exchanged(file: str, folder: str) -> None:
     """Refuses the folder in front of the table."""
     table = pathlib.Path(folder)
     if folder and not pathlib.Path(file).is_file() and (table.is_file() or table.suffix.lower() in TABLES):
-        raise Refused(ARGUMENTS, f"{folder} is the table: type it first, as {shlex.join(['dgt_round', folder, file])}")
+        raise Refused(ARGUMENTS, f"{folder} is the table: type it first, as {DGT_ROUND} {shlex.join([folder, file])}")
 
 
 def chosen_folder(file: pathlib.Path, games: Iterable[str]) -> Tuple[pathlib.Path, str]:

@@ -8,7 +8,8 @@ import pathlib
 import re
 import shlex
 import time
-from typing import Callable, Dict, List, Optional, Sequence, Set, Tuple, Union
+from types import MappingProxyType
+from typing import Callable, Dict, List, Mapping, Optional, Sequence, Set, Tuple, Union
 
 from live.beside import Worker
 from live.board.board import Board
@@ -17,15 +18,19 @@ from live.board.finding import Finder
 from live.broadcast.broadcast import Broadcast
 from live.broadcast.games import written_name
 from live.broadcast.leaving import clock_in
+from live.broadcast.matches import UNKNOWN as NOT_KNOWN
+from live.broadcast.matches import Paired, matches_of, told_of_matches
 from live.broadcast.outputs import Outputs
+from live.called import DGT_ROUND
 from live.game.answers import UNKNOWN, Said
 from live.game.file_names import ROUND
 from live.game.files import size_of, text_of
 from live.game.forfeits import NO_RESULT, score_of, typed_forfeit
 from live.game.log import Log, logged_at
-from live.game.reply import Answer, printable, refusal
+from live.game.reply import HELPS, Answer, printable, refusal
 from live.game.reply import Refused as NotDone
-from live.game.typed import HELPS, refuse_no_text
+from live.game.report import listed
+from live.game.typed import MESSAGES, MOVES, refuse_no_text
 from live.guard import traced
 from live.loop import Loop
 from live.refused import DONE, FAILED, REFUSED, Refused
@@ -36,7 +41,7 @@ from live.round.joining import not_plugged_in, with_some
 from live.round.leaving import Leaving
 from live.round.pairings import EXAMPLE, Pairing, Pairings, Wrong
 from live.round.published import Published
-from live.round.row import Hall, Row, game_of_others, was_forfeited
+from live.round.row import Earlier, Hall, Row, earlier_game, was_forfeited
 from live.round.sources import Source, without_twice
 from live.round.table import NOT_RECORDED, RowView, boards_are, counted, lines_are_wrong
 from live.round.tournament_files import FORFEIT, Result
@@ -60,7 +65,7 @@ def first_pairings(source: Source) -> Pairings:
             source.found(source.look())
             read = source.read()
     except FileNotFoundError:
-        raise Refused(FAILED, f"there is no {file}: save the table there as CSV, and see dgt_round --help") from None
+        raise Refused(FAILED, f"there is no {file}: save the table there as CSV, and see {DGT_ROUND} --help") from None
     except OSError as error:
         why = f"{file} can't be read ({text_of(error)}): type the FILE of the table first, and then the FOLDER"
         raise Refused(FAILED, why) from None
@@ -88,17 +93,20 @@ def with_forfeited(read: Pairings, hall: Hall) -> Pairings:
     return with_some(read, [pairing for pairing in read.absent if was_forfeited(hall, pairing)])
 
 
-def refuse_another_round(source: Source, read: Pairings, hall: Hall) -> None:
-    """Refuses a table that has other players for what was played: it is another round's. To be called before anything in the
-    folder is changed."""
-    for pairing in without_twice(with_forfeited(read, hall))[0]:
-        played = game_of_others(hall, pairing)
-        if played:
-            raise Refused(
-                REFUSED,
-                f"{played}: for another round {other_round(source, hall.folder)}",
-                "To put names right all the same, start with the old table, change it, and type r",
-            )
+def refuse_another_round(source: Source, read: Pairings, hall: Hall) -> Dict[int, Earlier]:
+    """Refuses a table that has other players for most of what was played: it is another round's. To be called before anything in the
+    folder is changed. Returns the games of single lines that have other players, by board."""
+    lines = {pairing.board: pairing for pairing in without_twice(with_forfeited(read, hall))[0]}
+    games = {number: game for number, pairing in lines.items() if (game := earlier_game(hall, pairing))}
+    others = {number: game for number, game in games.items() if game.of_others}
+    if len(others) > sum(game.is_same for game in games.values()):
+        number, game = next(iter(others.items()))
+        raise Refused(
+            REFUSED,
+            f"{hall.folder}/{lines[number].file_name} {game.of_others}: for another round {other_round(source, hall.folder)}",
+            "To put names right all the same, start with the old table, change it, and type r",
+        )
+    return others
 
 
 def other_round(source: Source, folder: str) -> str:
@@ -108,13 +116,15 @@ def other_round(source: Source, folder: str) -> str:
     folder = another_folder(folder)
     while os.path.lexists(folder):
         folder = another_folder(folder)
-    return f"take another folder, as {shlex.join(['dgt_round', str(source.file), folder])}"
+    return f"take another folder, as {DGT_ROUND} {shlex.join([str(source.file), folder])}"
 
 
 class Round:
     """All boards of a round in one loop, which stops when all have ended."""
 
-    def __init__(self, loop: Loop, source: Source, read: Pairings, title: str, hall: Hall) -> None:
+    def __init__(
+        self, loop: Loop, source: Source, read: Pairings, title: str, hall: Hall, held: Mapping[int, Earlier] = MappingProxyType({})
+    ) -> None:
         self._loop, self._source, self._file, self._hall = loop, source, source.file, hall
         self.rows: Dict[int, Row] = {}
         self._wrong: List[Wrong] = []
@@ -124,6 +134,7 @@ class Round:
         self._log = Log(folder / "round.log")
         self._published = Published(loop, folder / f"{ROUND}.pgn", self._text, self.say)
         self.outputs = Outputs(loop, hall.program, hall.out, hall.outputs, folder, self.boards, self)
+        self.outputs.beside(self._unrecorded)
         self._display = Display(loop, title, self.views, hall.terminal, self.trouble)
         self._opens_until = loop.now() + OPENS
         loop.after(OPENS, self.remade)
@@ -137,8 +148,8 @@ class Round:
         self._left = 0
         self.on_change: Callable[[], None] = lambda: None
         self._was_terminal = os.isatty(0)
-        self._take(read)
-        self._typed = Typed(loop, self.typed, self.refuses, self._input_ended)
+        self._take(read, held)
+        self._typed = Typed(loop, self.typed, self.refuses, self._input_ended, self._display.shows, self._interrupted)
 
     @property
     def broadcast(self) -> Broadcast:
@@ -199,7 +210,7 @@ class Round:
 
         self._looker.do(look, found)
 
-    def _take(self, read: Pairings) -> None:
+    def _take(self, read: Pairings, held: Mapping[int, Earlier] = MappingProxyType({})) -> None:
         for remark in read.remarks:
             self.say_of_table(remark)
         had = {number: row.pairing.device for number, row in self.rows.items()}
@@ -221,8 +232,12 @@ class Round:
             if pairing.board in self.rows:
                 self.rows[pairing.board].take(pairing)
             else:
-                self.rows[pairing.board] = Row(self._loop, self._hall, pairing, self)
-                self.rows[pairing.board].begin()
+                row = self.rows[pairing.board] = Row(self._loop, self._hall, pairing, self)
+                row.held = held.get(pairing.board)
+                row.begin()
+        pairs = [Paired(row.number, row.pairing.teams) for row in self.boards()]
+        for line in told_of_matches(matches_of([*pairs, *self._unrecorded()])):
+            self.say_of_table(line)
         self.remade()
         self.changed()
 
@@ -299,6 +314,13 @@ class Round:
             found.append(Result(row.number, written_name(row, "White"), written_name(row, "Black"), score, note))
         return found
 
+    def _unrecorded(self) -> List[Paired]:
+        """The table's boards that aren't recorded, with the results that it has for them; of some lines nobody knows the teams."""
+        lines = {wrong.board: wrong.unplaced or wrong.pairing for wrong in self._wrong if wrong.board}
+        found = {**lines, **self._absent}
+        pairs = ((number, pairing) for number, pairing in sorted(found.items()) if number not in self.rows)
+        return [Paired(number, pairing.teams if pairing else ("", ""), pairing.result if pairing else NOT_KNOWN, False) for number, pairing in pairs]
+
     def owner(self, number: str) -> Optional[Board]:
         """The board that has this serial number, unless its game is over; the mark of its end tells that before it is open."""
         boards = (row.board for row in self.boards() if row.serial == number)
@@ -337,6 +359,8 @@ class Round:
                 return
         elif words[0].lower() == "r" and len(words) == 1:
             self.read_again()
+        elif words == [MESSAGES]:
+            self._display.list_messages()
         elif words[0].lower() in HELPS:
             self.say(all_ways(sorted(self.rows)).replace("type", "Type", 1))
         elif words[0].isascii() and words[0].isdigit() and not SCORE.fullmatch(text.strip()):
@@ -344,6 +368,10 @@ class Round:
         else:
             self._of_no_board(text)
         self.changed()
+
+    def _interrupted(self) -> None:
+        """Ctrl-C on an empty line: it asks as `q` does."""
+        self.typed("q")
 
     def refuses(self, text: str, error: Exception) -> None:
         """A line of the terminal raised an error."""
@@ -358,14 +386,17 @@ class Round:
             self._forfeit(absent, " ".join(words))
         elif row is None:
             self.say(f"refused: there is no board {printable(number)}: {boards_are(sorted(self.rows))}")
+        elif words == [MOVES]:
+            self._display.show_long(f"{row.number}: {listed(row.board.plies, row.board.result)}")
         elif words:
             row.add(" ".join(words), functools.partial(self._answered, row))
         else:
             board = row.board
-            looks = [look.text for look in board.looks.open]
             places = ", ".join(filter(None, (row.pairing.device, row.serial, str(board.paths.capture))))
-            parts = [row.whole_standing(), *looks, *board.recovered, places]
+            parts = [row.whole_standing(), *board.recovered, places]
             self.say(f"{row.number}: {'; '.join(parts)}")
+            if row.advice:
+                self.say(f"{row.number}: {row.advice}")
 
     def _forfeit(self, pairing: Pairing, text: str) -> None:
         """A pair whose board isn't found isn't played, so it needs none."""

@@ -7,6 +7,7 @@ import functools
 from dataclasses import dataclass
 from typing import Callable, List, Optional, Protocol, Tuple
 
+from live.board.advice import Moves, all_of
 from live.board.board import Board, Wanted
 from live.board.plan import Plan
 from live.board.reasons import Rules
@@ -40,6 +41,9 @@ ANSWERED = ("added by hand", "acknowledged: ")  # the answer to a typed line say
 A_RESULT = "result "
 UNSAID = ("records ", " has the cable ", *ANSWERED)  # not below a table: its rows and the answers show it
 BEGUN_ANEW = "is begun anew"  # if its line has changed
+OTHER_FILES = "if another pair plays here, write another name of its files into the column name, then type r"
+OTHER_PLAYER = f"to put a name right, type r; {OTHER_FILES}"
+OTHER_PAIR = f"{OTHER_FILES}; to put both names right, change one in the table, type r, then the other"
 TURNED, OTHER = "turned round?", "other board?"  # in a row, for a hint that has no room there
 
 
@@ -151,17 +155,11 @@ class RowScreen(Screen):
     def turn(self, rotated: bool) -> str:
         return f"Write {'no' if rotated else 'yes'} in its column rotated, save the table, and type r; or turn the board"
 
-    def ok(self) -> str:
-        return f"{self._number} {super().ok()}"
-
-    def reopens(self) -> str:
-        return f"{self._number} {super().reopens()}"
+    def typed(self, line: str) -> str:
+        return typed_for(self._number, line)
 
     def mistyped(self) -> str:
         return "" if self._of_table or self.is_settled() else super().mistyped()
-
-    def begins(self) -> str:
-        return f"{self._number} {super().begins()}"
 
     def result_of(self, name: str, in_series: bool) -> str:
         return f"{self._number} 1-0"
@@ -177,6 +175,11 @@ class RowScreen(Screen):
     def hint(self, text: str) -> None:
         if self._has_table:
             self._hears.say(f"{self._number}: {text}")
+
+
+def typed_for(number: int, line: str) -> str:
+    """How a line is typed for a board of a round."""
+    return f"{number} {line}"
 
 
 def typed_options(hall: Hall, pairing: Pairing) -> Options:
@@ -196,24 +199,42 @@ def same_but_for_result(one: Pairing, other: Pairing) -> bool:
     return first == second
 
 
-def game_of_others(hall: Hall, pairing: Pairing) -> str:
-    """What a line's game is, if the line would give it to other players: it is over, or has a result, and one of them is another; or it
-    has moves and both are others. Else empty."""
+@dataclass(frozen=True)
+class Earlier:
+    """The game of a line as it is found when a round is started: its options; and what it is, if its line would give it to other
+    players."""
+
+    kept: Options
+    of_others: str = ""
+    is_same: bool = False  # whether both players are known, and those of the line
+    are_others: bool = False  # whether both are others
+
+    @property
+    def advice(self) -> str:
+        """What to do if the line would give it to other players."""
+        return OTHER_PAIR if self.are_others else OTHER_PLAYER
+
+
+def earlier_game(hall: Hall, pairing: Pairing) -> Optional[Earlier]:
+    """The game that a line goes on with; None if there is none, or it can't be read. Its line would give it to other players if it is
+    over, or has a result, and one of them is another; or if it has moves and both are others."""
     paths = Paths(f"{hall.folder}/{pairing.file_name}")
     try:
         given = turned(typed_options(hall, pairing))
         kept = kept_options(paths)
-        others = 0 if kept is None or kept.is_said_by(given) else kept.with_tags_of(given).other_players_than(kept)
-        if kept is None or not others:
-            return ""
+        if kept is None:
+            return None
+        others = 0 if kept.is_said_by(given) else kept.with_tags_of(given).other_players_than(kept)
+        if not others:
+            return Earlier(kept, is_same=all(kept.tag(option) == given.tag(option) != UNKNOWN for option in PLAYERS))
         result = result_in(paths)
         if end_mark(paths) is not None or result != "*":
             is_so = "is over" if end_mark(paths) is not None else f"has the result {result}"
-            return f"{paths.name} {is_so}, and was played by {kept.players}"
+            return Earlier(kept, f"{is_so}, and was played by {kept.players}", are_others=others == len(PLAYERS))
         has_moves = others == len(PLAYERS) and game_of(hall.program, kept, files.existing(paths.capture)).plies
-        return f"{paths.name} has moves of {kept.players}" if has_moves else ""
-    except (Refused, OSError):
-        return ""  # its row will say it
+        return Earlier(kept, f"has moves of {kept.players}" if has_moves else "", are_others=bool(has_moves))
+    except Exception:
+        return None  # its row will say it
 
 
 def was_forfeited(hall: Hall, pairing: Pairing) -> bool:
@@ -242,6 +263,7 @@ class Row:
         self._wants_result = True
         self._gets_result = False  # whether its game is just getting that of its line
         self._begun_with: Optional[Callable[[], None]] = None  # adds what was typed before its game was open
+        self.held: Optional[Earlier] = None  # its game, if that isn't opened before `r`
 
     @property
     def number(self) -> int:
@@ -282,6 +304,8 @@ class Row:
         name = f"{hall.folder}/{pairing.file_name}"
 
         def prepares() -> Chooses:
+            if self.held:
+                raise Refused(REFUSED, f"its game {self.held.of_others}: {self.held.advice}")
             given = checked(hall.program, typed_options(hall, pairing))
             check(device, may_wait=True)
             return of_a_line(given, name)
@@ -323,8 +347,11 @@ class Row:
     # Its line is read again.
 
     def take(self, pairing: Pairing) -> None:
-        """Takes the line as it is now. If it has changed, the recording begins anew, and the game goes on."""
+        """Takes the line as it is now. If it has changed, the recording begins anew, and the game goes on. A game of another pair is
+        left alone as long as the line is as it was: somebody may have typed `r` for another board."""
         before, self.pairing = self.pairing, pairing
+        if self.held and not (self.held.are_others and pairing == before):
+            self.held = None
         self._wants_result = True
         if before.result == self.board.forfeit != "" and not pairing.result:
             self._hears.say_of_table(f"{self.number}: its line has no forfeit any more: if it is played, type {self.number} {REOPENS}")
@@ -376,16 +403,18 @@ class Row:
         if is_naming(text):
             answered(refusal(text, Refused(REFUSED, IN_A_TABLE)))
         else:
-            self.board.add(text, answers, functools.partial(self._screen.obeys, of_table))
+            self.board.add(text, answers, functools.partial(self._screen.obeys, of_table), is_sure=of_table)
 
     # What others see.
 
     @property
     def _named(self) -> Options:
-        """The options that have its players' names: those of its game, or of its line as long as no game was opened. Both names and
+        """The options that have its players' names: those of its game, or of its line as long as no game was found. Both names and
         all tags come from the same, so they change together."""
         if self.board.options.tags:
             return self.board.options
+        if self.held:
+            return self.held.kept
         if self._of_line[0] is not self.pairing:
             self._of_line = self.pairing, typed_options(self._hall, self.pairing)
         return self._of_line[1]
@@ -399,15 +428,19 @@ class Row:
         """The tags that are published but not recorded, or published in other letters."""
         return dict(self._named.tags)
 
-    @property
-    def in_front(self) -> str:
-        """The text before a line that is typed for it."""
-        return f"{self.number} "
-
     def standing(self) -> Tuple[str, Optional[float], bool]:
         """Its state in words, since when, and whether somebody must look at it."""
         front, rest, since, alarm = self._standing(self.board.state)
         return front + rest, since, alarm
+
+    @property
+    def advice(self) -> str:
+        """What is to be done about it; empty if nothing is. Why it isn't recorded, its row says."""
+        board = self.board
+        if board.trouble:
+            return ""
+        state, over = (None if board.forfeit else board.state), board.is_over and board.result == "*" and not board.forfeit
+        return all_of(state, board.looks.open, over, functools.partial(typed_for, self.number), Moves([ply.short for ply in board.plies]))
 
     def whole_standing(self) -> str:
         """Its state in words, with all squares; if somebody must look at it, also how long it has lasted."""

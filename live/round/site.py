@@ -6,22 +6,24 @@ games, then what names them.
 
 from __future__ import annotations
 
+import contextlib
 import html
 import json
 import os
 import pathlib
 import re
 import time
-from typing import Any, Callable, Dict, FrozenSet, List, Mapping, Sequence
+from typing import Any, Callable, Dict, FrozenSet, List, Mapping, Sequence, Tuple
 
 from live.beside import Worker
 from live.board.state import trouble_of
 from live.broadcast.matches import printed
-from live.broadcast.view import SpectatorBoard, said_of_matches
-from live.game.files import put_in_place
+from live.broadcast.view import SpectatorBoard
+from live.game.files import new_of, put_in_place
 from live.game.making_pgn import Made
 from live.guard import Guard, traced
 from live.loop import Turns
+from live.refused import REFUSED, Refused
 from live.web.doors import Title
 from live.web.page import FOLDER, PIECES, SPECTATORS
 from live.web.view import RoundView, json_text, pgn_path, round_pgn, round_text
@@ -30,6 +32,8 @@ LOOK = 1.0  # seconds between two checks
 AGAIN = 5.0  # seconds until it is tried again after an error
 RENEWED = 30.0  # seconds after which a state that hasn't changed is written again: a page that finds it older says so
 STATE = "state.json"
+MARK = "dgt_round.txt"  # in the folder of a site: what else is in there is a site's
+MARKED = b"dgt_round keeps a site in this folder. It replaces and removes files here.\n"
 HERE = ""  # the folder of what it names
 ROUND_FOLDER = re.compile(r"round([0-9]{0,3})")
 GAME = re.compile(r"round[0-9]{0,3}/[0-9]{2,}\.pgn")  # the file of one board
@@ -55,19 +59,22 @@ def _policy() -> str:
     return f'<meta http-equiv="Content-Security-Policy" content="{POLICY}">'
 
 
-def state_text(title: Title, boards: Sequence[SpectatorBoard], offset: float) -> bytes:
+Matches = Tuple[Tuple[str, object], ...]  # what is said of them
+
+
+def state_text(title: Title, boards: Sequence[SpectatorBoard], matches: Matches, offset: float) -> bytes:
     """A round in JSON. The games are beside it."""
-    said = RoundView(title.event, said=(*title.said, *said_of_matches(boards)))
+    said = RoundView(title.event, said=(*title.said, *matches))
     return round_text(said.values, [board.text(offset, None, HERE) for board in boards])
 
 
-def round_texts(folder: str, title: Title, boards: Sequence[SpectatorBoard], offset: float) -> Texts:
+def round_texts(folder: str, title: Title, boards: Sequence[SpectatorBoard], matches: Matches, offset: float) -> Texts:
     """The files of a round."""
     games = {folder + pgn_path(board.number): board.pgn for board in boards}
     return {
         **games,
         f"{folder}/round.pgn": round_pgn(board.pgn for board in boards),
-        f"{folder}/{STATE}": state_text(title, boards, offset),
+        f"{folder}/{STATE}": state_text(title, boards, matches, offset),
         f"{folder}/index.html": round_page(),
     }
 
@@ -105,8 +112,9 @@ def _rows(state: Mapping[str, object], folder: str) -> str:
     rows = {board.get("number"): _row(board, folder) for board in _objects_of(state, "boards")}
     parts: List[str] = []
     for match in _objects_of(state, "matches"):
-        (one, other), points = map(_text, match["teams"]), "–".join(map(printed, match["points"]))
-        heading = f'<th colspan="4" scope="rowgroup"><bdi>{one}</bdi> <b>{points}</b> <bdi>{other}</bdi></th>'
+        (one, other), points = map(_text, match["teams"]), "–".join(map(printed, match["points"] or ())) or "–"
+        why = f" <small>no score: {_text(match['why'])}</small>" if match.get("why") else ""
+        heading = f'<th colspan="4" scope="rowgroup"><bdi>{one}</bdi> <b>{points}</b> <bdi>{other}</bdi>{why}</th>'
         parts.append(f'<tbody><tr class="match">{heading}</tr>\n{"".join(rows.pop(number, "") for number in match["boards"])}</tbody>')
     return "".join([*parts, *rows.values()])
 
@@ -132,6 +140,26 @@ def _number(folder: str) -> int:
     return int(found[1] or 0) if found else 0
 
 
+def why_no_site(folder: pathlib.Path) -> str:
+    """Why no site may be written into a folder, in words; empty if one may: it isn't there, or is empty, or has the mark; and it has no
+    games. Raises OSError if it can't be looked at."""
+    if not folder.is_dir():
+        return ""
+    games = sorted([*folder.glob("*.dgt"), *folder.glob("*/*.dgt")])
+    if games:
+        return f"it has games that are recorded, as {games[0]}"
+    names = {path.name for path in folder.iterdir()} - {new_of(MARK)}
+    return f"it has other files, as {folder / min(names)}, and no {MARK}" if names and MARK not in names else ""
+
+
+def refuse_no_site(option: str, folder: pathlib.Path) -> None:
+    """Refuses a folder that may have no site. One that can't be looked at can't be written either, and that is said later."""
+    with contextlib.suppress(OSError):
+        why = why_no_site(folder)
+        if why:
+            raise Refused(REFUSED, f"{option}: {folder}: {why}: give the site a new folder, or an empty one")
+
+
 def kept_rounds(folder: pathlib.Path) -> Dict[str, Mapping[str, object]]:
     """The rounds that the folder has, as far as they can be read."""
     found: Dict[str, Mapping[str, object]] = {}
@@ -151,9 +179,10 @@ class SiteFiles:
 
     def __init__(
         self, loop: Turns, folder: pathlib.Path, title: Title, boards: Callable[[], Sequence[SpectatorBoard]],
-        says: Callable[[str], None], trouble: Callable[[str], None]
+        matches: Callable[[], Matches], says: Callable[[str], None], trouble: Callable[[str], None]
     ) -> None:  # fmt: skip
-        self._loop, self._folder, self._title, self._boards, self._says, self._trouble = loop, folder, title, boards, says, trouble
+        self._loop, self._folder, self._title, self._says, self._trouble = loop, folder, title, says, trouble
+        self._boards, self._matches = boards, matches
         number = title.round if re.fullmatch("[0-9]{1,3}", title.round) else ""
         self._round = f"round{number}"
         self._state = f"{self._round}/{STATE}"
@@ -181,7 +210,7 @@ class SiteFiles:
         boards = self._boards()
         if not boards:
             return {}
-        of_round = round_texts(self._round, self._title, boards, self._offset)
+        of_round = round_texts(self._round, self._title, boards, self._matches(), self._offset)
         self._games = frozenset(self._round + pgn_path(board.number) for board in boards)
         self._written = {name: text for name, text in self._written.items() if name in self._games or not GAME.fullmatch(name)}
         texts = of_round if self._written else {**page_files(), **of_round}
@@ -241,9 +270,15 @@ class SiteFiles:
 
 
 def written(folder: pathlib.Path, event: str, this_round: str, texts: Texts, games: FrozenSet[str]) -> Made:
-    """Writes these files, each whole, and the list behind them. Last the games of boards that are no longer in the round go, which
-    nothing names any more. Returns the outcome."""
+    """Marks the folder, if it may have a site, and writes these files, each whole, and the list behind them. Last the games of boards that
+    are no longer in the round go, which nothing names any more. Returns the outcome."""
     try:
+        why = why_no_site(folder)
+        if why:
+            return Made(why)
+        os.makedirs(folder, exist_ok=True)
+        if not (folder / MARK).exists():
+            put_in_place(folder / MARK, MARKED)
         os.makedirs(folder / this_round, exist_ok=True)
         for name, text in texts.items():
             put_in_place(folder / name, text)

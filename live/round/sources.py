@@ -32,17 +32,22 @@ def plugged_in(program: Program) -> Dict[str, str]:
 
 def without_twice(read: Pairings, had: Mapping[int, str] = MappingProxyType({})) -> Tuple[List[Pairing], List[Wrong]]:
     """The boards and the wrong lines. Of lines with one device, also under several names, that one is right whose board `had` it, else
-    the first."""
+    the first. Each name is looked up once, since a device may come or go meanwhile."""
     wrong = [line for line in read.wrong if not line.pairing]
     lines = sorted([*read.boards, *(line.pairing for line in read.wrong if line.pairing)], key=lambda one: one.line)
     has = [one for one in lines if had.get(one.board) == one.device]
+    places = {device: same_line(device) for device in {one.device for one in lines} if device}
     owners: Dict[str, Pairing] = {}
     for one in [*has, *lines]:
-        owners.setdefault(same_line(one.device), one)
+        if one.device:
+            owners.setdefault(places[one.device], one)
+    boards = []
     for one in lines:
-        if one.device and owners[same_line(one.device)] is not one:
-            wrong.append(device_twice(one, owners[same_line(one.device)]))
-    boards = [one for one in lines if not one.device or owners[same_line(one.device)] is one]
+        owner = owners[places[one.device]] if one.device else one
+        if owner is one:
+            boards.append(one)
+        else:
+            wrong.append(device_twice(one, owner))
     return boards, sorted(wrong, key=lambda line: line.line)
 
 

@@ -2,13 +2,17 @@
 
 from __future__ import annotations
 
+import math
 from dataclasses import dataclass
 from typing import List, Optional, Sequence, Tuple
 
 from live.terminal.columns import CUT, fitted, folded, seen, split_at, width_of
 
-WIDTH = 80  # columns for which a row is made; names and state get those beyond
+WIDTH = 80  # columns of a usual terminal
 NARROW = 72  # columns below which there are no clocks
+NUMBER, CLOCK, GAP = 5, 7, 2  # columns of a board's number, of a clock, and before the state
+LEAST = ((WIDTH, 10), (60, 8), (0, 4))  # columns that a name keeps, in terminals from a width on; a quarter of what a wider one has more
+STEP = 8  # columns by which the room for the state grows
 INDENT = " " * 4  # the space for a cable's name
 MESSAGES = 3  # lines that messages always have
 MOST_MESSAGES = 20  # lines that they have if there is room: in a tall window no message of the start is pushed out
@@ -39,22 +43,54 @@ class RowView:
         return self.is_board and not self.is_of_all and (bool(self.last) or self.state != NOT_RECORDED)
 
 
+    def told_state(self, now: float) -> str:
+        """Its state, with how long it has lasted."""
+        return self.state + ("" if self.since is None else " " + since(now - self.since)) + self.rest
+
+    @property
+    def replaces_game(self) -> bool:
+        """Whether it tells a trouble over all columns."""
+        return not self.is_game and self.alarm and self.since is None
+
+
 @dataclass(frozen=True)
 class Columns:
-    """How wide the parts of a row are."""
+    """How wide the parts of a row are: each takes the room that it needs, and the state what is left."""
 
     whole: int
-    names: int
+    white: int
+    black: int
+    last: int
     clocks: bool
 
     @staticmethod
-    def of(width: int) -> Columns:
-        """The last column stays empty: on some terminals text there would begin another line."""
-        if width >= WIDTH:
-            names = min(30, 12 + (width - WIDTH) // 3)
-        else:
-            names = 8 if width >= 60 else 4
-        return Columns(width - 1, names, width >= NARROW)
+    def of(rows: Sequence[RowView], now: float, width: int = WIDTH) -> Columns:
+        """The last column stays empty: on some terminals text there would begin another line. If not all fits, names are cut before
+        alarms are; but some letters of them stay."""
+        games = [view for view in rows if not view.replaces_game]
+        white = widest("White", [view.white for view in games])
+        black = widest("Black", [view.black for view in games])
+        last = widest("Last move", [view.last for view in games])
+        clocks = width >= NARROW and any(any(view.clocks) for view in games)
+        room = width - 1 - NUMBER - 2 - last - (2 * (CLOCK + 1) if clocks else 0) - GAP
+        state = widest("State and since", [view.told_state(now) for view in games])
+        # In steps, so that columns don't move each time that a second is added.
+        least = next(columns for begin, columns in LEAST if width >= begin) + max(0, width - WIDTH) // 4
+        names = max(room - STEP * math.ceil(state / STEP), 2 * least)
+        if white + black > names:
+            half = names // 2
+            white, black = (white, names - white) if white <= half else (names - black, black) if black <= half else (half, half)
+        return Columns(width - 1, white, black, last, clocks)
+
+    @property
+    def front(self) -> int:
+        """The columns before the state."""
+        return NUMBER + self.white + 1 + self.black + 1 + self.last + (2 * (CLOCK + 1) if self.clocks else 0) + GAP
+
+
+def widest(heading: str, texts: Sequence[str]) -> int:
+    """The columns that a heading and these texts need."""
+    return max(width_of(seen(text)) for text in (heading, *texts))
 
 
 def since(seconds: float) -> str:
@@ -74,27 +110,27 @@ def wrapped(text: str, width: int, indent: str, most: int) -> List[str]:
     return lines[:most]
 
 
-def head(width: int = WIDTH) -> str:
+def head(columns: Columns) -> str:
     """The line above the rows."""
-    columns = Columns.of(width)
-    names = [fitted(name, columns.names) for name in ("White", "Black")]
-    clocks = "  White   Black " if columns.clocks else ""
-    return fitted(f"  No {' '.join(names)} {'Last move':13}{clocks}  State and since", columns.whole).rstrip()
+    parts = [fitted("White", columns.white), fitted("Black", columns.black), fitted("Last move", columns.last)]
+    if columns.clocks:
+        parts += ["White".rjust(CLOCK), "Black".rjust(CLOCK)]
+    return fitted(f"  No {' '.join(parts)}  State and since", columns.whole).rstrip()
 
 
-def row(view: RowView, now: float, width: int = WIDTH) -> List[str]:
-    """A board's line. A trouble that replaces a game gets as many lines as it needs."""
-    columns = Columns.of(width)
+def row(view: RowView, now: float, columns: Columns) -> List[str]:
+    """A board's line. An alarm that doesn't fit goes on in the lines below, and so does a trouble that replaces a game."""
     number = "" if view.is_of_all else "?" if view.number is None else str(view.number)
     front = f"{'!' if view.alarm else ' '}{number:>3} "
-    state = view.state + ("" if view.since is None else " " + since(now - view.since)) + view.rest
-    if not view.is_game and view.alarm and view.since is None:
+    state = view.told_state(now)
+    if view.replaces_game:
         return wrapped(front + state, columns.whole, " " * len(front), LONGEST_ROW)
-    parts = [fitted(view.white, columns.names), fitted(view.black, columns.names), fitted(view.last, 13)]
+    parts = [fitted(view.white, columns.white), fitted(view.black, columns.black), fitted(view.last, columns.last)]
     if columns.clocks:
-        parts += [view.clocks[0].rjust(7)[:7], view.clocks[1].rjust(7)[:7]]
-    line = front + " ".join(parts) + "  "
-    return [(line + fitted(state, columns.whole - width_of(line))).rstrip()]
+        parts += [clock.rjust(CLOCK)[:CLOCK] for clock in view.clocks]
+    line, room = front + " ".join(parts) + "  ", columns.whole - columns.front
+    states = wrapped(state, room, "", LONGEST_ROW) if view.alarm else [fitted(state, room)]
+    return [(line + states[0]).rstrip(), *(" " * columns.front + more for more in states[1:])]
 
 
 def counted(number: int, what: str) -> str:
@@ -150,10 +186,11 @@ def screen(
 ) -> List[str]:
     """The whole screen except the line in which somebody types. If not all rows fit, alarms come first. The number of lines is
     always the same, so that what is being typed stays in its place."""
-    above = [title_line(title, rows, width), head(width)]
+    columns = Columns.of(rows, now, width)
+    above = [title_line(title, rows, width), head(columns)]
     whole = max(len(above) + 2 + MESSAGES, min(height - 2, len(above) + len(rows) + 1 + MOST_MESSAGES))
     room = whole - len(above) - 1 - MESSAGES
-    shown = [row(view, now, width) for view in rows]
+    shown = [row(view, now, columns) for view in rows]
     more: List[str] = []
     if sum(map(len, shown)) > room:
         shown = [lines for _, lines in sorted(zip(rows, shown), key=lambda one: not one[0].alarm)]
@@ -163,3 +200,10 @@ def screen(
     table = [line for lines in shown for line in lines] + more
     below = last_messages(messages, width - 1, whole - len(above) - 1 - len(table))
     return above + table + [""] + below + [""] * (whole - len(above) - 1 - len(table) - len(below))
+
+
+def listing(title: str, rows: Sequence[RowView], messages: Sequence[str], height: int, width: int = WIDTH) -> List[str]:
+    """The last of these messages, over the whole screen. Above them it says how many alarms the boards have meanwhile."""
+    room = max(1, height - 4)
+    below = last_messages(messages, width - 1, room)
+    return [title_line(title, rows, width), *below, *[""] * (room - len(below)), "Enter shows the boards again"]

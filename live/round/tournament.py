@@ -9,6 +9,7 @@ import re
 from dataclasses import dataclass
 from typing import Callable, List, Optional, Tuple
 
+from live.called import DGT_ROUND
 from live.device import serial_line
 from live.device.numbers import ask
 from live.game import files
@@ -158,11 +159,11 @@ def tournament_of(file: str, folder: str) -> Optional[Tournament]:
     """The tournament in `dgt_round cup 3`; None if a table is named. Refused if there is none yet."""
     path = pathlib.Path(file)
     if path.is_dir() and (not folder or not NUMBER.fullmatch(folder) and (path / SETTINGS).exists()):
-        raise Refused(REFUSED, f"{file} is a folder: say which round of its tournament is played, as dgt_round {file} 1")
+        raise Refused(REFUSED, f"{file} is a folder: say which round of its tournament is played, as {DGT_ROUND} {file} 1")
     if not NUMBER.fullmatch(folder) or path.is_file() or path.suffix.lower() in TABLES:
         return None
     if not path.is_dir():
-        raise Refused(REFUSED, f"there is no folder {file}: dgt_round --new {file} makes it, with the files to fill in")
+        raise Refused(REFUSED, f"there is no folder {file}: {DGT_ROUND} --new {file} makes it, with the files to fill in")
     if int(folder) == 0:
         raise Refused(REFUSED, "the first round is 1")
     return Tournament(path, int(folder))
@@ -185,7 +186,7 @@ def made(folder: pathlib.Path, find: Callable[[], Program]) -> List[str]:
         f"  {BOARDS:<15} a line for each board of the hall, with its device{plugged}",
         f"  {'round1.csv':<15} the pairs of round 1. Or save the pairing program's own table there, as round1.csv,",
         f"  {'':<15} or its report of the tournament (TRF16), as NAME.trf",
-        f"Then type: dgt_round {folder} 1",
+        f"Then type: {DGT_ROUND} {folder} 1",
     ]
 
 

@@ -17,6 +17,7 @@ AGAIN = 5.0  # seconds until it is started again after an error
 RESULTS = "results.csv"
 HEADER = ("Board", "White", "Black", "Result", "Note")
 FORFEIT = "forfeit"
+FORMULAS = ("=", "+", "-", "@", "\t", "\r", "＝", "＋", "－", "＠")  # a spreadsheet takes a cell that begins so for a formula
 
 
 class Result(NamedTuple):
@@ -34,8 +35,13 @@ def results_text(results: Iterable[Result]) -> bytes:
     text = io.StringIO()
     writer = csv.writer(text, delimiter=";", lineterminator="\r\n")
     writer.writerow(HEADER)
-    writer.writerows(results)
+    writer.writerows(result._replace(white=no_formula(result.white), black=no_formula(result.black)) for result in results)
     return text.getvalue().encode("utf-8-sig", "replace")
+
+
+def no_formula(name: str) -> str:
+    """A name that is text in any spreadsheet. Scores and notes have no text of a user, and stay as they are."""
+    return f"'{name}" if name.startswith(FORMULAS) else name
 
 
 def all_text(others: Iterable[Tuple[int, bytes]], number: int, published: bytes) -> bytes:

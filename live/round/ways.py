@@ -39,8 +39,8 @@ def example(numbers: Sequence[int]) -> int:
 def all_ways(numbers: Sequence[int]) -> str:
     """What can be typed."""
     number = example(numbers)
-    here = ", ".join(f"{number} {what}" for what in ("1-0", "+-", "*", "Nf3 Nc6", "back", "ok", "help"))
-    return f"type {here}, {number} (the state of board {number}), r (read the table again) or q (end)"
+    here = ", ".join(f"{number} {what}" for what in ("1-0", "+-", "*", "Nf3 Nc6", "back", "ok", "moves", "help"))
+    return f"type {here}, {number} (the state of board {number}), messages (of before), r (read the table again) or q (end)"
 
 
 def ways(text: str, numbers: Sequence[int], said: Said = Said(UNKNOWN)) -> str:

@@ -3,10 +3,11 @@
 from __future__ import annotations
 
 import os
-from typing import List, Optional, Sequence
+from typing import List, Optional, Sequence, Tuple
 
 from live.loop import Loop
 from live.terminal.columns import seen
+from live.terminal.editing import part_shown
 from live.terminal.terminal import opened_again
 
 CLEAR = b"\x1b[H\x1b[2J"
@@ -25,6 +26,8 @@ class Painter:
         self._waiting = b""
         self._stuck = False
         self._next: Optional[List[str]] = None
+        self._typed: Tuple[str, int] = ("", 0)
+        self.edits = False  # whether this shows what is typed, and not the terminal
 
     def size(self) -> "tuple[int, int]":
         """Columns and lines."""
@@ -38,6 +41,25 @@ class Painter:
         """Draws everything again: somebody has typed a line."""
         self._drawn = []
 
+    def typing(self, text: str, place: int) -> None:
+        """This is half typed, below the table."""
+        if self._typed != (text, place):
+            self._typed = text, place
+            if self._number is not None and not self._stuck and self._drawn:
+                self._waiting += self._prompt(len(self._drawn) + 1)
+                self._write()
+
+    def entered(self, text: str) -> None:
+        """This was typed: its answer is in the table, or below it."""
+        self._typed = "", 0
+        self.forget()
+
+    def _prompt(self, line: int) -> bytes:
+        """The line in which somebody types, with what is typed so far."""
+        part, column = part_shown(*self._typed, max(1, self.size()[0] - len(PROMPT) - 1))
+        shown = f"{PROMPT}{part}".encode("utf-8", "backslashreplace")
+        return b"\x1b[%d;1H" % line + shown + b"\x1b[K" + b"\x1b[%d;%dH" % (line, len(PROMPT) + column + 1)
+
     def draw(self, lines: Sequence[str]) -> None:
         if self._number is None:
             return
@@ -50,7 +72,7 @@ class Painter:
             out += CLEAR
             for line in lines:
                 out += line.encode("utf-8", "replace") + b"\r\n"
-            out += PROMPT.encode()
+            out += self._prompt(len(lines) + 1) if self.edits else PROMPT.encode()
         else:
             for number, (line, before) in enumerate(zip(lines, self._drawn), 1):
                 if line != before:
@@ -84,8 +106,10 @@ class Painter:
         if self._stuck:
             self._stuck = False
             self._loop.forget(self._number)
-            if self._next is not None:
-                lines, self._next = self._next, None
+            lines, self._next = self._next or self._drawn, None
+            if self.edits:
+                self.forget()
+            if lines:
                 self.draw(lines)
 
     def close(self) -> None:

@@ -7,14 +7,18 @@ import math
 import time
 from typing import Callable, Deque, Optional
 
+from live.board.advice import Moves, closing, if_not
+from live.called import DGT_LIVE
 from live.game.log import Log, logged_at, time_of
 from live.game.options import NOT_ROTATED, ROTATED
-from live.game.reply import BACK, OK, REOPENS
+from live.game.looks import Look
+from live.game.reply import REOPENS
 from live.refused import printable
 from live.terminal.terminal import INDENT, Terminal
 
 NO_TIME = "--:--:--"
 PROMPT = "  > "
+AGAIN = 100  # lines that are kept to be shown again
 LASTS = 10.0  # seconds between two writings of an unchanged state
 Clock = Callable[[], float]  # seconds, as `time.time`
 
@@ -28,6 +32,7 @@ class Screen:
         self._log: Optional[Log] = None
         self._news: object = None
         self._last: Deque[str] = collections.deque(maxlen=3)  # the texts of the last lines
+        self._shown: Deque[str] = collections.deque(maxlen=AGAIN)
         self._state_at = -math.inf
 
     @property
@@ -54,9 +59,15 @@ class Screen:
     def show(self, text: str, *more: str) -> None:
         """The same as `say`, without the log."""
         self._last.append(text)
-        self._print(f"{time_of(self._clock())}  {text}")
-        for line in more:
-            self._print(INDENT + line)
+        lines = [f"{time_of(self._clock())}  {text}", *(INDENT + line for line in more)]
+        self._shown += lines
+        for line in lines:
+            self._print(line)
+
+    def again(self) -> None:
+        """Shows what was shown before, but for what is older than many lines."""
+        for line in list(self._shown):
+            self._print(line)
 
     def secret(self, text: str) -> None:
         """Shows a line that isn't kept in the log."""
@@ -86,33 +97,34 @@ class Screen:
         """What to do if the board lies the other way round than the option says. The last line has no room for more."""
         return f"Ctrl-C, start again with {NOT_ROTATED if rotated else ROTATED}"
 
-    def ok(self) -> str:
-        """What to type to acknowledge an alarm."""
-        return OK
+    def look(self, look: Look, moves: Moves) -> None:
+        """Shows what somebody must look at in a game that has these moves, and what to do."""
+        ok, otherwise = closing(look, self.typed), if_not(look, self.typed, moves)
+        self.say(f"{look.text}. {ok}{';' if otherwise else ''}", *filter(None, [otherwise]))
+
+    def typed(self, line: str) -> str:
+        """How a line is typed for this board."""
+        return line
 
     def reopens(self) -> str:
         """What to type if a result was typed for the wrong board."""
-        return REOPENS
+        return self.typed(REOPENS)
 
     def mistyped(self) -> str:
         """What to do if the result that was just given was typed by mistake."""
         return f"; if the result was typed by mistake, type {self.reopens()}"
 
-    def begins(self) -> str:
-        """What to type if a game begins only now."""
-        return f"{BACK} 0"
-
     def result_of(self, name: str, in_series: bool) -> str:
         """What to type for the result of a game that is over without one."""
-        return f"1-0 {name}" if in_series else f"dgt_live --add 1-0 {name}"
+        return f"1-0 {name}" if in_series else f"{DGT_LIVE} --add 1-0 {name}"
 
     def goes_on(self, name: str, in_series: bool) -> str:
         """What to do if a game goes on that is over without a result."""
-        return f'{"Ctrl-C, and then " if in_series else ""}dgt_live --add "{REOPENS}" {name}'
+        return f'{"Ctrl-C, and then " if in_series else ""}{DGT_LIVE} --add "{REOPENS}" {name}'
 
     def other_device(self) -> str:
         """What to do if the device that isn't there is the wrong one."""
-        return "Ctrl-C, and see dgt_live --devices"
+        return f"Ctrl-C, and see {DGT_LIVE} --devices"
 
     def other_address(self) -> str:
         """The same for the address of a serial server."""

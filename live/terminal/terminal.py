@@ -7,18 +7,21 @@ import errno
 import os
 import select
 import stat
+import termios
 import time
-from typing import Callable, List, Optional
+from typing import Any, Callable, Dict, List, Optional, Protocol, Tuple
 
 from live.loop import Loop
-from live.refused import REFUSED, Refused
+from live.refused import REFUSED, Refused, printable
 from live.terminal import columns as columns_of
+from live.terminal import editing
 
 WAITING = 64 * 1024  # bytes that may wait to be printed; later lines are dropped
 WIDEST = 79  # columns of the last line
 LONGEST = 4096  # bytes of a typed line
 PAUSE = 1.0  # seconds until a terminal is tried again that can't be read now
 ERASE = b"\r\x1b[K"
+LEAST_TYPED = 24  # columns that what is typed has, if it needs them
 INDENT = " " * 10  # as wide as the time of day in front of a line
 
 
@@ -40,6 +43,7 @@ class Terminal:
         self._waiting = bytearray()
         self._dropped = 0
         self._state = ""
+        self._typed: Tuple[str, int] = ("", 0)
         self._shown = False
         self._stuck = False
         try:
@@ -73,6 +77,19 @@ class Terminal:
                 self._erase()
                 self._write()
 
+    def typing(self, text: str, place: int) -> None:
+        """This is half typed, behind the state."""
+        if self._typed != (text, place):
+            self._typed = text, place
+            if not self._stuck:
+                self._erase()
+                self._write()
+
+    def entered(self, text: str) -> None:
+        """This was typed: it stays, behind the state."""
+        self._typed = "", 0
+        self.line(f"{self._state}{text}")
+
     def _erase(self) -> None:
         if self._shown:
             self._waiting += ERASE
@@ -80,8 +97,14 @@ class Terminal:
 
     def _show_state(self) -> None:
         if not self._shown:
-            shown, _ = columns_of.split_at(columns_of.seen(self._state), self._width() - 1)
-            self._waiting += shown.encode("utf-8", "backslashreplace")
+            text, place = self._typed
+            width = self._width() - 1
+            room = min(columns_of.width_of(printable(text)) + 1, LEAST_TYPED) if text else 0
+            shown, _ = columns_of.split_at(columns_of.seen(self._state), max(0, width - room))
+            part, column = editing.part_shown(text, place, width - columns_of.width_of(shown))
+            back = columns_of.width_of(part) - column
+            left = f"\x1b[{back}D" if back > 0 else ""
+            self._waiting += f"{shown}{part}{left}".encode("utf-8", "backslashreplace")
             self._shown = True
 
     def _width(self) -> int:
@@ -95,7 +118,7 @@ class Terminal:
         if self._number is None:
             self._waiting.clear()
             return
-        if self._state and not self._stuck:
+        if (self._state or self._typed[0]) and not self._stuck:
             self._show_state()
         try:
             while self._waiting:
@@ -149,6 +172,27 @@ class Terminal:
 
 
 _unblocked: List[int] = []  # standard streams that `opened_again` has made non-blocking
+_edited: Dict[int, "list[Any]"] = {}  # terminals whose keys come at once, and how they were set before
+KEYS_AT_ONCE = termios.ICANON | termios.ECHO
+NO_KEY = b"\0"
+
+
+def edits(number: int) -> bool:
+    """Sets a terminal up so that keys come at once, are not printed, and Ctrl-C is one of them. Returns whether it is; not while another
+    program has it."""
+    try:
+        with contextlib.suppress(OSError):  # it is nobody's controlling terminal
+            if os.tcgetpgrp(number) != os.getpgrp():
+                return False
+        mode = termios.tcgetattr(number)
+        _edited.setdefault(number, termios.tcgetattr(number))
+        mode[3] &= ~KEYS_AT_ONCE
+        mode[6][termios.VINTR] = NO_KEY
+        mode[6][termios.VMIN], mode[6][termios.VTIME] = 1, 0
+        termios.tcsetattr(number, termios.TCSANOW, mode)
+        return True
+    except termios.error:
+        return False
 
 
 def opened_again(number: int) -> int:
@@ -167,8 +211,17 @@ def opened_again(number: int) -> int:
     return copy
 
 
+def leave_keys() -> None:
+    """Sets terminals up as they were before `edits`: their lines come whole again, and Ctrl-C is a signal."""
+    while _edited:
+        number, mode = _edited.popitem()
+        with contextlib.suppress(termios.error):
+            termios.tcsetattr(number, termios.TCSANOW, mode)
+
+
 def leave_as_found() -> None:
-    """At the end of a call: whoever uses the standard streams after it waits for them as before."""
+    """At the end of a call: whoever uses the standard streams after it finds them as before."""
+    leave_keys()
     while _unblocked:
         with contextlib.suppress(OSError):
             os.set_blocking(_unblocked.pop(), True)
@@ -189,9 +242,20 @@ def folded_for(number: int, text: str, indent: str) -> str:
     return "".join(line + "\n" for line in lines)
 
 
+class Shows(Protocol):
+    """Shows what is typed, on a terminal."""
+
+    def typing(self, text: str, place: int) -> None:
+        """This is half typed, and the next letter comes to this place."""
+
+    def entered(self, text: str) -> None:
+        """This was typed."""
+
+
 class Typed:
     """Standard input: one call for each typed line. At its end nothing more is typed, and `ended` is called. An error in a call ends
-    nothing: `refused` gets it."""
+    nothing: `refused` gets it. On a terminal a line can be edited if something `shows` it; then Ctrl-C clears it, and on an empty line
+    `interrupted` is called."""
 
     def __init__(
         self,
@@ -199,10 +263,14 @@ class Typed:
         heard: Callable[[str], None],
         refused: Callable[[str, Exception], None],
         ended: Callable[[], None] = lambda: None,
+        shows: Optional[Shows] = None,
+        interrupted: Callable[[], None] = lambda: None,
     ) -> None:
         self._loop, self._heard, self._refused, self._ended = loop, heard, refused, ended
+        self._shows, self._interrupted = shows if os.isatty(0) else None, interrupted
         self._number: Optional[int] = None
         self._text = b""
+        self._line = editing.Line()
         try:
             mode = os.fstat(0).st_mode
         except OSError:
@@ -215,6 +283,8 @@ class Typed:
     def _watch(self) -> None:
         if self._number is None:
             return
+        if self._shows and not edits(self._number):
+            self._shows = None
         try:
             self._loop.watch(self._number, self._readable)
         except Exception as error:
@@ -237,10 +307,39 @@ class Typed:
             self._loop.forget(self._number)
             return
         if not part:
-            self._loop.forget(self._number)
-            self._number = None
-            self._ended()
-            return
+            self._end()
+        elif self._shows:
+            self._edit(part, self._shows)
+        else:
+            self._take(part)
+
+    def _end(self) -> None:
+        self.close()
+        leave_keys()
+        self._ended()
+
+    def _edit(self, part: bytes, shows: Shows) -> None:
+        """Keys were pressed."""
+        self._line, found = editing.after(self._line, part, LONGEST)
+        for typed in found:
+            if typed.line is not None:
+                shows.entered(typed.line)
+                self._hear(typed.line.encode("utf-8", "surrogateescape"))
+            elif typed.interrupts:
+                self._guarded("Ctrl-C", self._interrupted)
+            else:
+                self._end()
+                return
+        shows.typing(self._line.text, self._line.place)
+
+    def _guarded(self, text: str, call: Callable[[], None]) -> None:
+        try:
+            call()
+        except Exception as error:
+            self._refused(text, error)
+
+    def _take(self, part: bytes) -> None:
+        """Whole lines were typed, or parts of them."""
         lines: List[bytes]
         *lines, self._text = (self._text + part).split(b"\n")
         self._text = self._text[: LONGEST + 1]  # if there is more of it, none of it counts
@@ -249,12 +348,13 @@ class Typed:
 
     def _hear(self, line: bytes) -> None:
         text = line.decode("utf-8", "surrogateescape").strip()
-        try:
+
+        def hears() -> None:
             if len(line) > LONGEST:
                 raise Refused(REFUSED, f"a line has at most {LONGEST:,} bytes. Nothing of it counts")
             self._heard(text)
-        except Exception as error:
-            self._refused(text, error)
+
+        self._guarded(text, hears)
 
     def close(self) -> None:
         """Reads nothing further."""

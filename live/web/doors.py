@@ -9,7 +9,6 @@ from dataclasses import dataclass
 from typing import Callable, List, Optional, Tuple
 
 from live.broadcast.broadcast import Broadcast
-from live.broadcast.view import said_of_matches
 from live.loop import Loop
 from live.refused import Refused
 from live.web.address import HERE, HIGHEST_PORT, Address, Door, Names, Pages
@@ -87,7 +86,7 @@ class TwoPages:
             page.trouble = self.trouble
         if self._spectators:
             broadcast.on_news = self._spectators.changed
-            self._spectators.shows(lambda: RoundView(title.event, broadcast.boards, (*title.said, *said_of_matches(broadcast.boards))))
+            self._spectators.shows(lambda: RoundView(title.event, broadcast.boards, (*title.said, *broadcast.matches)))
         if self._arbiter:
             self._arbiter.shows(arbiter.view)
 

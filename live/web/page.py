@@ -118,6 +118,10 @@ class Page:
 
     # What is shown.
 
+    def begin(self, state: RoundView) -> None:
+        """Shows this at once, before there is a reader."""
+        self._publish(state)
+
     def show(self, state: RoundView) -> None:
         """Shows this from now on."""
         self._next = state

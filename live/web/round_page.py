@@ -18,6 +18,7 @@ from live.web.view import BoardView, Ply, RoundView
 GATHERED = 0.05  # seconds in which changes are shown at once
 AGAIN = 1.0  # seconds until a page is started again after an error
 NOT_RECORDED = "NOT RECORDED: the recorder's screen says why"  # the reason may contain a folder's path, or a user's name
+IN_THE_TERMINAL = "Lines are typed in the recorder's terminal."
 NOT_PUBLISHED = "NOT PUBLISHED: the recorder's screen says why"
 
 
@@ -50,7 +51,7 @@ class RoundPage:
         try:
             self._begin()
             self._timer = None
-            self.changed()
+            self._show_first()
         except Exception as error:
             self._guard.end()
             self._broke(error)
@@ -60,9 +61,12 @@ class RoundPage:
         return self._page.url
 
     def shows(self, view: Callable[[], RoundView]) -> None:
-        """Shows this from now on. Call `changed` when it has changed."""
+        """Shows this from now on, to the first reader too. Call `changed` when it has changed."""
         self._view = view
-        self.changed()
+        self._show_first()
+
+    def _show_first(self) -> None:
+        self._guard.call(lambda: self._page.begin(self._view()))
 
     def changed(self) -> None:
         if self._timer is None:
@@ -75,15 +79,6 @@ class RoundPage:
     def close(self) -> None:
         self._closed = True
         self._guard.end()
-
-
-def ways_to_mend(state: str, in_front: str) -> str:
-    """What an arbiter may type if the record may be wrong; empty if typing can't mend it."""
-    ok = f'"{in_front}ok" if the game is right, ' if "LOOK" in state else ""
-    if not ok and "WRONG" not in state:
-        return ""
-    back = f'"{in_front}back" to take the last ply off, "{in_front}help" for more'
-    return f"Arbiter: in the recorder's terminal, type {ok}{back}"
 
 
 class Game(Protocol):
@@ -100,8 +95,8 @@ class Game(Protocol):
         """The name of its files."""
 
     @property
-    def in_front(self) -> str:
-        """What comes before a line that is typed for it: its number and a blank, or nothing."""
+    def advice(self) -> str:
+        """What is to be done about it; empty if nothing is."""
 
     def standing(self) -> Tuple[str, Optional[float], bool]:
         """The board's state in words, since when, and whether it is an alarm."""
@@ -161,7 +156,7 @@ def view_of(game: Game) -> BoardView:
         state=NOT_RECORDED if board.trouble else words,
         since=since,
         alarm=alarm,
-        mend=ways_to_mend(words, game.in_front),
+        mend=f"{game.advice}. {IN_THE_TERMINAL}" if "type " in game.advice else game.advice,
         differing=board.differing,
         clocks=clocks_of(plies),
         moves=plies_view(plies),

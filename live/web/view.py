@@ -27,7 +27,7 @@ class BoardView:
     """A board and its game.
 
     `positions` are FENs: of the start and after each ply, as far as they are known. `state` is in words, without a time;
-    `since` is when it began, in the time of `Loop.now`. `mend` is what an arbiter may type about it. The clocks are White's and
+    `since` is when it began, in the time of `Loop.now`. `mend` is what an arbiter does about it. The clocks are White's and
     Black's, empty if unknown; so are titles, ratings, teams and federations.
     """
 

@@ -2,24 +2,38 @@
 
 const LEAST = 13; // pixels of a letter: smaller ones can't be read on a laptop
 const LEAST_TILE = 200; // pixels of a card: a smaller one has no room for a name
+const DENSE_TILE = 150; // the same for somebody who must see many boards at once: names are cut rather
+const FLAT_TILE = 140; // the same of a card with one line for each player
+const FLAT_TEXT = 6.2; // letters in the height of such a card beside its diagram
+const WIDE = 700; // pixels of a screen on which cards may be flat
 const TEXT = 8.6; // letters in the height of a card beside its diagram: a head, two lines for each player, a foot
 const EDGES = 3; // pixels of its border
 const TRIES = 3; // a smaller card may have more lines
 
 /**
  * Sizes the cards in their list, and returns the number of columns. `groups` are the numbers of cards that stand together: each
- * group begins a row. `below` are pixels that are needed besides the cards.
+ * group begins a row. `below` are pixels that are needed besides the cards. If the cards are to be dense, they get smaller, and flat,
+ * before some of them are out of sight.
  */
-export function fit(list, groups, below = 0) {
-  let most = TEXT;
-  let columns = sized(list, groups, below, most);
+export function fit(list, groups, below = 0, isDense = false) {
+  list.classList.remove('flat');
+  const { columns, areAll } = fitted(list, groups, below, TEXT, isDense ? DENSE_TILE : LEAST_TILE);
+  if (areAll || !isDense || window.innerWidth < WIDE) return columns;
+  list.classList.add('flat');
+  return fitted(list, groups, below, FLAT_TEXT, FLAT_TILE).columns;
+}
+
+/** The number of columns with cards of at least this width, and whether all of them are in sight. */
+function fitted(list, groups, below, text, least) {
+  let most = text;
+  let found = sized(list, groups, below, most, least);
   for (let tries = 0; tries < TRIES; tries += 1) {
-    const { letters, text } = measured(list);
-    if (text <= most * letters + EDGES) break;
-    most = (text - EDGES) / letters;
-    columns = sized(list, groups, below, most);
+    const { letters, text: high } = measured(list);
+    if (high <= most * letters + EDGES) break;
+    most = (high - EDGES) / letters;
+    found = sized(list, groups, below, most, least);
   }
-  return columns;
+  return found;
 }
 
 /** The size of a letter, and the height of all that a card has beside its diagram, where that is most. */
@@ -39,7 +53,7 @@ function rowsOf(groups, columns) {
   return rows;
 }
 
-function sized(list, groups, below, text) {
+function sized(list, groups, below, text, least) {
   const most = Math.max(...groups);
   const gap = window.innerWidth < 700 ? 8 : 12;
   const width = document.documentElement.clientWidth - 2 * gap;
@@ -52,22 +66,23 @@ function sized(list, groups, below, text) {
     const rows = rowsOf(groups, number).length;
     const room = height / rows - gap;
     let wide = Math.min((width + gap) / number - gap, 720);
-    while (wide > LEAST_TILE && wide + high(wide) > room) wide -= 1;
+    while (wide > least && wide + high(wide) > room) wide -= 1;
     if (wide > best + 2 && wide + high(wide) <= room) {
       best = wide;
       columns = number;
     }
   }
-  if (best < LEAST_TILE) {
-    columns = Math.max(1, Math.floor((width + gap) / (LEAST_TILE + gap)));
+  const areAll = best >= least;
+  if (!areAll) {
+    columns = Math.max(1, Math.floor((width + gap) / (least + gap)));
     best = (width + gap) / columns - gap;
-    columns = Math.ceil(most / Math.ceil(most / columns)); // as many rows, and the last one not much shorter
+    if (least === LEAST_TILE) columns = Math.ceil(most / Math.ceil(most / columns)); // as many rows, and the last one not much shorter
   }
   list.style.setProperty('--tile', `${Math.floor(best)}px`);
   list.style.setProperty('--columns', String(columns));
   list.style.setProperty('--letters', `${letters(best)}px`);
   list.style.setProperty('--gap', `${gap}px`);
-  return columns;
+  return { columns, areAll };
 }
 
 /** The place to which an arrow, Home or End leads from a card, or -1 if it leads nowhere; undefined for any other key. */

@@ -29,16 +29,18 @@ function timeOf(seconds) {
   return isToday ? at.toLocaleTimeString([], clock) : at.toLocaleString([], { dateStyle: 'medium', timeStyle: 'short' });
 }
 
-/** A match: a team, the score, the other team. */
-function partsOf({ teams, points }) {
-  return [teams[0], points.map(printedPoints).join('\u2013'), teams[1]];
+/** A match: a team, the score, the other team, and why there is no score, if there is none. */
+function partsOf({ teams, points, why }) {
+  const score = points ? points.map(printedPoints).join('\u2013') : '\u2013';
+  return [teams[0], score, teams[1], ...(why ? [`No score: ${why}`] : [])];
 }
 
 /** Shows a match and its score there. */
 function showMatch(where, match) {
-  const [one, score, other] = partsOf(match);
+  const [one, score, other, why] = partsOf(match);
   if (where.textContent === partsOf(match).join(' ')) return;
   where.replaceChildren(element('bdi', '', one), ' ', element('b', 'score', score), ' ', element('bdi', '', other));
+  if (why) where.append(' ', element('small', 'why', why));
 }
 
 /** What this browser remembers of a round; nothing where it may not. */

@@ -1,0 +1,131 @@
+"""What dgt_live does without recording: a game that is there is changed, made anew or packed; devices are listed."""
+
+from __future__ import annotations
+
+import os
+from typing import List
+
+from live.board.plan import last_number, numbered
+from live.broadcast.unseen import is_hidden
+from live.called import DGT_LIVE
+from live.device import serial_line
+from live.device.numbers import Asked, ask, listing, told_of_shut
+from live.doors.calls import Call
+from live.doors.door import Outcome
+from live.game import control, files, packing, published_text
+from live.game.changing import add_by_name, told_of_round, told_of_series
+from live.game.file_names import check_name, has_delay
+from live.game.files import LOCK_PATIENCE, Paths
+from live.game.log import log_once
+from live.game.names import today
+from live.game.naming import line_of
+from live.game.opening import Opening, checked, read_otherwise
+from live.game.options import Options
+from live.game.program import Program
+from live.game.refusal import is_recorded
+from live.game.reply import OK, REOPENS, Answer
+from live.loop import Loop
+from live.refused import DONE, FAILED, REFUSED, Refused, printable
+
+
+def publish_anew(paths: Paths, given: Options = Options()) -> List[str]:
+    """Publishes the text of a game that nobody records, if it was published before or gets tags. Returns messages about it."""
+    if not (given.tags or os.path.lexists(paths.broadcast)):
+        return []
+    if has_delay(paths) or os.path.lexists(paths.delayed):
+        if is_hidden(paths):
+            return [f"{paths.broadcast} gets its tags as the rest of it is shown"]
+    return [published_text.publish_anew(paths)]
+
+
+def existing_game(name: str, *more: str) -> Paths:
+    """The files of an existing game. Refused, with these lines too, if it isn't there."""
+    paths = Paths(name)
+    if not os.path.isfile(paths.capture):
+        last = numbered(name, last_number(name))
+        known = f" The last one is {last.name}" if os.path.isfile(last.capture) else ""
+        raise Refused(REFUSED, f"there is no {paths.capture}: type the NAME of a game, with its folder.{known}", *more)
+    return paths
+
+
+def remake(call: Call, program: Program) -> Outcome:
+    """Makes anew the text of a game that nobody records: with or without its recovered pairs, with the other side's time first, or
+    with other names. The call that records a game takes names from here too."""
+    line = line_of(call.options)
+    device_first = f"To record a new game, type its DEVICE first, as {DGT_LIVE} /dev/ttyUSB0 {call.name}"
+    paths = existing_game(call.name, *([device_first] if line else []))
+    asked = control.ask(paths.capture, line) if line else None
+    if asked:
+        return answered(asked)
+    given = checked(program, call.options)
+    try:
+        opened = Opening(program, paths, lambda: read_otherwise(given)).open(Loop.now(), today())
+    except files.Recorded:
+        raise Refused(REFUSED, *is_recorded(paths.name, control.board_of(paths.capture), call.options)) from None
+    opened.game.capture.close()
+    options = opened.game.options
+    said = [f"{options.side.capitalize()}'s time comes first"] if call.options.first else []
+    said += [*opened.told, *opened.old.course.recovered]
+    if call.options.recover is not None and not opened.old.course.recovered:
+        said.append("nothing recovered")
+    said += publish_anew(paths, given)
+    what = "; ".join([*(said or ["nothing has changed"]), *opened.results])
+    log_once(paths, f"made anew: {what}")
+    print(printable(f"dgt_live: {paths.pgn} is made anew: {what}"))
+    return DONE, ()
+
+
+def answered(answer: Answer) -> Outcome:
+    """Prints what was done. Refused if it wasn't."""
+    status, text = answer
+    if status != DONE:
+        raise Refused(status, text)
+    print(printable(f"dgt_live: {text}"))
+    return DONE, ()
+
+
+def add(call: Call, program: Program) -> Outcome:
+    """Changes a game that is recorded, or one that is over, line by line. The first refused line ends this."""
+    paths, asked = existing_game(call.name), None
+    for line in call.typed:
+        asked = control.ask(paths.capture, line)
+        answered(asked or add_by_name(program, paths, line, LOCK_PATIENCE))
+        if not asked:
+            publish_anew(paths)
+    last = call.typed[-1].strip().lower()
+    left = [] if asked or last == OK else [told_of_round(paths), told_of_series(paths) if last == REOPENS else ""]
+    for told in filter(None, left):
+        print(printable(f"dgt_live: {told}"))
+    return DONE, ()
+
+
+def pack(call: Call, here: str) -> Outcome:
+    """Packs all that belongs to a game into one file."""
+    paths = existing_game(call.name)
+    try:
+        version = Program.find(here).version()
+    except Refused:
+        version = "of unknown version"
+    packed = packing.pack(paths, version)
+    print(printable(f"dgt_live: {packed.path} is made. It has {', '.join(packed.names)}, and the names of the players"))
+    return (FAILED if packed.left_out else DONE), packed.left_out
+
+
+def list_devices(here: str) -> Outcome:
+    """Prints the list of the devices that are plugged in."""
+    found = serial_line.devices()
+    devices = ask(Program.find(here), [device for device, _ in found]) if found else Asked()
+    print("\n".join(listing(found, devices)))
+    shut = told_of_shut(devices, serial_line.login_name())
+    return (FAILED if shut else DONE), shut
+
+
+def done(call: Call, here: str) -> Outcome:
+    """Does what a call asks for that records nothing."""
+    if call.devices:
+        return list_devices(here)
+    check_name(call.name)
+    if call.packs:
+        return pack(call, here)
+    program = Program.find(here)
+    return add(call, program) if call.typed else remake(call, program)
