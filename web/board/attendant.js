@@ -6,9 +6,10 @@ import { STOPPED } from '../game/times.js';
 export class Attendant {
   /**
    * `hears` gets told(entry) for what is told, { word, given, at, now, isNoted }; answered(entry, answer) in the same order; and wake() when
-   * the process is to be woken. `began` is when its call begins, by the clock that counts on.
+   * the process is to be woken. `began` is when its call begins, by the clock that counts on; `asks` says that it only asks a board who
+   * it is.
    */
-  constructor(program, guard, options, hears, began = guard.counted()) {
+  constructor(program, guard, options, hears, { began = guard.counted(), asks = false } = {}) {
     this.program = program;
     this.guard = guard;
     this.hears = hears;
@@ -17,7 +18,7 @@ export class Attendant {
     this.wasAway = guard.away();
     this.timer = null;
     this.isLeft = false;
-    this.key = program.attend(options);
+    this.key = program.attend(options, asks);
   }
 
   /** This happens, in this call. */

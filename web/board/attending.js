@@ -105,21 +105,32 @@ export class Attending {
     this.isAnew = false;
     const isBegun = this.attendant !== null;
     if (isBegun) this.attendant.leave();
-    const { held, isHistory } = this;
-    const { options, number } = this.hears;
-    const sent = this.capture.bytes();
+    const { held } = this;
+    const { options } = this.hears;
     const hears = {
       told: (entry) => this.hasTold(entry),
       answered: (entry, answer) => this.answered(entry, answer),
       wake: () => this.tell(WAKE),
     };
-    const { began, before, begun, line } = this.times;
-    const attendant = new Attendant(this.program, this.guard, options, hears, began);
+    const { began, line } = this.times;
+    const attendant = new Attendant(this.program, this.guard, options, hears, { began });
     this.attendant = attendant;
     this.lines = [];
     this.pending = [];
     this.held = [];
     this.leaveTexts();
+    this.tellPast(attendant);
+    if (isBegun && line.length === 0) attendant.send(GONE);
+    else if (line.length === 0) this.guard.after(OPENS, () => this.hears.isConnected || this.tell(GONE));
+    held.forEach(({ given, at }) => attendant.send(HEARD, given, at));
+  }
+
+  /** Tells a process what is there already. Nothing else keeps these bytes, as a function that `attend` makes would. */
+  tellPast(attendant) {
+    const { isHistory } = this;
+    const { number } = this.hears;
+    const { began, before, begun } = this.times;
+    const sent = this.capture.view();
     if (isHistory && before && sent.length > 0) attendant.send(KEPT, textBytes(before));
     if (isHistory && sent.length > 0) attendant.send(CAPTURE, sent);
     const tells = ([what, count]) => attendant.send(what, what === ADDED ? sent : count, began, true);
@@ -127,9 +138,6 @@ export class Attending {
     begun.filter(isFirst).forEach(tells);
     if (number) attendant.send(NUMBER, textBytes(number));
     begun.filter((one) => !isFirst(one)).forEach(tells);
-    if (isBegun && line.length === 0) attendant.send(GONE);
-    else if (line.length === 0) this.guard.after(OPENS, () => this.hears.isConnected || this.tell(GONE));
-    held.forEach(({ given, at }) => attendant.send(HEARD, given, at));
   }
 
   // What it is told.

@@ -35,7 +35,7 @@ export class Beginning {
   async renew() {
     const { recorder } = this;
     if (!this.isOn) return;
-    const content = await fromStart(recorder.calls, recorder.options, recorder.capture.bytes(), this.bytes);
+    const content = await fromStart(recorder.calls, recorder.options, recorder.capture.view(), this.bytes);
     await recorder.renew(content, true, { looks: [] });
     recorder.says(`the pieces have been set up: ${recorder.name} begins now`);
   }

@@ -73,7 +73,7 @@ export class NextGame {
     const { epoch } = attending;
     this.isReading = true;
     try {
-      const lines = await calls.lines(['watch', ...ofBoard(options)], capture.bytes().slice(end));
+      const lines = await calls.lines(['watch', ...ofBoard(options)], capture.view().subarray(end));
       if (epoch !== attending.epoch) return;
       this.isRead = hasShown;
       const pictures = lines.map(lineOf).filter(isPicture).map(pictureOf);
@@ -96,7 +96,7 @@ export class NextGame {
     return recorder.typing.exclusively(async () => {
       if (!recorder.isOver || this.at !== offset) return;
       const { board, calls, capture, options } = recorder;
-      await recorder.begin(await fromStart(calls, options, capture.bytes(), offset + 1), board.next || {});
+      await recorder.begin(await fromStart(calls, options, capture.view(), offset + 1), board.next || {});
       recorder.hears.says(`the pieces are at the start: ${recorder.game.name} begins`);
     });
   }
@@ -110,7 +110,7 @@ export class NextGame {
     await recorder.typing.exclusively(async () => {
       const { capture, course } = recorder;
       if (!recorder.isOver && course.result !== '*') recorder.closeGame(capture.size, Reason.RESULT);
-      const { dump, shows } = await standsAt(recorder.calls, given.options || recorder.options, capture.bytes());
+      const { dump, shows } = await standsAt(recorder.calls, given.options || recorder.options, capture.view());
       if (!dump || (shows && !takesMove)) {
         this.wait(given, shows);
         return;

@@ -22,6 +22,7 @@ import { Times } from '../kept/times.js';
 import { Attending } from './attending.js';
 import { Beginning } from './beginning.js';
 import { Cable } from './cable.js';
+import { Hidden } from './hidden.js';
 import { NextGame } from './next_game.js';
 import { Room } from './room.js';
 import { DISK_FULL, Kind, lasting, stateOf } from './state.js';
@@ -48,7 +49,7 @@ const WHY = {
 export class Recorder {
   /**
    * `kept` is what the database has: { board, game, chunks, times }; or, from a recorder that an error has ended before all
-   * was kept, { board, game, capture, times }. `hears` gets says(text), changed(), placed() when the PGN
+   * was kept, { board, game, capture, times }. `hears` gets says(text), changed(isNews), placed() when the PGN
    * has changed, begun(game) with the last game when another one begins, and keeps(before) with the old capture when a
    * new one was made; and cameBack() when its board was away and is heard again. It answers owner(number) and lends(number, heard),
    * and gets takes(number) when this game gets the board that another one has had.
@@ -71,6 +72,7 @@ export class Recorder {
     this.said = { kind: 'WAITS', lasted: null, squares: [], hint: '' }; // of the board's state; `saidAt` is when
     this.saidAt = guard.now();
     this.differs = []; // the squares that the report has named last
+    this.newest = ''; // of the game, as it was shown last
     this.isUnkept = false; // whether the game's record couldn't be kept
     this.keeping = null; // a promise that ends when it was last kept, or couldn't be
     guard.opened(() => this.times.close()); // after the cable
@@ -78,6 +80,7 @@ export class Recorder {
     this.next = new NextGame(this);
     this.beginning = new Beginning(this);
     this.room = new Room(this);
+    this.hidden = new Hidden(this);
     this.attending = new Attending(hall, guard, this);
     this.cable = new Cable(guard, kept.board.serial || '', this);
     guard.opened(() => this.keepUnanswered());
@@ -155,7 +158,9 @@ export class Recorder {
   heardAll() {
     if (this.isOld) this.tellOld();
     this.next.heardAll();
-    this.hears.changed();
+    const { newest } = this.course;
+    this.hears.changed(newest !== this.newest);
+    this.newest = newest;
   }
 
   /** The next line of the report. */
@@ -279,7 +284,7 @@ export class Recorder {
     this.saidAt = now;
     const isSilent = said.kind === 'SILENT';
     if (isSilent !== this.isSilent) this.silence(isSilent, word);
-    this.hears.changed();
+    this.hears.changed(false);
   }
 
   /** How the board stands. */
@@ -458,7 +463,8 @@ export class Recorder {
     this.sayState();
     this.next.look();
     this.room.look();
-    this.hears.changed();
+    this.hidden.look();
+    this.hears.changed(false);
   }
 
   /** Reports an alarm of the state, once. */
@@ -490,7 +496,7 @@ export class Recorder {
   /** The text of a game with this capture that is over, up to its end. */
   async textOf({ end }) {
     await this.attending.read(); // whether it was forfeited is known by its lines
-    return textOf(this.calls, this.options, this.capture.bytes(end), this.forfeit);
+    return textOf(this.calls, this.options, this.capture.view(end), this.forfeit);
   }
 
   /** The text of the game; null if the game is read anew meanwhile. */
@@ -577,7 +583,7 @@ export class Recorder {
   async endBehind(stays) {
     const { plies, settledAt } = this.course;
     const end = stays > 0 ? settledAt[stays - 1] + 1 : 0;
-    return (await hasAlone(this.calls, this.options, this.capture.bytes(end), plies.slice(0, stays))) ? end : null;
+    return (await hasAlone(this.calls, this.options, this.capture.view(end), plies.slice(0, stays))) ? end : null;
   }
 
   /** The game stays over, and ends with this byte; what came up to its earlier end counts no more. */
@@ -595,11 +601,11 @@ export class Recorder {
    * its last ply, and then a dump of how the board stood at its earlier end.
    */
   async endsAnew(cut, put, stood) {
-    const bytes = this.capture.bytes();
+    const bytes = this.capture.view();
     const { end } = this.game;
     const typedTo = cut + put.length;
     const overTo = typedTo + stood.length + Math.max(0, this.overTo - end);
-    const content = joined(bytes.slice(0, cut), put, stood, bytes.slice(end));
+    const content = joined(bytes.subarray(0, cut), put, stood, bytes.subarray(end));
     const timesOf = (game, capture) => this.times.upTo(cut, game, capture, put.length);
     await this.renew(content, true, { end: typedTo, typedTo, overTo }, timesOf);
   }
@@ -623,7 +629,7 @@ export class Recorder {
     game.id = await this.database.beginGame(board, game, chunks, before);
     this.board = { ...board, game: game.id };
     if (!this.isOver) this.times.note(OVER, before.end);
-    this.hears.begun({ ...before, pgn, bytes: this.capture.bytes(), times: this.times.all });
+    this.hears.begun({ ...before, pgn, bytes: this.capture.view(), times: this.times.all });
     this.times.close();
     const capture = new Capture(this.database, game.id, chunks);
     this.takeGame(game, capture, this.times.next(game, capture));
@@ -686,7 +692,7 @@ export class Recorder {
   /** Puts in what a longer capture of this game has beyond what was kept when the game was opened, with its times. */
   async takeUp(longer, lines, name) {
     await this.typing.exclusively(async () => {
-      const content = withMore(this.capture.bytes(), this.opened, longer);
+      const content = withMore(this.capture.view(), this.opened, longer);
       if (!content || content.length > LARGEST) return;
       const { opened } = this;
       const more = this.typedTo > opened ? content.length - this.capture.size : 0;

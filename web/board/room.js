@@ -63,7 +63,7 @@ export class Room {
     const { capture, game, isOver, name, overTo, typedTo } = recorder;
     const { end } = this;
     if (end === null || !isLong(capture.size, end)) return;
-    const bytes = capture.bytes();
+    const bytes = capture.view();
     const [from, to] = needless(bytes, end);
     const content = joined(bytes.subarray(0, from), bytes.subarray(to));
     const changes = { typedTo: Math.min(typedTo, end), overTo, played: game.played || 0 };

@@ -2,7 +2,7 @@
 // answers come into the capture.
 
 import { dumpsIn, joined } from '../device/protocol.js';
-import { meaning, readAnswer, refuse, whoseMove } from '../game/answers.js';
+import { meaning, placeOf, readAnswer, refuse } from '../game/answers.js';
 import { BOTH, resultOf, whyPlayed, wordsOfForfeit } from '../game/forfeits.js';
 import { shortOfLook } from '../game/looks.js';
 import { optionsOf } from '../game/options.js';
@@ -164,7 +164,7 @@ export class Typing {
   async addUnless(asked, text, isForfeit) {
     const { recorder } = this;
     const decide = ({ capture, size, end }) =>
-      recorder.calls.add(recorder.options, capture.bytes(end === null ? size : end), text);
+      recorder.calls.add(recorder.options, capture.view(end === null ? size : end), text);
     const done = await this.decided(decide, async (answer) => {
       const said = readAnswer('add', answer);
       const { plies, result } = recorder.course;
@@ -172,15 +172,15 @@ export class Typing {
       if (said.kind === 'reopen') return REOPENS;
       if (said.kind === 'board' && result !== '*') return INSTEAD;
       const played = plies.map(({ san }) => san);
-      if (!put) throw refuse(said, text, whoseMove(recorder.options.fen, played, text, Number(said.words[0])));
+      if (!put) throw refuse(said, text, placeOf(said, recorder.options.fen, played, text));
       const asks = said.kind === 'result' && !isForfeit ? this.whichGame(said.words[0]) : '';
       if (asks && asks !== asked) throw new Asked(asks);
       if (recorder.isOver) {
         const { end } = recorder.game;
-        const bytes = recorder.capture.bytes();
+        const bytes = recorder.capture.view();
         const typedTo = end + put.length;
         const overTo = Math.max(recorder.overTo + put.length, typedTo);
-        const content = joined(bytes.slice(0, end), put, bytes.slice(end));
+        const content = joined(bytes.subarray(0, end), put, bytes.subarray(end));
         const timesOf = (game, capture) => recorder.times.upTo(end, game, capture, put.length);
         await recorder.renew(content, false, { end: typedTo, typedTo, overTo }, timesOf);
       } else {
@@ -228,10 +228,10 @@ export class Typing {
     const { calls, options } = this.recorder;
     const { plies, result } = this.recorder.course;
     const decide = async ({ capture, size, end }) => {
-      const shown = readBack(await calls.back(options, capture.bytes(size), String(plies.length)));
+      const shown = readBack(await calls.back(options, capture.view(size), String(plies.length)));
       const cut = await this.recorder.endBehind(plies.length);
-      const added = readAnswer('add', await calls.add(options, capture.bytes(cut || 0), outcome));
-      const stood = readBack(await calls.back(options, capture.bytes(end), NO_PLIES)).put;
+      const added = readAnswer('add', await calls.add(options, capture.view(cut || 0), outcome));
+      const stood = readBack(await calls.back(options, capture.view(end), NO_PLIES)).put;
       return { shown, cut, added, stood };
     };
     return this.decided(decide, async ({ shown, cut, added, stood }) => {
@@ -249,7 +249,7 @@ export class Typing {
       this.asked = '';
       return PLAYED_AFTER_ALL; // the forfeit goes with whatever else is typed
     }
-    const decide = ({ capture, size }) => recorder.calls.back(recorder.options, capture.bytes(size), this.plyOf(to));
+    const decide = ({ capture, size }) => recorder.calls.back(recorder.options, capture.view(size), this.plyOf(to));
     return this.asking((asked) => this.decided(decide, (answer) => this.goBack(readBack(answer), to, asked)));
   }
 
@@ -294,7 +294,7 @@ export class Typing {
     const cut = how === CUT ? await recorder.endBehind(plies.length) : null;
     if (how === REFUSED || (how === CUT && cut === null)) throw refuseBack(said, '*', plies);
     const content = how === CUT ? capture.bytes(cut) : said.put;
-    const now = await gameOf(calls, options, how === AS_IT_IS ? capture.bytes() : content);
+    const now = await gameOf(calls, options, how === AS_IT_IS ? capture.view() : content);
     const [since, goesOn] = [playedSince(plies, now.plies), `${recorder.name} goes on`];
     if (how === AS_IT_IS) {
       await recorder.goOn();

@@ -46,13 +46,16 @@ function whatEnds(plies) {
   return `after ${plies[plies.length - 1]}, ${plies.length} ${plies.length === 1 ? 'ply' : 'plies'}`;
 }
 
-/** Why a line adds nothing. `place` says who is to move, where a move isn't legal. */
+/** Why a line adds nothing. `place` is what `placeOf` says. */
 export function refuse({ kind, words }, line, place) {
   if (NUMBERED.test(line.trim()) && ['unknown', 'mixed'].includes(kind)) return new Refused(`leave out the number in front. ${WAYS}`);
   const [, number] = OK_NUMBERED.exec(line.trim()) || [];
   if (number) return new Refused(`ok stands alone. In the terminal of a round the board's number goes in front, as ${number} ok`);
   if (Object.hasOwn(SENTENCES, kind)) return new Refused(SENTENCES[kind]);
   if (kind === 'illegal') return new Refused(`${words[1]} is no legal move: ${place}. ${NOTHING_ADDED}`);
+  if (kind === 'misnumbered') {
+    return new Refused(`${NUMBER.exec(words[1])[0]} isn't the number of the next move: ${place}. ${NOTHING_ADDED}`);
+  }
   if (kind === 'meant') return new Refused(`${writtenSo(words[1], words[2])}. ${NOTHING_ADDED}`);
   if (kind === 'unknown') return new Refused(`${shortened(words[1])}: neither a move nor a result. ${WAYS}`);
   return new Refused(`${shortened(line)}: no move. ${WAYS}`);
@@ -71,16 +74,26 @@ function howWritten(word, meant) {
 }
 
 /**
- * Who is to move after the plies of a game from this start, and after so many moves of a line: `Black is to move, after 2.
- * Nf3`.
+ * Where in a game with these moves a line goes wrong; empty if that isn't said. Before a move that isn't legal, who is to move;
+ * before one with a wrong number, the right one.
  */
-export function whoseMove(fen, played, line, before) {
-  const words = line.split(/\s+/u).map((word) => word.replace(NUMBER, '')).filter((word) => word);
-  const sans = [...played, ...words.slice(0, before)];
+export function placeOf({ kind, words }, fen, played, line) {
+  if (!['illegal', 'misnumbered'].includes(kind)) return '';
+  const typed = line.split(/\s+/u).map((word) => word.replace(NUMBER, '')).filter((word) => word);
+  const sans = [...played, ...typed.slice(0, Number(words[0]))];
+  const half = firstHalf(fen) + sans.length;
+  const after = sans.length === 0 ? '' : `, after ${numberOf(half - 1)} ${sans[sans.length - 1]}`;
+  if (kind === 'misnumbered') return `${numberOf(half)} is next${after}`;
+  return `${half % 2 === 1 ? 'Black' : 'White'} is to move${after}`;
+}
+
+/** The half-move with which a game from this start begins: twice its number, and one more for Black's. */
+function firstHalf(fen) {
   const fields = (fen || '').split(' ').filter((field) => field);
-  const first = 2 * (Number(fields[5]) || 1) + (fields[1] === 'b' ? 1 : 0);
-  const whose = `${(first + sans.length) % 2 === 1 ? 'Black' : 'White'} is to move`;
-  if (sans.length === 0) return whose;
-  const last = first + sans.length - 1;
-  return `${whose}, after ${Math.floor(last / 2)}${last % 2 === 1 ? '...' : '.'} ${sans[sans.length - 1]}`;
+  return 2 * (Number(fields[5]) || 1) + (fields[1] === 'b' ? 1 : 0);
+}
+
+/** The number of a half-move, as `14.` or `14...`. */
+function numberOf(half) {
+  return `${Math.floor(half / 2)}${half % 2 === 1 ? '...' : '.'}`;
 }

@@ -26,6 +26,12 @@ export class Course {
     }
   }
 
+  /** What a card shows at once: how many plies there are, the last one, and the result. */
+  get newest() {
+    const last = this.plies[this.plies.length - 1];
+    return [this.plies.length, last ? last.san : '', this.result].join(' ');
+  }
+
   /** Whether the last move has ended the game, by mate or stalemate: the result came with it. */
   get isEndedByMove() {
     return this.result !== '*' && this.plies.length > 0 && this.resultAt === this.settledAt[this.plies.length - 1];

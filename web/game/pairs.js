@@ -1,38 +1,147 @@
-// Pairs as somebody types them, or copies them from a table: a line for each board. Pure.
+// Pairs as somebody types them, or copies them from a table, a list or a pairing program: a line for each board. Pure.
+//
+// A line is taken only if it has two names, whichever way its parts are divided. What could be read in two ways is refused.
 
-const SEPARATORS = ['\t', ';', ' - ', ' – ', ',']; // the first that a line has parts it
+const MOST_SHOWN = 40; // letters of a line that a message quotes
+const TITLE = /^(?:W?(?:GM|IM|FM|CM)|w?[gmfc])$/; // a cell with a title
+const TITLED = /^W?(?:GM|IM|FM|CM)\s+(?=\S+[\s,])/; // a title before a name
+const A_NAME = /^(?:\p{L}|['’‘]|\?$)/u;
+const NUMBER = /^([0-9]{1,4})[.):]?$/; // a cell with the board's number
+const NUMBERED = /^(?:(?:board|brett|table|tisch|bd|bo)\b\.?\s*|#)?([0-9]{1,4})\s*[.):–—-]?\s+(?=\D)(.+)$/iu; // that number before a name
+const OF_A_MATCH = /^[0-9]+[.][0-9]+$/; // a board of a match, as 1.2
+const COUNTED = /^[([]?(?:[0-9]+(?:[.,][0-9]+)?[½¼¾]?|[½¼¾])[)\]]?$/; // points, a rating, a number of the list
+const RESULT = /^(?:[([]?[0-9½.,]*[)\]]?\s*[-–—:]\s*[([]?[0-9½.,]*[)\]]?|\*|\.+|vs?\.?|1\/2\s*[-–—:]\s*1\/2|[+-]\s*[-–—:]\s*[+-])$/;
+const BETWEEN = /\s+(?:[-–—:]|vs\.?)\s+/iu; // two names
+const BYES = ['bye', 'spielfrei', 'notpaired', 'nichtausgelost', 'exempt', 'descansa', 'riposo'];
+const COLUMNS = {
+  board: ['board', 'boardno', 'bo', 'bd', 'brd', 'table', 'tisch', 'brett', 'br', 'tavolo', 'tav', 'tablero', 'mesa', 'echiquier', 'ech'],
+  White: ['white', 'weiss', 'blancs', 'blanc', 'blancas', 'blanco', 'bianco', 'bianchi'],
+  Black: ['black', 'schwarz', 'noirs', 'noir', 'negras', 'negro', 'nero', 'neri'],
+  number: ['', 'no', 'nr'],
+  name: ['name', 'player', 'spieler', 'teilnehmer', 'joueur', 'jugador', 'giocatore', 'nom', 'nombre'],
+};
 
-/** A line that can't be read. The message says what to type. */
+/** Pairs that can't be read. The message says where, why, and what to type. */
 export class NoPair extends Error {}
 
+/** Only letters and digits, in lower case and without marks: `Weiß` becomes `weiss`. */
+function normal(text) {
+  return text.replaceAll('ß', 'ss').normalize('NFKD').toLowerCase().replace(/[^\p{L}\p{N}]/gu, '');
+}
+
+/** The cells of a line at this separator; one in quotes may have it inside. */
+function divided(line, separator) {
+  const cells = [''];
+  let isQuoted = false;
+  for (const [at, letter] of [...line].entries()) {
+    if (letter === '"' && (isQuoted || !cells.at(-1).trim())) isQuoted = !isQuoted;
+    else if (letter === separator && !isQuoted) cells.push('');
+    else cells[cells.length - 1] += letter;
+  }
+  return cells.map((cell) => cell.trim());
+}
+
+/** The cells of a line: at tabs, semicolons, wide gaps or commas, and where two names have a dash between them. */
 function cellsOf(line) {
-  const separator = SEPARATORS.find((one) => line.includes(one));
-  const cells = separator ? line.split(separator).map((cell) => cell.trim()) : [line.trim()];
-  while (cells.length > 0 && !cells[cells.length - 1]) cells.pop();
-  return cells;
+  if (line.includes('\t')) return { cells: divided(line, '\t'), hasCommas: false };
+  if (line.includes(';')) return { cells: divided(line, ';'), hasCommas: false };
+  if (/\S\s{2,}\S/u.test(line)) return { cells: line.trim().split(/\s{2,}/u), hasCommas: false };
+  if (BETWEEN.test(line)) return { cells: [line.trim()], hasCommas: false };
+  return { cells: divided(line, ','), hasCommas: line.includes(',') };
+}
+
+/** A name without what may stand around it: points, a title, a rating. */
+function nameIn(cell) {
+  const name = cell.replace(/^[([][0-9½.,]+[)\]]\s*/, '').replace(/\s*[([][0-9½.,]+[)\]]$/, '').replace(/\s+[0-9]{3,4}$/, '');
+  return name.replace(TITLED, '').trim();
+}
+
+/** The names of a line, and the board's number before them, if there is one. */
+function partsOf(cells) {
+  const filled = cells.filter((cell) => cell);
+  const [, alone] = NUMBER.exec(filled[0] || '') || [];
+  const [, before, rest] = (!alone && NUMBERED.exec(filled[0] || '')) || [];
+  const others = alone ? filled.slice(1) : [...(before ? [rest] : filled.slice(0, 1)), ...filled.slice(1)];
+  const texts = others.filter((cell) => !COUNTED.test(cell) && !RESULT.test(cell) && !TITLE.test(cell));
+  const named = texts.length > 2 ? texts.filter((cell) => !/^[A-Z]{3}$/.test(cell)) : texts; // federations
+  const isName = (name) => name && !COUNTED.test(name) && !RESULT.test(name);
+  const names = named.flatMap((cell) => cell.split(BETWEEN)).map(nameIn).filter(isName);
+  const number = alone || before;
+  return { number: number ? Number(number) : null, names };
 }
 
 /**
- * The players of each board: a map from its number to { White, Black }. A line has White and Black, with a tab, a
- * semicolon, a dash or a comma between them; or the board's number before them. Without numbers the lines are those of
- * `boards` in their order. A line with headings is passed over. Throws NoPair.
+ * The places of the columns that headings name: { count, board, White, Black }; null if these are no headings. If no column is the
+ * board's, the first one may be.
+ */
+function headingOf(cells) {
+  const words = cells.map(normal);
+  const place = (column) => words.findIndex((word) => COLUMNS[column].includes(word));
+  const named = words.flatMap((word, at) => (COLUMNS.name.includes(word) ? [at] : []));
+  const [white, black] = place('White') < 0 && named.length === 2 ? named : [place('White'), place('Black')];
+  if (white < 0 || black < 0 || NUMBER.test(cells[0])) return null;
+  const board = place('board') < 0 && COLUMNS.number.includes(words[0]) ? 0 : place('board');
+  return { count: cells.length, board, White: white, Black: black };
+}
+
+/** The same as `partsOf`, by the places that headings have given. */
+function partsBy(heading, cells) {
+  const [, number] = NUMBER.exec(cells[heading.board] || '') || [];
+  const names = [cells[heading.White], cells[heading.Black]].map(nameIn).filter((name) => A_NAME.test(name));
+  return { number: number ? Number(number) : null, names };
+}
+
+const quoted = (line) => (line.length > MOST_SHOWN ? `${line.slice(0, MOST_SHOWN)}..` : line);
+const IN_QUOTES = 'Put quotation marks around a name with a comma';
+const HOW = 'Type White; Black, or the board\'s number before them, as 3; White; Black';
+
+/** What a line has: { at, line, number, names }; null if it has a bye, or headings again. Throws NoPair if it has no pair. */
+function readLine({ line, at }, heading) {
+  const { cells, hasCommas } = cellsOf(line);
+  if (cells.some((cell) => BYES.includes(normal(cell))) || headingOf(cells)) return null;
+  const isBelow = heading && cells.length > Math.max(heading.White, heading.Black);
+  const hasMore = isBelow && cells.slice(heading.count).some((cell) => cell);
+  const { number, names } = isBelow ? partsBy(heading, cells) : partsOf(cells);
+  if (names.length === 2 && headingOf(names)) return null;
+  if (hasMore) throw new NoPair(`line ${at} has more columns than the headings: ${quoted(line.trim())}. ${IN_QUOTES}`);
+  if (names.length === 1) throw new NoPair(`line ${at} has one name, ${names[0]}, and needs two. ${HOW}`);
+  if (names.length !== 2 || !names.every((name) => A_NAME.test(name)) || OF_A_MATCH.test(cells[0])) {
+    throw new NoPair(`line ${at} can't be read: ${quoted(line.trim())}. ${HOW}`);
+  }
+  const areShort = names.some((name) => !/\s/u.test(name));
+  if (hasCommas && number === null && !heading && areShort) {
+    throw new NoPair(`line ${at}: is ${names.join(', ')} one player, or two? Type a semicolon between White and Black`);
+  }
+  return { at, line: line.trim(), number, names };
+}
+
+/**
+ * The players of each board: `pairs`, a map from its number to { White, Black }; and `passed`, the lines that say nothing of these
+ * boards. Without numbers the lines are those of `boards` in their order. Throws NoPair.
  */
 export function pairsOf(text, boards) {
-  const pairs = new Map();
-  const lines = text.split(/\r\n|\r|\n/u).map((line, at) => ({ cells: cellsOf(line), at: at + 1 }));
-  for (const { cells, at } of lines.filter(({ cells: [first] }) => first)) {
-    if (cells.some((cell) => cell.toLowerCase() === 'white')) continue;
-    const hasNumber = cells.length === 3 && /^[0-9]{1,4}$/.test(cells[0]);
-    if (cells.length !== 2 && !hasNumber) {
-      throw new NoPair(`line ${at} can't be read: type White; Black, or the board's number before them, as 3; White; Black`);
-    }
-    const number = hasNumber ? Number(cells[0]) : boards[pairs.size];
-    if (!boards.includes(number)) {
-      throw new NoPair(hasNumber ? `line ${at}: there is no board ${number}` : `line ${at}: there are only ${boards.length} boards`);
-    }
-    if (pairs.has(number)) throw new NoPair(`line ${at}: board ${number} has its players already`);
-    const [White, Black] = cells.slice(-2);
-    pairs.set(number, { White, Black });
+  const lines = text.split(/\r\n|\r|\n/u).map((line, at) => ({ line, at: at + 1 })).filter(({ line }) => line.trim());
+  const head = lines.findIndex(({ line }) => headingOf(cellsOf(line).cells) !== null);
+  const heading = head < 0 ? null : headingOf(cellsOf(lines[head].line).cells);
+  const passed = lines.slice(0, Math.max(0, head)).map(({ line }) => line.trim());
+  const read = [];
+  for (const one of lines.slice(head + 1)) {
+    const found = readLine(one, heading);
+    if (found) read.push(found);
+    else passed.push(one.line.trim());
   }
-  return pairs;
+  const areNumbered = read.some(({ number }) => number !== null);
+  const pairs = new Map();
+  for (const { at, line, number: typed, names: [White, Black] } of read) {
+    if (areNumbered && typed === null) throw new NoPair(`line ${at} has no board's number, and others have one. ${HOW}`);
+    const number = areNumbered ? typed : boards[pairs.size];
+    if (!areNumbered && number === undefined) throw new NoPair(`line ${at}: there are only ${boards.length} boards`);
+    if (pairs.has(number)) throw new NoPair(`line ${at}: board ${number} has its players already`);
+    if (boards.includes(number)) pairs.set(number, { White, Black });
+    else if (number > Math.max(...boards)) passed.push(line); // a board of which nothing is recorded here
+    else throw new NoPair(`line ${at}: there is no board ${number}`);
+  }
+  if (read.length > 0 && pairs.size === 0) throw new NoPair(`line ${read[0].at}: there is no board ${read[0].number}`);
+  if (lines.length > 0 && read.length === 0) throw new NoPair(`no line has the names of two players. ${HOW}`);
+  return { pairs, passed };
 }

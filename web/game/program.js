@@ -7,6 +7,8 @@ import { ofBoard, ofLive, ofTyping } from './options.js';
 /** The program can't be run, or has ended as it shouldn't. */
 export class ProgramError extends Error {}
 
+const LARGE = 4 << 20; // bytes that a call isn't given beside others
+
 // A module with a memory and a table of 64-bit addresses, as the program has them.
 const WIDE = Uint8Array.of(0, 0x61, 0x73, 0x6d, 1, 0, 0, 0, 4, 4, 1, 0x70, 4, 0, 5, 3, 1, 4, 0);
 
@@ -72,29 +74,31 @@ export class Program {
     waiting.forEach(({ failed }) => failed(new ProgramError(why)));
   }
 
-  call(name, given) {
+  /** Calls the worker, which takes these bytes over, without a copy. */
+  call(name, given, bytes = null) {
     this.count += 1;
     const number = this.count;
     return new Promise((done, failed) => {
       this.calls.set(number, { done, failed });
-      this.worker.postMessage({ number, name, given });
+      this.worker.postMessage({ number, name, given }, bytes ? [bytes.buffer] : []);
     });
   }
 
   // A board that is attended.
 
-  /** A process of the program attends a board from now on. Its key is new. */
-  attend(options) {
+  /** A process of the program attends a board from now on, or only asks it who it is. Its key is new. */
+  attend(options, asks = false) {
     this.attended += 1;
     const key = this.attended;
-    const begun = this.call('attend', { key, words: ofLive(options) });
+    const begun = this.call('attend', { key, words: ofLive(options), asks });
     begun.catch(() => {}); // what is told then fails too, and says why
     return key;
   }
 
   /** Tells the process what happens: see `entryOf`. The promise has its answer. */
   tell(key, at, word, given) {
-    return this.call('tell', { key, entry: entryOf(at, word, given) });
+    const entry = entryOf(at, word, given);
+    return this.call('tell', { key, entry }, entry);
   }
 
   /** Ends the process. */
@@ -116,8 +120,25 @@ export class Program {
 
   /** Calls it: { status, output, errors }. */
   async run(words, input = new Uint8Array(0)) {
+    if (input.length >= LARGE) return this.runAlone(words, input);
     await this.ready();
-    return this.call('run', { words, input });
+    return this.runHere(words, input);
+  }
+
+  runHere(words, input) {
+    const copy = input.slice();
+    return this.call('run', { words, input: copy }, copy);
+  }
+
+  /** The same, in a worker that ends with the call: so what a large input takes is free at once, and it holds up no other call. */
+  async runAlone(words, input) {
+    const alone = new Program(this.code, this.module);
+    try {
+      await alone.ready();
+      return await alone.runHere(words, input);
+    } finally {
+      alone.worker.terminate();
+    }
   }
 
   /** What it writes. Throws ProgramError if it fails. */

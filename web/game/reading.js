@@ -44,9 +44,9 @@ export async function standsAt(program, options, sent) {
 
 /** A dump of the start, as the program makes it of what the board has shown in the first so many bytes, and what came behind them. */
 export async function fromStart(program, options, sent, bytes) {
-  const { kind, put } = readBack(await program.back(options, sent.slice(0, bytes), NO_PLIES));
+  const { kind, put } = readBack(await program.back(options, sent.subarray(0, bytes), NO_PLIES));
   if (!put) throw new ProgramError(`back has refused the start: ${kind}`);
-  return joined(dumpsIn(put).at(-1), sent.slice(bytes));
+  return joined(dumpsIn(put).at(-1), sent.subarray(bytes));
 }
 
 /** A dump of the board after this first move. */

@@ -12,7 +12,7 @@ export class Folders {
     this.hall = hall;
     this.folder = null;
     this.kept = null; // the earlier folder, if the browser wants to ask about it
-    this.failed = '';
+    this.failed = ''; // what can't be written in it
     this.isPersistent = false;
     this.timer = null;
     this.lastRound = Promise.resolve(); // ends when the last text of all games is waiting to be written
@@ -71,7 +71,7 @@ export class Folders {
   async use(handle) {
     const before = await this.hall.database.setting('round').catch(() => null); // the disk is full
     const folder = new Folder(this.hall.loop, handle, {
-      trouble: (text) => this.trouble(text),
+      trouble: (text) => this.trouble(folder, text),
       says: (text) => this.hall.says(text),
     });
     folder.before.set(`${ROUND}.pgn`, [].concat(before || []));
@@ -79,8 +79,11 @@ export class Folders {
       if (filed && filed.folder === folder.name) folder.before.set(`${filed.name}.pgn`, texts || []);
     }
     for (const seat of this.hall.recorded()) await this.takeUp(seat, folder);
+    if (this.folder) this.folder.leave();
     this.folder = folder;
     this.kept = null;
+    this.failed = '';
+    this.hall.notice('files', '');
     this.hall.notice('folder', '');
     this.hall.notice('persist', '');
     this.hall.says(`the games are written to the folder ${handle.name}, at each move`);
@@ -100,7 +103,9 @@ export class Folders {
     if (bytes) await recorder.takeUp(bytes, times || '', `${filed.name}.dgt`);
   }
 
-  trouble(text) {
+  /** Something can't be written in a folder, or all is written again. One that was left alarms nobody. */
+  trouble(folder, text) {
+    if (folder !== this.folder) return;
     this.failed = text;
     this.hall.says(text ? `${text}: it is tried again each 5 seconds. Or choose another folder` : 'all files are written again');
     this.asks(text ? `${text}. The recording goes on. Put that right, or choose another folder.` : '', 'files', true);
@@ -120,17 +125,23 @@ export class Folders {
   placed(seat) {
     if (seat.isCapture || !seat.isWritten || !this.folder || !seat.pgn) return;
     seat.wantsFiles = true;
-    if (!seat.isFiling) this.file(seat).catch((error) => this.trouble(error.message || error.name));
+    if (!seat.isFiling) this.orTrouble(this.file(seat));
     this.round();
   }
 
-  /** Writes a game, and again if its text has changed meanwhile. */
-  async file(seat) {
+  /** What goes wrong before a file can wait for the folder is the folder's trouble too. */
+  orTrouble(filing) {
     const { folder } = this;
+    return filing.catch((error) => this.trouble(folder, error.message || error.name));
+  }
+
+  /** Writes a game, and again if its text has changed meanwhile, or another folder was chosen. */
+  async file(seat) {
     seat.isFiling = true;
     try {
       while (seat.wantsFiles) {
         seat.wantsFiles = false;
+        const { folder } = this;
         const earlier = await this.nameFiles(seat, folder);
         await this.lastBefore;
         const [name, text, times] = [`${seat.name}.pgn`, seat.pgn, seat.times()];
@@ -163,7 +174,7 @@ export class Folders {
   }
 
   finishes(game) {
-    this.finished(game).catch((error) => this.trouble(error.message || error.name));
+    this.orTrouble(this.finished(game));
   }
 
   /** Writes a game that is over and no longer recorded. */
@@ -214,7 +225,7 @@ export class Folders {
     if (!this.folder || this.timer) return;
     this.timer = this.hall.loop.after(GATHERED, () => {
       this.timer = null;
-      const put = () => this.putRound(this.folder).catch((error) => this.trouble(error.message || error.name));
+      const put = () => this.orTrouble(this.putRound(this.folder));
       this.lastRound = this.lastRound.then(put);
     });
   }
@@ -238,8 +249,7 @@ export class Folders {
     this.isPersistent = await navigator.storage.persist();
     if (this.isPersistent || this.folder || this.kept) return;
     this.asks(
-      'The games are kept in this browser. It may delete them when the disk is nearly full, or when its data is cleared. Choose a ' +
-        'folder: then each game is also a file there.',
+      'The games are kept in this browser alone, which may delete them when the disk is nearly full. Choose a folder to have files too.',
       'persist',
     );
   }

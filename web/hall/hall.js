@@ -27,8 +27,8 @@ export function roundText(games) {
 
 export class Hall {
   /**
-   * `hears` gets changed(), says(text, number), notice(name, text, buttons, isAlarm); newRound() when somebody wants one,
-   * and names(number) when somebody wants to change the names of a board.
+   * `hears` gets changed(isNews, number), of a board if there is a number; says(text, number), notice(name, text, buttons, isAlarm);
+   * newRound() when somebody wants one, and names(number) when somebody wants to change the names of a board.
    */
   constructor(code, module, hears) {
     this.hears = hears;
@@ -71,10 +71,10 @@ export class Hall {
     this.notice('database', '');
     this.database.remembers = () => this.remembered();
     this.given = (await this.database.setting('given')) || {};
-    for (const board of await this.database.boards()) await this.seatBoard(board);
+    await this.seatAll();
     this.rounds.look();
-    await this.folders.begin();
     await this.ports.begin();
+    await this.folders.begin();
     this.isReady = true;
     this.changed();
   }
@@ -87,7 +87,7 @@ export class Hall {
     return {
       boards: recorders.map(({ board }) => board),
       games: [...recorders.map(({ game }) => game), ...finished.map(({ pgn, bytes, times, ...game }) => game)],
-      captures: finished.map(({ id, bytes }) => ({ game: id, number: 0, at: this.loop.now(), bytes })),
+      captures: finished.map(({ id, bytes }) => ({ game: id, number: 0, at: this.loop.now(), bytes: bytes.slice() })),
       times: finished.map(({ id, times }) => ({ game: id, number: 0, at: Date.now(), text: times })),
       settings: [{ name: 'given', value: this.given }, ...(handle ? [{ name: 'folder', value: handle }] : [])],
     };
@@ -103,10 +103,11 @@ export class Hall {
     this.hears.notice(name, text, ...given);
   }
 
-  changed() {
+  /** Something has changed, which may be news, as a move: of this board if its number is given. */
+  changed(isNews = true, number = null) {
     if (this.isUnsaved !== this.wasUnsaved) this.tellUnsaved();
     this.awake.wanted(this.recorded().some((seat) => seat.recorder.cable.isOpen));
-    this.hears.changed();
+    this.hears.changed(isNews, number);
   }
 
   /** What the boards send can't be kept, or again. */
@@ -130,6 +131,12 @@ export class Hall {
 
   seat(number) {
     return this.seats.get(number);
+  }
+
+  /** What the card of a board shows; null if it isn't there, or shows nothing yet. */
+  view(number) {
+    const seat = this.seats.get(number);
+    return seat ? seat.show(this.loop.now()) : null;
   }
 
   views() {
@@ -177,8 +184,25 @@ export class Hall {
     return seat;
   }
 
+  /** Records all boards that are kept. What is kept of them is read side by side; they begin in their order. */
+  async seatAll() {
+    const kept = await this.database.boards();
+    const areOurs = await Promise.all(kept.map((board) => this.takes(board)));
+    const all = { boards: await this.database.boards(), games: await this.database.games() }; // now that no other tab changes them
+    const seats = kept.filter((_, at) => areOurs[at]).map((board) => this.seatOn(board));
+    const readings = seats.map((seat) => seat.read(all));
+    readings.forEach((reading) => reading.catch(() => {})); // the seat that begins with it says why
+    for (const seat of seats) await seat.begin(readings.shift()).catch((error) => seat.broke(error));
+    this.changed();
+  }
+
   /** Records a board. If another tab does, it is recorded as soon as that tab lets it go. */
   async seatBoard(board) {
+    return (await this.takes(board)) ? this.begins(board) : null;
+  }
+
+  /** Whether this tab may record a board. If not, it does as soon as the tab that records it lets it go. */
+  async takes(board) {
     const name = `dgt_recorder board ${board.id}`;
     const isOurs = await this.lock(name, { ifAvailable: true });
     if (!isOurs) {
@@ -193,14 +217,21 @@ export class Hall {
           await this.ports.look();
         }
       });
-      return null;
     }
-    return this.begins(board);
+    return isOurs;
   }
 
   async begins(board) {
+    const seat = this.seatOn(board);
+    await seat.begin().catch((error) => seat.broke(error));
+    this.changed();
+    return seat;
+  }
+
+  /** The seat of a board, which hasn't begun. */
+  seatOn(board) {
     const seat = new Seat(this, board, {
-      changed: () => this.changed(),
+      changed: (one, isNews) => this.changed(isNews, one.id),
       placed: (one) => {
         this.folders.placed(one);
         this.rounds.look();
@@ -210,15 +241,13 @@ export class Hall {
         if (one.finished.includes(before) || before.filed) this.folders.finishes(before);
         this.changed();
       },
-      keeps: (one, before) => this.folders.before(before).catch((error) => this.folders.trouble(error.message)),
+      keeps: (one, before) => this.folders.orTrouble(this.folders.before(before)),
       nextName: (name) => this.nextName(name),
       seatOf: (number, asks) => this.seatOf(number, asks),
       numbered: (one, number) => this.devices.numbered(one, number),
       cameBack: (one) => this.exchanges.back(one),
     });
     this.seats.set(board.id, seat);
-    await seat.begin().catch((error) => seat.broke(error));
-    this.changed();
     return seat;
   }
 

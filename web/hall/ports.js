@@ -10,6 +10,7 @@ import { Guard } from '../guard.js';
 
 const NOBODY = new TextEncoder().encode('-----'); // no board's number: each one that comes is another board's
 const AGAIN = 2.0; // seconds between two looks for boards that are awaited
+const MOST_ASKED = 8; // boards that are asked at a time, each by a process of the program besides those that attend boards
 
 /** Whether the device on a port is of this kind. */
 function isAlike(port, info) {
@@ -40,6 +41,8 @@ export class Ports {
     this.loop = loop;
     this.hears = hears;
     this.asked = new Map(); // ports on which a board is being asked, each with what that will come to
+    this.asking = 0; // how many processes ask now; `awaiting`: what goes on when there is room for one more
+    this.awaiting = [];
     this.unknown = new Set(); // ports on which no awaited board was found
     this.trouble = ''; // why a device couldn't be looked at last
     this.chosen = new WeakSet(); // ports that somebody has chosen since they were plugged in: he says what they are for
@@ -117,6 +120,19 @@ export class Ports {
     await done;
   }
 
+  /** Waits until one more process may ask. */
+  async room() {
+    if (this.asking < MOST_ASKED) this.asking += 1;
+    else await new Promise((go) => this.awaiting.push(go));
+  }
+
+  /** One process less asks: the next one has its place. */
+  makeRoom() {
+    const next = this.awaiting.shift();
+    if (next) next();
+    else this.asking -= 1;
+  }
+
   /**
    * Opens a port, and asks the board on it who it is: { connection, came, number, isSilent }. `came` is what it has sent,
    * `number` is empty if it gives none, and `isSilent` says that no board answers. Null if the port can't be opened, or is
@@ -127,8 +143,14 @@ export class Ports {
       const guard = new Guard(this.loop, failed);
       const came = [];
       let attendant = null;
+      const leave = () => {
+        if (!attendant) return;
+        attendant.leave();
+        attendant = null;
+        this.makeRoom();
+      };
       const end = (answer) => {
-        if (attendant) attendant.leave();
+        leave();
         done(answer);
       };
       const decide = (number, isSilent = false) => end({ connection, came, number, isSilent });
@@ -146,12 +168,19 @@ export class Ports {
         else if (state && state.kind === 'SILENT') decide('', true);
         else if (handling === KEEP && word === HEARD) decide(''); // it gives no number
       };
-      const begin = () => {
-        attendant = new Attendant(this.program, guard, optionsOf(), { told: () => {}, answered, wake: () => attendant.tell(WAKE) });
-        guard.opened(() => attendant.leave());
+      const begin = async () => {
+        await this.room();
+        if (connection.closed) {
+          this.makeRoom();
+          return;
+        }
+        const hears = { told: () => {}, answered, wake: () => attendant.tell(WAKE) };
+        attendant = new Attendant(this.program, guard, optionsOf(), hears, { asks: true });
+        guard.opened(leave);
         attendant.send(BEGIN, 0);
         attendant.send(NUMBER, NOBODY);
         attendant.tell(OPENED);
+        came.forEach((bytes) => attendant.tell(HEARD, bytes));
       };
       // Another program may have it, or a tab that is just being closed.
       const gone = () => connection.close().then(() => end(null));

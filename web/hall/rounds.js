@@ -70,13 +70,18 @@ export class Rounds {
     return { end: begun.filter((seat) => seat.isInPlay && !goOn.includes(seat)), goOn };
   }
 
+  /** The players of each board as they were typed, and what of that says nothing of these boards. Throws NoPair. */
+  pairsIn(lines) {
+    return pairsOf(lines, this.seats().map(({ id }) => id));
+  }
+
   /**
    * Begins it on all boards, with { Event, Site, Round, Date, pairs } as they were typed. Throws an Error, and does
    * nothing, if something in them can't be written. Returns the boards on which it couldn't be begun.
    */
   async beginRound({ Date: typed, pairs: lines, ...tags }) {
     const seats = this.seats();
-    const pairs = pairsOf(lines, seats.map(({ id }) => id));
+    const { pairs } = this.pairsIn(lines);
     const day = typed.trim() ? pgnDate(typed) : null;
     const date = day === dayOf(new Date()) ? null : day; // the day on which a game begins is its date anyway
     const options = new Map(seats.map((seat) => [

@@ -19,7 +19,7 @@ const AGAIN = 5.0; // seconds until a recorder that an error has ended is begun 
 const FULL = 'Its capture is full: what the board sends is not kept until the next game begins.';
 
 export class Seat {
-  /** `hears` gets changed(seat), placed(seat), says(seat, text, isMove), and what a Recorder asks. */
+  /** `hears` gets changed(seat, isNews), placed(seat), says(seat, text, isMove), and what a Recorder asks. */
   constructor(hall, board, hears) {
     this.hall = hall;
     this.id = board.id;
@@ -34,12 +34,19 @@ export class Seat {
     this.finished = []; // games of this board that are over, with their texts
   }
 
-  /** Begins to record, from what the database has; after an error, from the memory if the database lacks something. */
-  async begin() {
+  /**
+   * Begins to record, from what the database has, which may be being read already; after an error, from the memory if the database
+   * lacks something.
+   */
+  async begin(reading = null) {
     const guard = new Guard(this.hall.loop, (error) => this.broke(error));
     this.guard = guard;
     const { recorder } = this;
-    const kept = recorder && recorder.capture.isUnkept ? recorder.kept : await this.read(guard);
+    this.record(guard, recorder && recorder.capture.isUnkept ? recorder.kept : await (reading || this.read()));
+  }
+
+  /** Records from what was kept. Nothing else has that any more, as a function that `begin` makes would. */
+  record(guard, kept) {
     guard.call(() => {
       this.recorder = new Recorder(this.hall, guard, kept, this);
       this.trouble = '';
@@ -47,15 +54,15 @@ export class Seat {
     });
   }
 
-  /** What the database has of its board and its game. */
-  async read(guard) {
+  /** What the database has of its board and its game; `all` has all boards and games, if they were read already. */
+  async read(all = null) {
     const { database } = this.hall;
-    const board = await database.board(this.id);
-    const game = (await database.games()).find(({ id }) => id === board.game);
+    const { boards, games } = all || { boards: await database.boards(), games: await database.games() };
+    const board = boards.find(({ id }) => id === this.id);
+    const game = games.find(({ id }) => id === board.game);
     if (!game) throw new Error('its game is no more in this browser: remove the board, and add it again');
-    const chunks = await database.chunks(game.id);
-    const times = await this.readTimes(game.id);
-    await this.readFinished(guard);
+    const [chunks, times] = await Promise.all([database.chunks(game.id), this.readTimes(game.id)]);
+    await this.readFinished(games.filter((one) => one.board === this.id && one !== game));
     return { board, game, chunks, times };
   }
 
@@ -64,20 +71,19 @@ export class Seat {
     return this.hall.database.times(game).catch(() => null);
   }
 
-  /** Reads the games of this board that began today and are over. */
-  async readFinished(guard) {
+  /** Reads those of these games of its board that began today: they are over. */
+  async readFinished(games) {
     const { database, calls } = this.hall;
     const today = dayOf(new Date());
-    const games = (await database.games()).filter((game) => game.board === this.id && game.options.began === today);
-    const current = (await database.board(this.id)).game;
-    this.finished = [];
-    for (const game of games.filter(({ id }) => id !== current)) {
+    const finished = [];
+    for (const game of games.filter(({ options }) => options.began === today)) {
       const bytes = joined(...(await database.chunks(game.id)).map((chunk) => chunk.bytes));
       const sent = bytes.slice(0, game.end === null ? bytes.length : game.end);
       const times = textOfTimes((await this.readTimes(game.id)) || []);
       const pgn = await textOf(calls, game.options, sent, game.forfeit);
-      if (!guard.ended && !isEmpty(game.forfeit, pgn)) this.finished.push({ ...game, bytes, times, pgn });
+      if (!isEmpty(game.forfeit, pgn)) finished.push({ ...game, bytes, times, pgn });
     }
+    this.finished = finished;
   }
 
   /** Goes on with an open connection, which has brought this. */
@@ -282,13 +288,14 @@ export class Seat {
     if (recorder.room.isOut) return { ...resting('over: press Next game', looks, FULL), alarm: true };
     if (recorder.isOver && !recorder.capture.trouble) return resting(over, looks, mend);
     if (recorder.isStopped) return resting('stopped', looks);
-    return standing(recorder.state, now);
+    const stands = standing(recorder.state, now);
+    return { ...stands, mend: [recorder.hidden.advice, stands.mend].filter((part) => part).join(' ') };
   }
 
   // What the recorder reports and asks.
 
-  changed() {
-    this.hears.changed(this);
+  changed(isNews = true) {
+    this.hears.changed(this, isNews);
   }
 
   placed() {

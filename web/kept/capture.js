@@ -4,6 +4,7 @@
 
 import { DISK_FULL, NOT_WRITTEN } from '../board/state.js';
 import { joined } from '../device/protocol.js';
+import { LARGEST } from './limit.js';
 
 /** What keeps something from being written, as the state names it. */
 export function troubleOf(error) {
@@ -52,7 +53,7 @@ export class Capture {
   }
 
   setContent(chunks) {
-    this.content = joined(...chunks.map(({ bytes }) => bytes));
+    this.content = chunks.length === 1 ? chunks[0].bytes : joined(...chunks.map(({ bytes }) => bytes));
     this.size = this.content.length;
     this.number = chunks.length > 0 ? chunks[chunks.length - 1].number + 1 : 0;
     this.marks = []; // [offset, at]: from this byte on all came then
@@ -65,14 +66,19 @@ export class Capture {
 
   /** All that came, or this many bytes. */
   bytes(end = this.size) {
-    return this.content.slice(0, Math.min(end, this.size));
+    return this.view(end).slice();
+  }
+
+  /** The same, to be read, and neither changed nor handed on: it is no copy. */
+  view(end = this.size) {
+    return this.content.subarray(0, Math.min(end, this.size));
   }
 
   /** The board has sent this, or somebody has added it. */
   append(bytes, at) {
     const size = this.size + bytes.length;
     if (size > this.content.length) {
-      const larger = new Uint8Array(Math.max(size, 2 * this.content.length, 4096));
+      const larger = new Uint8Array(Math.max(size, Math.min(2 * this.content.length, LARGEST), 4096));
       larger.set(this.content.subarray(0, this.size));
       this.content = larger;
     }

@@ -1,13 +1,15 @@
 // What the page keeps, in IndexedDB: boards, games, what the boards sent, captures as they were before `back`,
 // settings; and among these the times of captures, so that an older page can open the database too.
 //
-// Each transaction but those of times alone is strict: it ends only after its data was handed to the disk.
+// Each transaction but those of times alone is strict: it ends only after its data was handed to the disk. One whose requests are all
+// known is committed at once: else the browser waits until this page has heard of each of them, and draws before that.
 
 const NAME = 'dgt_recorder';
 const VERSION = 1;
 const LAST = Number.MAX_SAFE_INTEGER;
 const STRICT = 'strict';
 const RELAXED = 'relaxed'; // behind what was strict before it, at once or soon
+const MOST_APPENDING = 3; // transactions with chunks at a time: the browser goes on with the next one without this page
 
 /** The answer to a request. */
 function answerOf(request) {
@@ -28,6 +30,15 @@ function changed(database, stores, make, durability = STRICT) {
   });
 }
 
+/** Makes changes that need no answer. */
+function whole(make) {
+  return (transaction) => {
+    const made = make(transaction);
+    transaction.commit();
+    return made;
+  };
+}
+
 const chunksOf = (game) => IDBKeyRange.bound([game, 0], [game, LAST]);
 const [TIMES, OTHER_TIMES] = ['times', 'other times']; // of a game's capture; and what was found there and isn't of it
 const settingsOf = (what, game) => IDBKeyRange.bound([what, game, 0], [what, game, LAST]);
@@ -44,6 +55,8 @@ export class Database {
     this.database = null; // the open connection
     this.opening = null;
     this.epoch = 0; // how often it was opened
+    this.gathered = []; // chunks that the next transaction keeps, { game, chunks, done, failed }
+    this.appending = 0; // transactions with chunks that are under way
     // What must be in it when it is opened again.
     this.remembers = () => ({ boards: [], games: [], captures: [], times: [], settings: [] });
   }
@@ -153,12 +166,12 @@ export class Database {
   }
 
   putBoard(board) {
-    return this.change(['boards'], (transaction) => transaction.objectStore('boards').put(board));
+    return this.change(['boards'], whole((transaction) => transaction.objectStore('boards').put(board)));
   }
 
   /** Keeps a game, and returns its key. */
   putGame(game) {
-    return this.change(['games'], (transaction) => transaction.objectStore('games').put(game));
+    return this.change(['games'], whole((transaction) => transaction.objectStore('games').put(game)));
   }
 
   /** Begins a game of a board, with the first chunks of its capture, after the game before it, if any. Returns its key. */
@@ -205,22 +218,45 @@ export class Database {
     return this.read('chunks', (store) => store.count(chunksOf(game)));
   }
 
+  /** Keeps chunks of a game's capture, in one transaction with those of other games that come while others are under way. */
   append(game, chunks) {
-    return this.change(['chunks'], (transaction) => {
-      const store = transaction.objectStore('chunks');
-      for (const chunk of chunks) store.put({ game, ...chunk });
+    return new Promise((done, failed) => {
+      this.gathered.push({ game, chunks, done, failed });
+      if (this.appending < MOST_APPENDING) this.appendAll();
     });
+  }
+
+  async appendAll() {
+    this.appending += 1;
+    await null; // what comes in the same turn goes with it
+    while (this.gathered.length > 0) await this.appendThese(this.gathered.splice(0));
+    this.appending -= 1;
+  }
+
+  /** If they can't be kept together, each game's are tried alone: one that can't be kept holds up no other. */
+  async appendThese(parts) {
+    const put = whole((transaction) => {
+      const store = transaction.objectStore('chunks');
+      for (const { game, chunks } of parts) for (const chunk of chunks) store.put({ game, ...chunk });
+    });
+    try {
+      await this.change(['chunks'], put);
+      parts.forEach(({ done }) => done());
+    } catch (error) {
+      if (parts.length > 1) await Promise.all(parts.map((part) => this.appendThese([part])));
+      else parts[0].failed(error);
+    }
   }
 
   /** The capture of a game is this from now on, and its times are these; `before` is kept too, if given. */
   renew(game, chunks, times, before) {
-    return this.change(['games', 'chunks', 'before', 'settings'], (transaction) => {
+    return this.change(['games', 'chunks', 'before', 'settings'], whole((transaction) => {
       if (before) transaction.objectStore('before').put(before);
       transaction.objectStore('chunks').delete(chunksOf(game.id));
       for (const chunk of chunks) transaction.objectStore('chunks').put({ game: game.id, ...chunk });
       putTimes(transaction, game.id, times, true);
       transaction.objectStore('games').put(game);
-    });
+    }));
   }
 
   /** The lines of a game's times, in order: [{ number, at, text }]. */
@@ -231,10 +267,10 @@ export class Database {
 
   /** Keeps lines of a game's times behind the others; or instead of them, if they are all; and what isn't of its capture beside. */
   appendTimes(game, lines, isAll, other) {
-    const make = (transaction) => {
+    const make = whole((transaction) => {
       putTimes(transaction, game, lines, isAll);
       if (other) transaction.objectStore('settings').put({ name: [OTHER_TIMES, game, lines.at], value: other });
-    };
+    });
     return this.change(['settings'], make, RELAXED);
   }
 
@@ -255,6 +291,6 @@ export class Database {
   }
 
   set(name, value) {
-    return this.change(['settings'], (transaction) => transaction.objectStore('settings').put({ name, value }));
+    return this.change(['settings'], whole((transaction) => transaction.objectStore('settings').put({ name, value })));
   }
 }

@@ -12,7 +12,7 @@ const AGAIN = 5.0; // seconds until a file that couldn't be written is tried aga
 const stampOf = ({ size, lastModified }) => `${size} ${lastModified}`;
 
 export class Folder {
-  /** `hears` gets trouble(text) with what can't be written, empty once all is; and says(text). */
+  /** `hears` gets trouble(text) with what can't be written, empty once all is, until it is left; and says(text). */
   constructor(loop, handle, hears) {
     this.loop = loop;
     this.handle = handle;
@@ -26,6 +26,14 @@ export class Folder {
     this.isWriting = false;
     this.failed = '';
     this.timer = null; // until what couldn't be written is tried again
+    this.isLeft = false;
+  }
+
+  /** Nothing more is written here. */
+  leave() {
+    this.isLeft = true;
+    this.waiting.clear();
+    if (this.timer) this.timer.cancel();
   }
 
   get name() {
@@ -44,6 +52,7 @@ export class Folder {
 
   /** Writes this to the file, now or soon: a text, bytes, or a `Front`; null removes the file. */
   put(name, content) {
+    if (this.isLeft) return;
     this.waiting.set(name, content);
     this.write();
   }
@@ -80,6 +89,7 @@ export class Folder {
     }
     this.isWriting = false;
     this.writing = null;
+    if (this.isLeft) return;
     const [failed = ''] = tried.values();
     const isNews = Boolean(failed) !== Boolean(this.failed);
     this.failed = failed;

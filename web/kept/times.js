@@ -2,12 +2,13 @@
 // costs times, and never a move.
 
 import {
-  ADDED, AWAY, BEGIN, HEADED, OVER, adding, cut, heading, isOf, kept, lineAfter, lines, toldOf, toldOfMissing, toldOfOther, toldOfTrouble,
+  ADDED, ASKED, AWAY, BEGIN, HEADED, HEARD, OVER, adding, cut, heading, isOf, kept, lineAfter, lines, toldOf, toldOfMissing, toldOfOther, toldOfTrouble,
 } from '../game/times.js';
 import { otherName } from './file_names.js';
 import { LARGEST } from './limit.js';
 
 const GATHERED = 0.2; // seconds in which events are gathered; the line of a move is on the screen by then
+const OFTEN = 1.0; // the same of those that come again and again
 const AGAIN = 1.0; // seconds until what couldn't be kept is tried again
 const MOST_WAIT = 1000; // events that wait for the first bytes of a capture
 const DUMP = 67; // bytes of a capture that the heading waits for
@@ -125,7 +126,7 @@ export class Times {
     this.last = Math.max(at, this.last);
     if (count === null) this.line = lineAfter(this.line, what);
     this.events.push([this.last, what, count]);
-    this.writeSoon();
+    this.writeSoon(what === HEARD || what === ASKED ? OFTEN : GATHERED);
   }
 
   /** The game isn't over any more, or ends elsewhere. */
@@ -223,7 +224,8 @@ export class Times {
   }
 
   writeSoon(seconds = GATHERED) {
-    if (this.timer || this.isHeld) return;
+    if (this.isHeld || (this.timer && this.timer.when <= this.guard.now() + seconds)) return;
+    if (this.timer) this.timer.cancel();
     this.timer = this.guard.after(seconds, () => {
       this.timer = null;
       return this.write();

@@ -8,7 +8,9 @@ import { Tile } from '../../live/web/page/tile.js';
 import { announce } from './announcer.js';
 import { at } from './elements.js';
 
-const SURELY = 0.1; // seconds until a change is shown at the latest
+const SURELY = 0.1; // seconds until news are drawn at the latest
+const MOST_LINKS = 12; // boards that the line of alarms names
+const SOON = 0.25; // the same of all else, which is drawn together
 
 export class Cards {
   constructor() {
@@ -20,7 +22,10 @@ export class Cards {
     this.columns = 1;
     this.scrolled = 0;
     this.isAsked = false;
-    this.isSoon = false;
+    this.news = new Set(); // the boards that the next frame draws; `isNext`: whether one was asked for
+    this.isNext = false;
+    this.areAll = false; // whether the next frame draws all; `isLater`: whether all are drawn soon
+    this.isLater = false;
     const now = () => this.hall.loop.now();
     this.now = now;
     this.large = new Large(now);
@@ -29,22 +34,47 @@ export class Cards {
       this.route();
     });
     window.addEventListener('resize', () => this.size());
+    const above = new ResizeObserver(() => this.size());
+    [document.querySelector('header'), at('notices')].forEach((one) => above.observe(one));
     document.addEventListener('keydown', (event) => this.press(event));
     window.setInterval(() => this.showTimes(), 1000);
   }
 
-  /** What is shown may have changed: it is drawn with the next frame, or soon if nobody sees the page. */
-  show(hall) {
+  /**
+   * What is shown may have changed, of a board if it has a number. News are drawn with the next frame, those of a board on its card alone;
+   * all else soon.
+   */
+  show(hall, isNews = true, number = null) {
     this.hall = hall;
-    if (this.isSoon) return;
-    this.isSoon = true;
-    const draw = () => {
-      if (!this.isSoon) return;
-      this.isSoon = false;
-      this.draw();
-    };
+    if (!isNews || number !== null) this.drawSoon();
+    if (!isNews) return;
+    if (number === null) this.areAll = true;
+    else this.news.add(number);
+    if (this.isNext) return;
+    this.isNext = true;
+    const draw = () => this.drawNext();
     requestAnimationFrame(draw);
     hall.loop.after(SURELY, draw); // a browser draws no frame of a page that nobody sees
+  }
+
+  drawSoon() {
+    if (this.isLater) return;
+    this.isLater = true;
+    this.hall.loop.after(SOON, () => {
+      this.isLater = false;
+      this.draw();
+    });
+  }
+
+  drawNext() {
+    if (!this.isNext) return;
+    this.isNext = false;
+    const news = [...this.news];
+    this.news.clear();
+    if (this.areAll) this.draw();
+    else news.filter((number) => this.tiles.has(number)).forEach((number) => this.drawOne(this.hall.view(number)));
+    if (!this.areAll && news.includes(this.open)) this.panel.show(this.hall.seat(this.open));
+    this.areAll = false;
   }
 
   draw() {
@@ -57,7 +87,8 @@ export class Cards {
         this.shown.delete(number);
       }
     }
-    views.forEach((view, index) => this.drawOne(view, index));
+    views.forEach((view, index) => this.place(view.number, index));
+    views.forEach((view) => this.drawOne(view));
     say(at('event'), this.hall.event || 'Chess recorder');
     say(at('add'), this.hall.devices.isAsking ? 'Asking the board' : 'Add a board');
     at('welcome').hidden = views.length > 0;
@@ -70,11 +101,17 @@ export class Cards {
     if (this.open !== null) this.panel.show(this.hall.seat(this.open));
   }
 
-  drawOne(view, index) {
-    if (!this.tiles.has(view.number)) this.tiles.set(view.number, new Tile(view.number, this.now));
-    const tile = this.tiles.get(view.number);
+  /** The card of a board, which may be new, has this place. */
+  place(number, index) {
+    if (!this.tiles.has(number)) this.tiles.set(number, new Tile(number, this.now));
+    const { root } = this.tiles.get(number);
     const place = at('boards').children[index] || null;
-    if (place !== tile.root) at('boards').insertBefore(tile.root, place);
+    if (place !== root) at('boards').insertBefore(root, place);
+  }
+
+  drawOne(view) {
+    if (!view) return; // it is just being removed
+    const tile = this.tiles.get(view.number);
     const text = JSON.stringify(view);
     const before = this.shown.get(view.number);
     if (before && before.text === text) return;
@@ -102,11 +139,12 @@ export class Cards {
     place.dataset.numbers = numbers.join();
     place.hidden = numbers.length === 0;
     place.replaceChildren(numbers.length === 1 ? 'Look at board' : 'Look at boards');
-    for (const number of numbers) {
+    for (const number of numbers.slice(0, MOST_LINKS)) {
       const link = element('a', '', String(number));
       link.href = `#${number}`;
       place.append(' ', link);
     }
+    if (numbers.length > MOST_LINKS) place.append(` and ${numbers.length - MOST_LINKS} more`);
   }
 
   /** What a screen reader reads out: the alarms of all boards, and the moves and the result of the large one. */
@@ -159,7 +197,7 @@ export class Cards {
 
   size() {
     const list = at('boards');
-    if (this.tiles.size > 0 && !list.hidden) this.columns = fit(list, [this.tiles.size]);
+    if (this.tiles.size > 0 && !list.hidden) this.columns = fit(list, [this.tiles.size], 0, true);
   }
 
   /** Shows how long states have lasted. */
@@ -177,7 +215,10 @@ export class Cards {
     if (event.ctrlKey || event.altKey || event.metaKey || event.defaultPrevented) return;
     const { target } = event;
     if (target.closest('dialog')) return;
-    if (event.key === 'Escape' && this.open !== null) {
+    if (event.key === 'Escape' && target.matches('input:not([type="checkbox"])') && target.value) {
+      this.panel.leave(target);
+      event.preventDefault();
+    } else if (event.key === 'Escape' && this.open !== null) {
       window.location.hash = '';
       event.preventDefault();
     } else if (!target.closest('input, summary, #tools, #notices, #log, #panel')) {

@@ -20,8 +20,8 @@ async function begin() {
   const messages = new Messages();
   const cards = new Cards();
   const hall = new Hall(at('worker').textContent, at('module').textContent.trim(), {
-    changed: () => {
-      cards.show(hall);
+    changed: (isNews, number) => {
+      cards.show(hall, isNews, number);
       at('add').disabled = !navigator.serial || !hall.database || !hall.isReady;
     },
     says: (text, number, isMove) => messages.say(text, number, isMove),

@@ -21,6 +21,7 @@ export class Panel {
     this.seat = null;
     this.removes = false; // whether the next press on Remove does it
     this.ends = false; // whether the next press on Next game ends a game that goes on
+    this.drafts = new WeakMap(); // lines that were typed and not entered, by the seats
     at('say').addEventListener('submit', (event) => {
       event.preventDefault();
       this.type(at('typed').value);
@@ -57,16 +58,28 @@ export class Panel {
   }
 
   open(seat) {
+    this.keepDraft();
     this.seat = seat;
     this.removes = false;
     this.ends = false;
     this.answer('', true);
-    at('typed').value = '';
+    at('typed').value = this.drafts.get(seat) || '';
     this.show(seat, true);
   }
 
   close() {
+    this.keepDraft();
     this.seat = null;
+  }
+
+  keepDraft() {
+    if (this.seat) this.drafts.set(this.seat, at('typed').value);
+  }
+
+  /** Somebody leaves a field in which something stands: a line stays as it is typed; a name is again what it was. */
+  leave(input) {
+    if (input !== at('typed')) input.value = input.id === 'name' ? this.seat.name : this.valueOf(input.dataset.tag, this.seat.options);
+    input.blur();
   }
 
   answer(text, isDone) {
@@ -79,6 +92,7 @@ export class Panel {
     const { seat } = this;
     if (!text.trim()) return;
     const { done, said } = await seat.typed(text);
+    if (done && this.drafts.get(seat) === text) this.drafts.delete(seat);
     if (seat !== this.seat) return;
     this.answer(said, done);
     if (done && at('typed').value === text) at('typed').value = ''; // else somebody types the next line already

@@ -5,7 +5,7 @@ import { start } from '../../hosts/process.mjs';
 import { run } from '../../hosts/wasm.mjs';
 import { Answers } from '../game/attended.js';
 
-// A browser has room for some 62 instances of the program; the rest is for short calls.
+// A browser has room for some 62 instances of the program; the rest is for those that ask boards who they are, and for short calls.
 const MOST = 48;
 const TOO_MANY = `the browser has room for ${MOST} boards at a time. Remove one that isn't played on`;
 const NO_ROOM = 'the browser has no room to attend one more board. Close other tabs of this page, or remove a board';
@@ -23,7 +23,8 @@ async function begin({ module }) {
 
 /** A board that is attended: its process, and those who wait for its answers, in order. */
 class Attended {
-  constructor() {
+  constructor(asks) {
+    this.asks = asks; // whether it only asks a board who it is
     this.answers = new Answers();
     this.waiting = [];
     this.process = null;
@@ -64,11 +65,11 @@ class Attended {
   }
 }
 
-function attend({ key, words }) {
-  const one = new Attended();
-  const count = [...attended.values()].filter(({ process }) => process).length;
+function attend({ key, words, asks }) {
+  const one = new Attended(asks);
+  const count = [...attended.values()].filter((other) => other.process && !other.asks).length;
   attended.set(key, one);
-  if (count < MOST) one.begin(words);
+  if (asks || count < MOST) one.begin(words);
   else one.ended(TOO_MANY);
 }
 
@@ -95,7 +96,8 @@ onmessage = async ({ data: { number, name, given } }) => {
   try {
     if (name === 'begin') ready = begin(given);
     await ready;
-    postMessage({ number, answer: name === 'begin' ? null : await CALLS[name](given) });
+    const answer = name === 'begin' ? null : await CALLS[name](given);
+    postMessage({ number, answer }, answer && answer.output ? [answer.output.buffer] : []);
   } catch (error) {
     postMessage({ number, error: String(error && error.message ? error.message : error) });
   }
