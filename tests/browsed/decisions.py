@@ -1,16 +1,65 @@
-"""The cases of tests/decisions, which tests/live_decisions runs over live/, over the modules of web/."""
+"""The cases of tests/decisions, which tests/live_decisions runs over live/, over the modules of web/; and what one of these keeps, by
+itself."""
 
+import contextlib
 import pathlib
 import threading
-from typing import Dict
+from typing import Dict, Iterator
 
 from browsed import TOP
 from browsed.stage import with_chromium
 from compared.browser import serving
 from paged.devtools import Browser, Tab
+from played.stage import same
 
 CASES = TOP / "tests" / "decisions"
 FOLDERS = ("web", "hosts", "tests/decisions", "live/web/page")
+# 16 boards send something in one moment, twice; then what the fifth has sent can't be kept.
+TOGETHER = """
+import('/web/kept/database.js').then(async ({ Database }) => {
+  const database = await Database.open();
+  const [transaction, put] = [IDBDatabase.prototype.transaction, IDBObjectStore.prototype.put];
+  let [count, refused] = [0, 0];
+  IDBDatabase.prototype.transaction = function (...given) {
+    count += 1;
+    return transaction.apply(this, given);
+  };
+  IDBObjectStore.prototype.put = function (value, ...given) {
+    if (value.game === refused) throw new DOMException('There is no room.', 'QuotaExceededError');
+    return put.call(this, value, ...given);
+  };
+  const games = Array.from({ length: 16 }, (_, at) => at + 1);
+  const send = (number) => Promise.allSettled(games.map((game) => database.append(game, [{ number, at: 0, bytes: Uint8Array.of(number) }])));
+  await send(0);
+  const transactions = count;
+  refused = 5;
+  const failed = (await send(1)).flatMap(({ reason }, at) => (reason ? [[at + 1, reason.name]] : []));
+  return [transactions, failed, await Promise.all(games.map((game) => database.count(game)))];
+}).catch(String)
+"""
+
+# A board that stays wrong is read once more, and the program can't do that.
+UNREAD = """
+Promise.all(['hidden', 'state'].map((name) => import(`/web/board/${name}.js`)).concat(import('/web/guard.js'))).then(
+  async ([{ Hidden }, { Kind }, { Guard }]) => {
+    let [now, broke, count] = [0, '', 0];
+    const guard = new Guard({ now: () => now }, (error) => (broke = String(error)));
+    const fails = async () => {
+      count += 1;
+      throw new Error('no room');
+    };
+    const capture = { size: 5, view: () => new Uint8Array(5) };
+    const course = { plies: [], newest: '' };
+    const recorder = { attending: { epoch: 1 }, calls: { lines: fails, whole: fails }, guard, capture, course, isOver: false, options: {}, state: { kind: Kind.WRONG } };
+    const hidden = new Hidden(recorder);
+    hidden.look();
+    now = 15;
+    hidden.look();
+    await new Promise((done) => setTimeout(done));
+    return [count, broke, guard.ended, hidden.advice];
+  },
+).catch(String)
+"""
 
 
 def files() -> Dict[str, bytes]:
@@ -28,9 +77,9 @@ def fails(tab: Tab, name: str) -> int:
     return sum(len(failed) for _, _, failed in told)
 
 
-@with_chromium
-def decisions(folder: pathlib.Path) -> None:
-    """The modules of web/ decide as those of live/ do: the same cases for both."""
+@contextlib.contextmanager
+def with_modules() -> Iterator[Tab]:
+    """A tab in which the modules can be imported."""
     server = serving(files())
     # A thread, since the browser asks it while this process waits for the browser.
     threading.Thread(target=server.serve_forever, daemon=True).start()
@@ -38,8 +87,29 @@ def decisions(folder: pathlib.Path) -> None:
         tab = browser.tab()
         tab.open(f"http://127.0.0.1:{server.server_address[1]}/")
         tab.until("document.title", "cases")
-        names = sorted(path.stem for path in CASES.glob("*.json") if path.with_suffix(".mjs").exists())
-        failed = {name: fails(tab, name) for name in names}
+        yield tab
     server.shutdown()
     server.server_close()
+
+
+@with_chromium
+def decisions(folder: pathlib.Path) -> None:
+    """The modules of web/ decide as those of live/ do: the same cases for both."""
+    with with_modules() as tab:
+        names = sorted(path.stem for path in CASES.glob("*.json") if path.with_suffix(".mjs").exists())
+        failed = {name: fails(tab, name) for name in names}
     assert not any(failed.values()), failed
+
+
+@with_chromium
+def kept_together(folder: pathlib.Path) -> None:
+    """What 16 boards send in one moment is kept in one transaction. If one board's part can't be kept, that of each other board is."""
+    with with_modules() as tab:
+        same(tab.value(TOGETHER), [1, [[5, "QuotaExceededError"]], [2, 2, 2, 2, 1, *[2] * 11]])
+
+
+@with_chromium
+def advice_ends_nothing(folder: pathlib.Path) -> None:
+    """If the program can't read a capture for advice, the recording goes on, and nothing is advised."""
+    with with_modules() as tab:
+        same(tab.value(UNREAD), [1, "", False, ""])

@@ -30,22 +30,25 @@ window.slow = { is: false, keys: new Set() };
 
 
 class Chosen:
-    """The folder: what the page has written into it."""
+    """A folder: what the page has written into it."""
 
-    def __init__(self, stage: Hall) -> None:
-        self.path = stage.folder / "chosen"
+    def __init__(self, stage: Hall, name: str = "chosen") -> None:
+        self.path = stage.folder / name
         self.path.mkdir()
         self.files: Dict[str, bytes] = {}
         self.order: List[str] = []  # in which they were written
-        stage.others = self.told
+        self.others, stage.others = stage.others, self.told
 
     def script(self, permission: str = "granted") -> str:
         """With all that is in the folder now."""
         files = [(name, base64.b64encode(content).decode()) for name, content in self.files.items()]
-        return f"{SCRIPT.read_text()}\nprovideFolder({json.dumps({'permission': permission, 'files': files})});"
+        start = {"name": self.path.name, "permission": permission, "files": files}
+        return f"{SCRIPT.read_text()}\nprovideFolder({json.dumps(start)});"
 
     def told(self, message: Json) -> None:
-        if message["what"] == "file":
+        if message.get("at") != self.path.name:
+            self.others(message)
+        elif message["what"] == "file":
             self.files[message["name"]] = base64.b64decode(message["bytes"])
             self.order.append(message["name"])
         elif message["what"] == "move":
@@ -59,9 +62,9 @@ class Chosen:
         for _ in range(TRIES):
             for kind in ("dragEnter", "dragOver", "drop"):
                 page.tab.call("Input.dispatchDragEvent", type=kind, x=20, y=20, data=data)
-            if stage.comes(lambda: page.value("folder.has") == "chosen", DROPPED):
+            if stage.comes(lambda: page.value("folder.has") == self.path.name, DROPPED):
                 break
-        assert page.value("folder.has") == "chosen", f"the folder that is dropped never comes: {page.describe()}"
+        assert page.value("folder.has") == self.path.name, f"the folder that is dropped never comes: {page.describe()}"
         page.click("#folder")
         stage.until(lambda: page.keeps("folder"), "the folder to be kept")
 
@@ -151,6 +154,36 @@ def folder_full(folder: pathlib.Path) -> None:
         until_text(stage, chosen, name, "1. e4 e5 *")
         page.value("folder.fails = ''")
         until_text(stage, chosen, name, "1. e4 e5 2. Nf3 Nc6 *")
+
+
+@with_chromium
+def folder_left(folder: pathlib.Path) -> None:
+    """A folder vanishes, and another one is chosen: the alarm goes at once. That one can't be written either: the alarm stays when the
+    first one is back, in which nothing is written any more, and goes when the second one can be written."""
+    with Hall(folder) as stage:
+        chosen, other = Chosen(stage), Chosen(stage, "other")
+        page, port = begin_in(stage, chosen)
+        chosen.choose(stage, page)
+        play(stage, page, port, RUY[:1], RUY_SANS[:1])
+        until_text(stage, chosen, "board 1.pgn", "1. e4 *")
+        page.value("folder.lost = ['chosen']")
+        play(stage, page, port, RUY[1:2], RUY_SANS[1:2])
+        stage.until_part(page, "#line", "files are NOT WRITTEN")
+        other.choose(stage, page)
+        stage.until_part(page, "#line", "in the folder other")
+        until_text(stage, other, "board 1.pgn", "1. e4 e5 *")
+        same(("can't be written" in page.text("#notices"), page.text("#line").endswith("in the folder other")), (False, True))
+        page.value("folder.lost = ['chosen', 'other']")
+        play(stage, page, port, RUY[2:3], RUY_SANS[2:3])
+        stage.until_part(page, "#notices", "can't be written in the folder other")
+        page.value("folder.lost = ['other']")
+        stage.rest(11)  # each folder is tried again each five seconds
+        stage.until_part(page, "#line", "files are NOT WRITTEN")
+        same((any("written again" in line for line in page.messages), b"Nf3" in chosen.files["board 1.pgn"]), (False, False))
+        page.value("folder.lost = []")
+        until_text(stage, other, "board 1.pgn", "1. e4 e5 2. Nf3 *")
+        stage.until_part(page, "#line", "in the folder other")
+        same((page.text("#notices"), b"Nf3" in chosen.files["board 1.pgn"]), ("", False))
 
 
 @with_chromium

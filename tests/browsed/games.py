@@ -175,7 +175,7 @@ def pulled_cable(folder: pathlib.Path) -> None:
         play(stage, page, port, RUY[:3], RUY_SANS[:3])
         stage.pull(port)
         stage.until(lambda: page.text("#state").startswith("UNPLUGGED"), "the alarm of an unplugged board")
-        assert page.shows("#alarms") or page.value("document.title").startswith("(!)"), page.describe()
+        stage.until(lambda: page.shows("#alarms") or page.value("document.title").startswith("(!)"), "an alarm beside the title")
         port.board.play(RUY[3])
         stage.plug(port)
         stage.until(lambda: port.holders, "the board to be opened again")
@@ -203,6 +203,7 @@ def typed(folder: pathlib.Path) -> None:
         until_agrees(stage, page)
         play(stage, page, port, RUY[:2], RUY_SANS[:2])
         refused = {"hello": "hello", "Nf6": "Nf6 is no legal move", "0-0": "do both lose?", "<b>e4</b>": "<b>e4</b>"}
+        refused["17. Nc3"] = "17. isn't the number of the next move: 2. is next, after 1... e5. Nothing was added"
         for text, part in refused.items():
             answered(stage, page, text, part)
         same(page.moves, RUY_SANS[:2])

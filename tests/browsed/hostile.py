@@ -259,6 +259,24 @@ def too_many_boards(folder: pathlib.Path) -> None:
 
 
 @with_chromium
+def as_many_boards_as_there_is_room_for(folder: pathlib.Path) -> None:
+    """So many boards are kept as the browser has room for, and all of them are there when the page is opened: each is asked who it is,
+    and recorded."""
+    with Hall(folder) as stage:
+        page = stage.tab()
+        stage.until(lambda: page.shows("#add"), "the page")
+        page.value(KEPT % MOST)
+        for number in range(1, MOST + 1):
+            port = stage.board()
+            port.board.serial_number = b"%d" % (10000 + number)
+            port.is_granted = True
+        stage.open(page)
+        agree = "[...document.querySelectorAll('a.tile .state')].filter((state) => state.textContent === 'agrees').length"
+        stage.until(lambda: page.value(agree) == MOST, "all boards to be recorded")
+        same([page.value("document.querySelectorAll('a.tile').length"), page.tab.printed()], [MOST, []])
+
+
+@with_chromium
 def asks_nobody(folder: pathlib.Path) -> None:
     """The page asks nobody for anything, and its policy refuses what a script would ask for."""
     with Hall(folder) as stage:

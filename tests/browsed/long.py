@@ -29,6 +29,28 @@ FILLED = """
   database.close();
 })()
 """
+# How many bytes the workers got as copies, in large messages; and how many workers there are.
+HANDED = """
+window.copied = 0;
+window.workers = 0;
+const [post, terminate, Begun] = [Worker.prototype.postMessage, Worker.prototype.terminate, Worker];
+window.Worker = class extends Begun {
+  constructor(url) {
+    super(url);
+    workers += 1;
+  }
+};
+Begun.prototype.terminate = function () {
+  workers -= 1;
+  terminate.call(this);
+};
+Begun.prototype.postMessage = function (message, ...given) {
+  const bytes = message?.given?.input ?? message?.given?.entry ?? [];
+  const isLarge = bytes.length > 2 ** 20;
+  post.call(this, message, ...given);
+  if (isLarge) copied += bytes.length;
+};
+"""
 # How many bytes of the first board's game are on the disk.
 SIZE = FILLED[: FILLED.index("  await answer(change.objectStore('chunks').put")] + "  database.close();\n  return size;\n})()"
 
@@ -44,9 +66,13 @@ def fill(stage: Hall, page: Page, total: int) -> None:
 @with_chromium
 def limits(folder: pathlib.Path) -> None:
     """A game may have 63 MiB. Then it is over, the page says why, and keeps all that came until then. What comes behind it has room: the
-    next game begins when the pieces are set up."""
+    next game begins when the pieces are set up. The program gets so many bytes without a copy of them, and what it takes for its text is
+    given back."""
     with Hall(folder) as stage:
-        page, port = begin(stage)
+        port = stage.board()
+        page = stage.tab([HANDED])
+        stage.add(page, port)
+        stage.enlarge(page, 1)
         until_agrees(stage, page)
         play(stage, page, port, RUY[:2], RUY_SANS[:2])
         fill(stage, page, 62 * MIB)
@@ -59,6 +85,9 @@ def limits(folder: pathlib.Path) -> None:
         stage.until(lambda: any("its capture has 63 MiB, and none may have more" in line for line in page.messages), "the limit")
         stage.until(lambda: page.value(SIZE) > 63 * MIB, "more behind the game")
         stage.until_moves(page, RUY_SANS[:3])
+        game = stage.saved(page, "#save-game")
+        same((movetext_of(game), page.value("copied")), ("1. e4 e5 2. Nf3 *", 0))
+        stage.until(lambda: page.value("workers") <= 3, "the end of workers that aren't needed any more")
         port.board.set_up([])
         stage.until_moves(page, [])
         until_agrees(stage, page)

@@ -90,6 +90,29 @@ def new_round(folder: pathlib.Path) -> None:
 
 
 @with_chromium
+def pairs_as_they_are_read(folder: pathlib.Path) -> None:
+    """Pairs are pasted: the window shows at once how they are read, or why they aren't; then nothing is begun with them. A numbered list
+    gives its numbers to boards, and not to players."""
+    with Hall(folder) as stage:
+        page = with_boards(stage, 3)
+        page.click("#new-round")
+        stage.until(lambda: page.shows("#round-begin"), "the window")
+        page.fill("2;Ben;", "#round-pairs")
+        stage.until_text(page, "#round-unread", "Not read yet: line 1 has one name, Ben, and needs two. Type White; Black, or the board's "
+                         "number before them, as 3; White; Black.")  # fmt: skip
+        page.click("#round-begin")
+        stage.until_part(page, "#round-answer", "line 1 has one name, Ben, and needs two")
+        page.fill("3. Carl - Dora\n1. Anna - Ben\n9. Emil - Finn", "#round-pairs")
+        read = "[...document.querySelectorAll('#round-read td')].map((cell) => cell.textContent)"
+        stage.until(lambda: page.value(read) == ["1", "Anna", "Ben", "3", "Carl", "Dora"], "the pairs as they are read")
+        same(page.text("#round-unread"), "Board 2: no players are given, so the names are cleared. Passed over: 9. Emil - Finn")
+        stage.begin_round(page)
+        for number, names in ((1, ["Anna", "Ben"]), (2, ["White", "Black"]), (3, ["Carl", "Dora"])):
+            for side, name in zip("wb", names):
+                stage.until_text(page, f"a.tile[href='#{number}'] .player.{side}", name)
+
+
+@with_chromium
 def event_for_all(folder: pathlib.Path) -> None:
     """Event and round that are typed once reach the boards that are there; boards that have others are asked about."""
     with Hall(folder) as stage:

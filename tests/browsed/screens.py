@@ -6,6 +6,7 @@ from typing import Dict, List, Set
 
 from browsed.games import QUEENS, RUY, RUY_SANS, begin, play, until_agrees
 from browsed.hall import Hall
+from browsed.hostile import KEPT
 from browsed.page import Page
 from browsed.stage import with_chromium
 from paged.legible import DRAWN
@@ -45,6 +46,9 @@ SMALL = """
 """
 
 
+# How many cards are whole on the screen.
+WHOLE = "[...document.querySelectorAll('a.tile')].filter((tile) => tile.getBoundingClientRect().bottom <= innerHeight).length"
+FIRST = "document.querySelector('a.tile').getBoundingClientRect().top"
 # Ends when the page has been drawn, and so was told of its size.
 
 
@@ -127,6 +131,29 @@ def sizes(folder: pathlib.Path) -> None:
         same(page.tab.printed(), [])
 
 
+@with_chromium
+def many_cards(folder: pathlib.Path) -> None:
+    """Below a notice, eight boards are whole on a laptop's screen, and 48 on a large one; a laptop has two rows of them. On a phone two cards stand side by
+    side, and begin in its upper third."""
+    with Hall(folder) as stage:
+        for count, wanted in ((8, {(1366, 768): 8, (1920, 1080): 8}), (48, {(1366, 768): 16, (1920, 1080): 48})):
+            page = stage.tab()
+            stage.until(lambda: page.shows("#add"), "the page")
+            page.value(KEPT % count)
+            stage.open(page)
+            stage.until(lambda: page.value("document.querySelectorAll('a.tile').length") == count, "all boards")
+            page.click("#save-round")
+            stage.until(lambda: page.shows("#notices li"), "a notice")
+            for (width, height), whole in wanted.items():
+                page.tab.look(width, height)
+                page.value(DRAWN)
+                stage.until(lambda: page.value(WHOLE) == whole, f"{whole} of {count} boards on a screen {width} pixels wide")
+            page.tab.look(390, 844)
+            page.value(DRAWN)
+            stage.until(lambda: page.value(FIRST) < 844 / 3, "the first card, near the top of a phone")
+            stage.close(page)
+
+
 def to(page: Page, name: str) -> None:
     """By Tab to a control."""
     for _ in range(100):
@@ -164,6 +191,29 @@ def by_keys(folder: pathlib.Path) -> None:
         before = set(stage.downloads.iterdir())
         page.tab.press("Enter")
         stage.until(lambda: set(stage.downloads.iterdir()) - before, "the file")
+
+
+@with_chromium
+def left_by_esc(folder: pathlib.Path) -> None:
+    """Esc in a field leaves the field, and the next one closes the board. A line that was typed and not entered is there again when the
+    board is; a name that was begun is gone."""
+    with Hall(folder) as stage:
+        page, _ = begin(stage)
+        until_agrees(stage, page)
+        to(page, "typed")
+        page.tab.press(*"e4 e5", "Escape")
+        same((page.shows("#title"), page.field("#typed"), page.value("document.activeElement.id")), (True, "e4 e5", ""))
+        page.tab.press("Escape")
+        stage.until(lambda: not page.shows("#title"), "all boards, and none large")
+        stage.enlarge(page, 1)
+        same(page.field("#typed"), "e4 e5")
+        page.value("document.querySelector('#details').open = true")
+        to(page, "white")
+        page.tab.press(*"An", "Escape")
+        same((page.shows("#title"), page.field("#white"), page.text("#lower .player")), (True, "", "White: White"))
+        page.click("#enter")
+        stage.until_moves(page, ["e4", "e5"])
+        stage.until(lambda: page.field("#typed") == "", "an empty field")
 
 
 @with_chromium

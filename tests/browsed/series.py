@@ -112,6 +112,29 @@ def hidden_moves(folder: pathlib.Path) -> None:
 
 
 @with_chromium
+def hidden_moves_are_named(folder: pathlib.Path) -> None:
+    """Two hands hide a pair of moves, and the play goes on: when the board has been wrong for long, the card says that Recover finds them.
+    Ticked then, it does, and the advice goes. A board that is wrong for another reason isn't told of it."""
+    with Hall(folder) as stage:
+        page, port = begin(stage)
+        until_agrees(stage, page)
+        play(stage, page, port, RUY[:2], RUY_SANS[:2])
+        port.board.play("g8h5")
+        stage.until(lambda: page.text("#state").startswith("WRONG"), "a knight where it can't go")
+        stage.rest(18)
+        assert "Recover" not in page.text("#mend") and "Set the pieces" in page.text("#mend"), page.describe()
+        port.board.play("h5g8")
+        until_agrees(stage, page)
+        hurried(port.board)
+        port.board.play(RUY[4])
+        stage.until_part(page, "#mend", "Recover finds 3 more moves. Open Names and options, tick Recover moves")
+        same(page.moves, RUY_SANS[:2])
+        page.click("#recover")
+        stage.until_moves(page, RUY_SANS[:5])
+        stage.until(lambda: "Recover" not in page.text("#mend"), "no advice any more")
+
+
+@with_chromium
 def looked_at(folder: pathlib.Path) -> None:
     """Moves on an unplugged board are an alarm that stays until somebody says that he has looked."""
     with Hall(folder) as stage:

@@ -5,12 +5,15 @@ from __future__ import annotations
 
 import os
 import pathlib
+import re
+import shutil
 import subprocess
 import tarfile
 from typing import List
 
 import outside
 from played import TOP
+from played.kept_bytecode import digests, kept_in, says
 from played.recorder import Live
 from played.stage import PROGRAM, RUY, RUY_TEXT, Skipped, a_board, begun, same, stop, until_game
 from rounds.hall import Hall, text
@@ -47,6 +50,72 @@ def is_whole(package: pathlib.Path, root: pathlib.Path) -> None:
     same(files_below(root / "usr" / "lib" / "dgt_replay" / "live"), files_below(TOP / "live"))
     sample = root / "usr" / "share" / "doc" / "dgt-replay" / "examples" / "short-game.dgt"
     same(sample.read_bytes(), SAMPLE.with_suffix(".dgt").read_bytes())
+    assert os.access(sample.with_name("play_board.py"), os.X_OK)
+    same((root / "usr" / "share" / "dgt-replay" / "recorder.html").read_bytes(), (TOP / "bin" / "recorder.html").read_bytes())
+
+
+def compiles_and_cleans(package: pathlib.Path, folder: pathlib.Path) -> None:
+    """What the package has done when it is installed, and before it is removed or replaced."""
+    subprocess.run(["dpkg-deb", "--control", package, folder / "control"], check=True)
+    (folder / "stubs").mkdir()
+    for script, words, command, given in (
+        ("postinst", ["configure"], "py3compile", "-p dgt-replay /usr/lib/dgt_replay"),
+        ("prerm", ["upgrade", "1"], "py3clean", "-p dgt-replay"),
+    ):
+        stub = folder / "stubs" / command
+        stub.write_text(f"#!/bin/sh\necho $@ > {folder}/{command}\n")
+        stub.chmod(0o755)
+        path = f"{folder}/stubs:{os.environ['PATH']}"
+        subprocess.run([folder / "control" / script, *words], env={**os.environ, "PATH": path}, check=True)
+        same((folder / command).read_text(), f"{given}\n")
+
+
+def bytecode_in_archives(folder: pathlib.Path) -> None:
+    """An archive has bytecode of each module, with the digest of its source; it is neither made anew nor used once the source changes."""
+    (packed,) = made("-x86_64-linux.tar.gz")
+    with tarfile.open(packed) as archive:
+        archive.extractall(folder)
+    (unpacked,) = folder.iterdir()
+    modules = [str(path.relative_to(unpacked)) for path in (unpacked / "live").rglob("*.py")]
+    same(digests(unpacked), dict.fromkeys(modules, True))
+    before = {path: path.read_bytes() for path in kept_in(unpacked)}
+    said = says(unpacked / "dgt_live")
+    door = unpacked / "live" / "doors" / "dgt_live.py"
+    door.write_text(door.read_text().replace("Records the DGT board", "Records the ABC board"))
+    os.utime(door, (0, 0))
+    same(says(unpacked / "dgt_live"), said.replace("the DGT board", "the ABC board"))
+    same({path: path.read_bytes() for path in kept_in(unpacked)}, before)
+
+
+LINK = re.compile(r"\]\(([^)#:]+)[)#]")
+PAGES = ("README.md", "USING.md", "BROWSER.md", "BROADCAST.md", "REFERENCE.md")
+
+
+def reads_well(place: pathlib.Path) -> None:
+    """The pages that a user needs are there, each link leads to one of them, and nothing is said of the repository's folders."""
+    same([name for name in PAGES if not (place / name).is_file()], [])
+    same(sorted(path.name for path in place.glob("*.md")), sorted(PAGES))
+    for name in PAGES:
+        text = (place / name).read_text()
+        same((name, [link for link in LINK.findall(text) if not (place / link).exists()]), (name, []))
+        same((name, [part for part in ("](docs/", "bin/dgt", "tools/", "samples/", "FORMATS.md", "..]") if part in text]), (name, []))
+
+
+def pages_of_the_archive(folder: pathlib.Path) -> None:
+    """Where archives for two processors lie, USING's first line unpacks this one's. Its pages are whole, and so are the page that
+    records and the program that plays a board."""
+    packed = made("-x86_64-linux.tar.gz", "-aarch64-linux.tar.gz")
+    for archive in packed:
+        shutil.copy(archive, folder)
+    recipe = next(line.strip() for line in (TOP / "docs" / "USING.md").read_text().splitlines() if "tar -xzf" in line)
+    place = pathlib.Path(subprocess.run(f"{recipe} && pwd", shell=True, cwd=folder, stdout=subprocess.PIPE, check=True).stdout.decode().strip())
+    same(place.name.endswith(f"{os.uname().machine}-linux"), True)
+    reads_well(place)
+    same((place / "recorder.html").read_bytes(), (TOP / "bin" / "recorder.html").read_bytes())
+    same(subprocess.run([place / "play_board.py", "--help"], stdout=subprocess.DEVNULL).returncode, 0)
+    first, _ = [line.split("#")[0].strip() for line in (place / "README.md").read_text().splitlines() if "short-game" in line or "--devices" in line]
+    subprocess.run(first, shell=True, cwd=place, stderr=subprocess.DEVNULL, check=True)
+    same((place / "sample.pgn").read_bytes(), SAMPLE.with_suffix(".pgn").read_bytes())
 
 
 def debian_packages(folder: pathlib.Path) -> None:
@@ -60,6 +129,8 @@ def debian_packages(folder: pathlib.Path) -> None:
     same((answer.returncode, answer.stdout), (0, b""))
     for ending, package in zip(endings, packages):
         is_whole(package, folder / ending)
+        compiles_and_cleans(package, folder / ending)
+        reads_well(folder / ending / "usr" / "share" / "doc" / "dgt-replay")
 
 
 def debian_package_played(folder: pathlib.Path) -> None:

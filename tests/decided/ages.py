@@ -1,16 +1,18 @@
 """When the bytes of a capture came, by its file of times and by when its calls began; and how many bytes are a game's."""
 
+import itertools
 import os
 import pathlib
 import random
+import re
 import tempfile
 from typing import Dict, List, Optional, Tuple
 
 from live.broadcast.ages import Came, calls_of, came, over_at, within
 from live.broadcast.said_again import Kept, games_before
 from live.game import times
-from live.game.began import Began, Begin, began_line, keep_began, read_began, this_start
-from live.game.files import Capture, Opened, Paths
+from live.game.began import Began, BeganFile, Begin, as_written, began_line, part_line, read_began, sum_of, summed, this_start
+from live.game.files import Capture, Opened, Paths, existing
 from live.game.timed import Times, milliseconds
 
 from decided.table import same
@@ -63,12 +65,18 @@ def ages_of_bytes() -> None:
     content = heading + b"0 begin 67\n0 away 12\n5 heard 4\n7 over 71\n0 begin 71\n9 o"
     at = len(heading)
     found = [times.Call(at, 67, [(0, "away", 12), (5, "heard", 4), (7, "over", 71)]), times.Call(content.index(b"0 begin 71"), 71, [])]
-    same("calls of a file", calls_of(content, capture), (found, 3))
+    whole = {3: {(0, len(content), sum_of(content))}}
+    same("calls of a file", calls_of(content, capture, whole), (found, 3))
+    over = content.index(b"7 over")
+    parts = {3: {(0, over, sum_of(content[:over])), (over, over + 4, 1), (over + 5, len(content), sum_of(content[over + 5 :]))}}
+    same("its third line has changed", calls_of(content, capture, parts), ([times.Call(at, 67, found[0].events[:2]), found[1]], 3))
+    same("nobody knows what was written", calls_of(content, capture, {2: whole[3]}), ([], 3))
+    same("parts that touch, and one that doesn't", as_written(b"abcdef", {(0, 2, sum_of(b"ab")), (2, 3, sum_of(b"c")), (4, 6, sum_of(b"ef"))}), [(0, 3), (4, 6)])
     for name, text, first_bytes in (
         ("another capture's", content, b"\x86\x00\x43" + bytes(63) + b"x"), ("a longer one's", content, capture[:66]), ("none", b"", capture),
         ("a newer program's", content.replace(b"1 times", b"2 times"), capture), ("torn", content[:20], capture),
     ):  # fmt: skip
-        same(name, calls_of(text, first_bytes), ([], 0))
+        same(name, calls_of(text, first_bytes, whole), ([], 0))
 
 
 def no_byte_is_older() -> None:
@@ -129,32 +137,106 @@ def calls_are_kept() -> None:
             capture.close()
         content, first = pathlib.Path(f"{paths.name}.times").read_bytes(), pathlib.Path(paths.capture).read_bytes()
         began = read_began(pathlib.Path(paths.began).read_bytes())
-        calls, generation = calls_of(content, first)
-        same("each call", (sorted(began), generation, len(calls)), ([(0, call.offset) for call in calls], 0, 3))
-        same("by this clock", all(before <= one.at <= milliseconds() + 1000 and one.start == this_start() for one in began.values()), True)
-        same("all has a time", came(calls, 0, began, this_start(), milliseconds())[-1].size, 201)
+        calls, generation = calls_of(content, first, began.parts)
+        same("each call", (sorted(began.calls), generation, len(calls)), ([(0, call.offset) for call in calls], 0, 3))
+        same("by this clock", all(before <= one.at <= milliseconds() + 1000 and one.start == this_start() for one in began.calls.values()), True)
+        same("all has a time", came(calls, 0, began.calls, this_start(), milliseconds())[-1].size, 201)
     with tempfile.TemporaryDirectory() as folder:
         path = f"{folder}/01.began"
         for begin, one in (((0, 50), Began(5, "a-1")), ((0, 50), Began(7, "a-2")), ((1, 50), Began(9, "b"))):
-            keep_began(path, began_line(begin, one))
-        same("the last line about a begin counts", read_began(pathlib.Path(path).read_bytes()), {(0, 50): Began(7, "a-2"), (1, 50): Began(9, "b")})
+            BeganFile(path).keep([began_line(begin, one)])
+        found = read_began(pathlib.Path(path).read_bytes())
+        same("the last line about a begin counts", (found.calls, found.parts), ({(0, 50): Began(7, "a-2"), (1, 50): Began(9, "b")}, {}))
     dump = bytes([0x86, 0, 67]) + bytes(64)
     first = times.heading(0, dump) + b"0 begin 0\n1 heard 67\n"
-    for middle, size, stays in ((b"", 67, True), (b"", 100, True), (b"", 50, False), (b"2 over 67\n", 67, False), (b"2 over 67\n", 100, False)):
+    cuts = ((b"", 67, True), (b"", 100, True), (b"", 50, False), (b"2 over 67\n", 67, False), (b"2 over 67\n", 100, False))
+    for (middle, size, stays), is_right in itertools.product(cuts, (True, False)):
         with tempfile.TemporaryDirectory() as folder:
             paths = Paths(f"{folder}/01")
             pathlib.Path(paths.capture).write_bytes(3 * dump)
-            pathlib.Path(f"{folder}/01.times").write_bytes(first + middle + b"0 begin 67\n1 heard 67\n1 heard 67\n")
-            keep_began(paths.began, b"0 1 1 a\n")
+            content = first + middle + b"0 begin 67\n1 heard 67\n1 heard 67\n"
+            pathlib.Path(f"{folder}/01.times").write_bytes(content)
+            written = content if is_right else content.replace(b"\n1 heard", b"\n9 heard", 1)
+            BeganFile(paths.began).keep([began_line((0, 1), Began(1, "a")), part_line(0, 0, written)])
             capture = Capture.open(paths.capture)
             kept = Times(paths, capture)
             kept.look()
             kept.cut(size)
             kept.close()
             capture.close()
-            same(f"cut to {size}, {middle!r}: calls have their places still", os.path.exists(paths.began), stays)
+            left = read_began(existing(paths.began))
+            same(f"cut to {size}, {middle!r}, {is_right}: calls have their places still", bool(left.calls), stays)
+            known = calls_of(pathlib.Path(f"{folder}/01.times").read_bytes(), 3 * dump, left.parts)[0]
+            same(f"cut to {size}, {middle!r}: what was changed before counts for nothing after it either", bool(known), is_right)
     for torn in (b"", b"\n", b"0 50 7 a", b"x 50 7 a\n", b"0 50 -7 a\n", b"0 50 7\n", b"\xff\n", b"0 50 7 a b\n"):
-        same(f"no line: {torn!r}", read_began(torn), {})
+        found = read_began(torn)
+        same(f"no line: {torn!r}", (found.calls, found.parts), ({}, {}))
+
+
+# Lines as they may be damaged, by hand or by a disk: what becomes of the one at a place.
+def changed(lines: List[bytes], at: int) -> List[bytes]:
+    number, rest = re.match(rb"(\d*)(.*)", lines[at], re.S).groups()  # type: ignore[union-attr]
+    return [*lines[:at], b"%d%s" % (int(number or 0) + 60000, rest), *lines[at + 1 :]]
+
+
+def fewer(lines: List[bytes], at: int) -> List[bytes]:
+    """A call that is said to have begun earlier, by a minute."""
+    words = lines[at].split(b" ")
+    words[2:3] = [b"%d" % max(0, int(words[2]) - 60000)] if len(words) > 3 and words[2].isdigit() else words[2:3]
+    return [*lines[:at], b" ".join(words), *lines[at + 1 :]]
+
+
+def lost(lines: List[bytes], at: int) -> List[bytes]:
+    return [*lines[:at], *lines[at + 1 :]]
+
+
+def twice(lines: List[bytes], at: int) -> List[bytes]:
+    return [*lines[: at + 1], *lines[at:]]
+
+
+def exchanged(lines: List[bytes], at: int) -> List[bytes]:
+    return [*lines[:at], *lines[at : at + 2][::-1], *lines[at + 2 :]]
+
+
+def damaged_lines_count_for_nothing() -> None:
+    """A game of three calls, each under another start of the computer or the same. Whatever line of its times, or of NAME.began, is
+    changed, lost, there twice or exchanged with the next one: no byte is taken for older than by the files as they were written, also
+    after another call has gone on with them; and what came before that line keeps its time."""
+    for starts in ("aaa", "abb", "abc"):
+        dump, now, text, began, truth = bytes([0x86, 0, 67]) + bytes(64), 100_000, b"", b"", []  # type: bytes, int, bytes, bytes, List[int]
+        for number, start in enumerate(starts):
+            content = times.heading(0, dump) if not text else b""
+            began += summed([began_line((0, len(text + content)), Began(now, start))], sum_of(began))
+            content += b"0 begin %d\n" % len(truth)
+            for event in range(4):
+                content += b"%d heard 67\n" % (1000 * (event + 1))
+                truth += [now + 1000 * (event + 1)] * 67
+                began += summed([part_line(0, len(text), content)], sum_of(began))
+                text, content = text + content, b""
+            now += 10_000 + 1000 * number
+        until, capture = now, dump + bytes(len(truth) - 67)
+
+        def ages(text: bytes, began: bytes) -> List[int]:
+            kept = read_began(began)
+            calls, generation = calls_of(text, capture, kept.parts)
+            found = within(came(calls, generation, kept.calls, starts[-1], until), len(capture), until)
+            return [next(one.at for one in found if one.size > byte) for byte in range(len(capture))]
+
+        right = ages(text, began)
+        same(f"{starts}: as it was", [at >= was for at, was in zip(right, truth)].count(False), 0)
+        lines, of_began = text.splitlines(keepends=True), began.splitlines(keepends=True)
+        cases = [(b"".join(how(lines, at)), began, how, at) for how in (changed, lost, twice, exchanged) for at in range(2, len(lines))]
+        cases += [(text, b"".join(how(of_began, at)), how, at) for how in (changed, fewer, lost, twice, exchanged) for at in range(len(of_began))]
+        older = []
+        for one, other, how, at in cases:
+            seen = [ages(one, other)]
+            more = b"9000 asked 1\n"
+            goes_on = other + summed([began_line((0, len(one)), Began(until, starts[-1])), part_line(0, len(one), more)], sum_of(other))
+            seen.append(ages(one + more, goes_on))  # a call that goes on with them takes nothing for right that wasn't
+            older += [(how.__name__, at) for of_one in seen if any(got < was for got, was in zip(of_one, right))]
+        same(f"{starts}: none is older", older, [])
+        at = next(place for place, line in enumerate(lines) if line.startswith(b"4000 heard"))
+        same(f"{starts}: what came before stays", ages(b"".join(changed(lines, at)), began)[: 3 * 67] == right[: 3 * 67] or starts != "aaa", True)
 
 
 def what_is_kept() -> None:
@@ -183,4 +265,4 @@ def what_is_kept() -> None:
         same(f"games of {name} up to {last}", games_before(name, last), wanted)
 
 
-TABLES = [ages_of_bytes, no_byte_is_older, calls_are_kept, what_is_kept]
+TABLES = [ages_of_bytes, no_byte_is_older, calls_are_kept, damaged_lines_count_for_nothing, what_is_kept]

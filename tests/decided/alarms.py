@@ -4,9 +4,12 @@ import math
 from types import SimpleNamespace
 from typing import Any, List, Tuple
 
+from live.board.advice import Moves, if_not
 from live.board.afterwards import Afterwards
 from live.game.afterwards import FromTheStart
-from live.game.report import line_of
+from live.game.attended import SINCE, Doubt
+from live.game.doubted import look_of
+from live.game.report import Move, line_of
 
 from attending.state_rules import Agreement
 from decided.cases import cases
@@ -88,4 +91,12 @@ def told_once() -> None:
         same(name, child.told, expected)
 
 
-TABLES = [from_the_start, told_once, agreements]
+def tried_from_the_start() -> None:
+    """What to type to take moves off that were tried while the clock was stopped, behind a ply and from the start."""
+    moves = [line.event for line in map(line_of, ["0 move 1. e4", "1 move 1... e5", "2 move 2. Nf3"]) if line and isinstance(line.event, Move)]
+    for since, expected in ((1, "3 back 1. e4"), (0, "3 back 0")):
+        look = look_of(Doubt(SINCE, since, "STOPPED", 3 - since), moves)
+        same(look.what, if_not(look, lambda typed: f"3 {typed}", Moves([ply.short for ply in moves])).rpartition(": ")[2], expected)
+
+
+TABLES = [from_the_start, told_once, agreements, tried_from_the_start]

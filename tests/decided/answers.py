@@ -5,7 +5,7 @@ import dataclasses
 import json
 from typing import Any, Dict
 
-from live.game.answers import Said, meaning, read_answer, refuse, whose_move
+from live.game.answers import Said, meaning, place_of, read_answer, refuse
 from live.game.reply import NO_TEXT, Asked, Helped, Refused, refusal
 from live.game.typed import ALL_WAYS, BOTH_LOSE, WHICH_PLY, Back, Typed, read_words, with_more
 from live.refused import REFUSED
@@ -62,8 +62,8 @@ def sentences() -> None:
         same(f"{answer[:20]!r} can be printed", answer.isprintable(), True)
     for said, line, plies, expected in cases("answers", "added"):
         same(f"{line} after {plies}", meaning(said_of(said), line, plies), expected)
-    for fen, played, line, before, expected in cases("answers", "whose move"):
-        same(f"{line} after {played}", whose_move(fen, played, line, before), expected)
+    for fen, played, line, said, expected in cases("answers", "places"):
+        same(f"{line} after {played}", place_of(said_of(said), fen, played, line), expected)
     for status, text in cases("answers", "no answer"):
         refused(f"{status} {text}", OSError, read_answer, "add", status, f"{text}\n", b"")
     same("too long", read_answer("add", 1, "input: too long\n", b"").kind, "long")

@@ -3,7 +3,7 @@
 from types import SimpleNamespace
 from typing import Any, List, Optional, Tuple
 
-from live.board import another_board
+from live.board import cable as cable_module
 from live.board.board import Board
 from live.board.cable import Cable
 from live.board.standing import Standing
@@ -73,8 +73,8 @@ WHOSE: List[Tuple[str, List[Step], List[Tuple[str, bytes]]]] = [
 
 def in_flight() -> None:
     """What a game was told just before its board turned up on another cable, and answers only then, is lost to nobody."""
-    real = another_board.AnotherBoard
-    setattr(another_board, "AnotherBoard", AnotherBoard)  # no process is started
+    real = getattr(cable_module, "AnotherBoard")
+    setattr(cable_module, "AnotherBoard", AnotherBoard)  # no process is started
     try:
         for name, steps, expected in WHOSE:
             game, unused = Game(), _nothing()
@@ -85,7 +85,7 @@ def in_flight() -> None:
                 (cable.answered if who == OWN else cable.of_another)(Told(0.0, HEARD, sent), answer)
             same(name, game.got, expected)
     finally:
-        setattr(another_board, "AnotherBoard", real)
+        setattr(cable_module, "AnotherBoard", real)
 
 
 def _nothing() -> Any:

@@ -5,7 +5,7 @@ import random
 import textwrap
 
 from live.refused import printable
-from live.round.table import RowView, row
+from live.round.table import Columns, RowView, row
 from live.terminal.columns import cut, fitted, folded, seen, split_at, width_of
 
 from decided.table import same
@@ -70,12 +70,13 @@ def folds() -> None:
 def rows() -> None:
     """The columns of a row begin where they begin in any other row."""
     chinese = RowView(3, "王浩然", "Непомнящий, Ян", "3. Bb5", ("1:12:07", "0:58:11"), "agrees", "", 100.0)
-    same("names", row(chinese, 140), ["   3 王浩然       Непомнящий.. 3. Bb5        1:12:07 0:58:11  agrees 40s"])
+    same("names", row(chinese, 140, Columns.of([chinese], 140)), ["   3 王浩然 Непомнящий, Ян 3. Bb5    1:12:07 0:58:11  agrees 40s"])
     hostile = RowView(3, "\x1b[2JAnna", "\u202eneB", "3. Bb5", ("", ""), "agrees", "", 100.0)
-    same("hostile", row(hostile, 140), ["   3 ?[2JAnna     ?neB         3. Bb5                         agrees 40s"])
+    same("hostile", row(hostile, 140, Columns.of([hostile], 140)), ["   3 ?[2JAnna ?neB  3. Bb5     agrees 40s"])
     for width in range(40, 200):
         for view in (chinese, hostile):
-            assert all(width_of(line) < width for line in row(view, 140, width)), (width, row(view, 140, width))
+            lines = row(view, 140, Columns.of([chinese, hostile], 140, width))
+            assert all(width_of(line) < width for line in lines), (width, lines)
 
 
 TABLES = [widths, cut_and_filled, what_a_terminal_gets, folds, rows]

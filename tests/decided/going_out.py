@@ -20,7 +20,7 @@ from live.broadcast.unseen import is_hidden, is_unseen
 from live.broadcast.view import Player, SpectatorBoard
 from live.broadcast.waiting import ALWAYS, Entry, Waiting
 from live.game import times
-from live.game.began import Began, began_line, this_start
+from live.game.began import Began, began_line, part_line, summed, this_start
 from live.game.files import Paths
 from live.game.report import Clock
 from live.game.timed import milliseconds
@@ -147,8 +147,10 @@ def hidden_or_not() -> None:
         heading = times.heading(0, capture)
 
         def began(ago: int) -> None:
-            pathlib.Path(f"{paths.name}.times").write_bytes(heading + b"0 begin 67\n")
-            pathlib.Path(paths.began).write_bytes(began_line((0, len(heading)), Began(milliseconds() - ago, this_start())))
+            lines = heading + b"0 begin 67\n"
+            pathlib.Path(f"{paths.name}.times").write_bytes(lines)
+            call = began_line((0, len(heading)), Began(milliseconds() - ago, this_start()))
+            pathlib.Path(paths.began).write_bytes(summed([call, part_line(0, 0, lines)], 0))
 
         began(0)
         same("no delay", (is_hidden(paths), is_unseen(paths, lambda _: text)), (False, False))

@@ -6,11 +6,10 @@ import errno
 import os
 import pathlib
 import pwd
-import re
 import subprocess
 import sys
 import tempfile
-from typing import Callable, Dict, List, Set, Tuple, cast
+from typing import Callable, Dict, List, Tuple, cast
 
 from live.board.disk import Disk, HearsDisk
 from live.board.standing import Standing
@@ -83,8 +82,8 @@ NO_BOARD = [
     ("*", [1, 2], "of which board? Type its number first, as 2 *"),
     ("name White=Anna", [1, 2], "the names of a round are in its table: change them there, save it, and type r"),
     ("ok 1", [1, 2], "type the board's number first, as 1 ok"),
-    ("hello", [1, 2], "type 2 1-0, 2 +-, 2 *, 2 Nf3 Nc6, 2 back, 2 ok, 2 help, 2 (the state of board 2), r (read the table again) or q (end)"),
-    ("Nf3 1-0", [1, 2, 3], "type 3 1-0, 3 +-, 3 *, 3 Nf3 Nc6, 3 back, 3 ok, 3 help, 3 (the state of board 3), r (read the table again) or q (end)"),
+    ("hello", [1, 2], "type 2 1-0, 2 +-, 2 *, 2 Nf3 Nc6, 2 back, 2 ok, 2 moves, 2 help, 2 (the state of board 2), messages (of before), r (read the table again) or q (end)"),
+    ("Nf3 1-0", [1, 2, 3], "type 3 1-0, 3 +-, 3 *, 3 Nf3 Nc6, 3 back, 3 ok, 3 moves, 3 help, 3 (the state of board 3), messages (of before), r (read the table again) or q (end)"),
 ]
 SAID = {
     "1-0": Said("result", ("1-0",)),
@@ -392,82 +391,33 @@ def plain_paths() -> None:
 
 TOP = pathlib.Path(__file__).resolve().parents[2]
 # The modules of live/ that each recorder of one board has from its start. What waits for a rare event isn't among them.
-AT_THE_START = {
-    "": "beside descriptors guard later lock loop refused steps time_away",
-    "board": "asked_first attended_game board cable disk on_the_way plan reasons recorder recording single standing state typed_lines whose",
-    "device": "connection line network_address protocol serial_line",
-    "doors": "calls dgt_live door",
-    "game": "alarms attended attending began control course doubted edited file_names files forfeiting front game log looks making_pgn names opening options "
-    "program reading reply report tags timed times",
-    "terminal": "columns screen terminal",
-}
-HEAVY = ["pathlib", "urllib", "hashlib", "json", "email", "traceback", "datetime", "zlib", "zipfile", "shlex"]
-OF_INSPECT = ["ast", "dis", "tokenize"]  # which it imports, and dataclasses do with it
 LOADS = """
 import sys; sys.path.insert(0, sys.argv[1])
-from live.later import load_rare_ones_later
-load_rare_ones_later()
 import live.doors.dgt_live
 print(*sys.modules)
 """
-KEEPS = """
-import sys; sys.path.insert(0, sys.argv[1])
-from live.later import keep_what_is_loaded_later
-import live.doors.{door}
-keep_what_is_loaded_later()
-print(*sys.modules)
-print(*sys.meta_path[0]._texts)
-"""
-USES_LATER = """
-import sys; sys.path.insert(0, sys.argv[1])
-from live.later import load_later
-load_later("inspect")
-import dataclasses, inspect
-before = "ast" in sys.modules
-dataclasses.dataclass(type("Point", (), {"__annotations__": {"x": int}}))
-print(before, "ast" in sys.modules, inspect.signature(lambda a, *b: a), inspect is sys.modules["inspect"], inspect.__name__)
-import inspect
-print(inspect.isclass(int), inspect.__name__)
-"""
+OF_OTHER_CALLS = {"live.doors.audience", "live.doors.kept_game", "live.broadcast.broadcast", "live.web.page", "live.round", "live.game.packing"}
+HEAVY = {"pathlib", "urllib", "hashlib", "email", "traceback", "datetime", "zipfile"}
+OF_INSPECT = {"inspect", "ast", "dis", "tokenize"}  # which dataclasses imports
 
 
 def loaded() -> None:
-    """A recorder of one board that nobody else sees loads neither pages nor broadcasts, nor what obeys typed lines, nor what takes
-    much memory."""
-    names = said_by(LOADS).split()
-    heavy = [*HEAVY, *(OF_INSPECT if sys.version_info < (3, 12) else [])]
-    allowed = {"live", *(f"live.{folder}" for folder in AT_THE_START if folder)}
-    allowed |= {f"live.{folder}.{name}".replace("..", ".") for folder, those in AT_THE_START.items() for name in those.split()}
-    same("what is loaded of live/", sorted(name for name in names if name.partition(".")[0] == "live"), sorted(allowed))
-    same("what is loaded of Python's library", [name for name in names if name.partition(".")[0] in heavy], [])
-    if sys.version_info < (3, 12):
-        same("what is loaded later", said_by(USES_LATER), "False True (a, *b) False inspect\nTrue inspect\n")
+    """A recorder of one board that nobody else sees loads neither pages nor broadcasts, nor what takes long."""
+    names = set(said_by(LOADS).split())
+    same("what is loaded of other calls", names & OF_OTHER_CALLS, set())
+    heavy = HEAVY | (OF_INSPECT if sys.version_info < (3, 12) else set())
+    same("what is loaded of Python's library", names & heavy, set())
 
 
-def imported(name: str) -> Set[str]:
-    """The modules of live/ that this one imports, at its beginning or later, but for those that only a reader of types needs."""
-    tree = ast.parse((TOP / f"{name.replace('.', '/')}.py").read_text())
-    nodes: List[ast.AST] = [tree]
-    found: Set[str] = set()
-    while nodes:
-        node = nodes.pop()
-        if isinstance(node, ast.If) and isinstance(node.test, ast.Name) and node.test.id == "TYPE_CHECKING":
-            continue
-        if isinstance(node, ast.ImportFrom) and (node.module or "").partition(".")[0] == "live":
-            names = [f"{node.module}.{alias.name}" for alias in node.names]
-            found |= {one if (TOP / f"{one.replace('.', '/')}.py").exists() else str(node.module) for one in names}
-        nodes += ast.iter_child_nodes(node)
-    return found
-
-
-def kept() -> None:
-    """What a recording may load after its beginning is kept then: all that its modules import, and what those import."""
-    for door in ("dgt_live", "dgt_round"):
-        modules, found = (set(line.split()) for line in said_by(KEEPS.format(door=door)).splitlines())
-        same(f"{door}: something is kept", "live.board.arbiter" in found and not found & modules, True)
-        inner = [name for name in modules | found if re.fullmatch(r"live\.(?!doors)\w+\.\w+", name)]
-        needed = set().union(*map(imported, inner))
-        same(f"{door}: what is needed later", sorted(needed - modules - found), [])
+def at_the_top() -> None:
+    """Each module imports what it needs at its top, so nothing is loaded while a board is recorded."""
+    inner = []
+    for path in sorted((TOP / "live").rglob("*.py")):
+        tree = ast.parse(path.read_text())
+        for function in (node for node in ast.walk(tree) if isinstance(node, (ast.FunctionDef, ast.If))):
+            inner += [f"{path.relative_to(TOP)}, line {node.lineno}" for node in ast.walk(function)
+                      if isinstance(node, (ast.Import, ast.ImportFrom)) and path != TOP / "live" / "__init__.py"]  # fmt: skip
+    same("imports that aren't at the top", inner, [])
 
 
 def said_by(code: str) -> str:
@@ -478,5 +428,5 @@ def said_by(code: str) -> str:
 
 TABLES = [
     *(reasons, no_names, no_right, not_had, devices_listed, texts_alone, captures_alone, lost, logs, errors_of_logs, rounds, recorded),
-    *(plain_paths, loaded, kept),
+    *(plain_paths, loaded, at_the_top),
 ]

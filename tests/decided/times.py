@@ -1,8 +1,7 @@
 """The lines of NAME.times: what is read of a file, what is written, and what is said."""
 
 from live.game import times
-from live.game.timed import told_of
-from live.game.times import Kept, Newer
+from live.game.times import Kept, Newer, told_of
 
 from decided.cases import cases
 from decided.table import same

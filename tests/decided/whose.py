@@ -1,7 +1,7 @@
 """Whose board is on a cable: what it says of itself, and whether what comes from it is the game's, by the rules in Python that `live` is
 compared with; and what is said of another board."""
 
-from live.board.whose import Owner, another, back, may_take
+from live.board.whose import Owner, another, back, changing, may_take
 
 from attending.whose_rules import Whose
 from decided.cases import cases
@@ -35,6 +35,8 @@ def alarms() -> None:
         same(f"{owner}, moves {has_moves}", (look.text, may_take(owner, has_moves)), (text, takes))
         same("one alarm", look.about, back("01234", "01235").about)
     told = "LOOK at the cable: it had the board with serial number 01235; its own, 01234, is back"
+    told_of_many = "LOOK at the cable: it has a board that gives one serial number after the other, and not 01234: what it sends is kept back"
+    same("one after the other", changing("01234").text, f"{told_of_many}. Put the cables right, or take another board")
     same("its own is back", back("01234", "01235").text, told)
 
 

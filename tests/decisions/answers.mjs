@@ -1,5 +1,5 @@
 /** What is typed in a line; what the program answers to it, and the sentences for that. */
-import { meaning, readAnswer, refuse, whoseMove } from "/web/game/answers.js";
+import { meaning, placeOf, readAnswer, refuse } from "/web/game/answers.js";
 import { ALL_WAYS, BOTH_LOSE, readWords } from "/web/game/typed.js";
 
 const ON_HELP = ["1-0", "Nf3 Nc6", "back", "14. Bxf6", "*", "ok"];
@@ -35,8 +35,8 @@ export function sentences(counts, cases) {
   for (const [said, text, plies, expected] of cases("added")) {
     counts.same(said, meaning(answer(0, `add: ${said}\n`), text, plies), expected);
   }
-  for (const [fen, played, text, before, expected] of cases("whose move")) {
-    counts.same(`${text} after ${played}`, whoseMove(fen, played, text, before), expected);
+  for (const [fen, played, text, said, expected] of cases("places")) {
+    counts.same(`${text} after ${played}`, placeOf(answer(1, `add: ${said}\n`), fen, played, text), expected);
   }
 }
 

@@ -46,6 +46,13 @@ def matches() -> None:
         page.tab.look(1366, 768)
         page.tab.value("location.hash = ''")
         page.says("above the boards too", SHOWN, "Nord 1½–½ Süd; Ost 0–0 West")
+        why = "the result of board 5 isn't known"
+        site.said = {"matches": [{"teams": ["Nord", "Süd"], "points": None, "boards": [1, 3], "why": why}, said(0, 0)["matches"][1]]}  # type: ignore[index]
+        site.show()
+        page.says("no score, and why", SHOWN, f"Nord – Süd No score: {why}; Ost 0–0 West")
+        page.tab.value("location.hash = '#3'")
+        page.reads("beside one of its boards too", "#of-match", f"Nord – Süd No score: {why}")
+        page.tab.value("location.hash = ''")
         site.said = {}
         site.show()
         page.says("no matches any more", SHOWN, "")

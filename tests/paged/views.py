@@ -11,7 +11,7 @@ from decided.table import same
 from live.broadcast.shot import Shot
 from live.broadcast.running import Clocks
 from live.broadcast.view import Player, SpectatorBoard, said_of_matches
-from live.web.round_page import Game, view_of, ways_to_mend
+from live.web.round_page import IN_THE_TERMINAL, Game, view_of
 from live.web.view import BoardView, Ply, board_text, round_text
 
 TOP = pathlib.Path(__file__).resolve().parents[2]
@@ -20,26 +20,13 @@ REASONS = [
     "/dev/ttyUSB0 may not be opened: let an administrator type 'sudo adduser anna dialout', and then log in again",
     "/home/anna/club/round3/01 has moves of Joerg Mueller - Anna Kern",
 ]
-HERE = "Arbiter: in the recorder's terminal, type "
-BACK = '"5 back" to take the last ply off, "5 help" for more'
-MENDED = [
-    ("WRONG: e2", "5 ", f"{HERE}{BACK}"),
-    ("WRONG: e1 g1; LOOK at 3. Bb5", "5 ", f'{HERE}"5 ok" if the game is right, {BACK}'),
-    ("LOOK since 38. Kf2; agrees", "5 ", f'{HERE}"5 ok" if the game is right, {BACK}'),
-    ("LOOK at 3. Bb5; agrees", "", f'{HERE}"ok" if the game is right, "back" to take the last ply off, "help" for more'),
-    ("agrees", "5 ", ""),
-    ("UNPLUGGED", "5 ", ""),
-    ("NOT RECORDED: the recorder's screen says why", "5 ", ""),
-]
-
-
 class Stand:
     """A game as the page asks for it."""
 
-    def __init__(self, trouble: str, words: str) -> None:
+    def __init__(self, trouble: str, words: str, advice: str = "") -> None:
         parts = {"fens": (), "plies": (), "differing": (), "result": "*", "pgn": b"", "trouble": trouble}
         self.board, self.number, self.name, self._words = SimpleNamespace(**parts), 5, "05", words
-        self.in_front = "5 "
+        self.advice = advice
         self.tags: Dict[str, str] = {}
 
     def standing(self) -> Tuple[str, Optional[float], bool]:
@@ -59,11 +46,10 @@ def nothing_private() -> None:
     same("any other state is shown", view_of(cast(Game, Stand("", "WRONG: e2"))).state, "WRONG: e2")
 
 
-def what_to_type() -> None:
-    """Where the record may be wrong, the page says what an arbiter may type; elsewhere it doesn't."""
-    for words, in_front, expected in MENDED:
-        same(words, ways_to_mend(words, in_front), expected)
-    same("in a round", view_of(cast(Game, Stand("", "WRONG: e2"))).mend, MENDED[0][2])
+def what_to_do() -> None:
+    """The page says what the terminal says, and where lines are typed."""
+    for advice, expected in (("Plug it in", "Plug it in"), ("", ""), ("Look at it, and type 5 ok", f"Look at it, and type 5 ok. {IN_THE_TERMINAL}")):
+        same(advice, view_of(cast(Game, Stand("", "WRONG: e2", advice))).mend, expected)
 
 
 PUBLISHED = '[Event "Club"]\n[Site "Zürich \\"Süd\\""]\n[Date "2024.05.31"]\n[TimeControl "5400+30"]\n\n1. e4 *\n'.encode()
@@ -121,4 +107,4 @@ def matches_are_what_is_documented() -> None:
     same("none", said_of_matches(boards[:1]), ())
 
 
-TABLES = [state_is_what_is_documented, matches_are_what_is_documented, nothing_private, what_to_type]
+TABLES = [state_is_what_is_documented, matches_are_what_is_documented, nothing_private, what_to_do]

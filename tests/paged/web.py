@@ -77,6 +77,7 @@ class Told(TypedDict, total=False):
     black: str
     result: str
     state: str
+    mend: str
     since: Optional[float]
     alarm: bool
     differing: List[str]

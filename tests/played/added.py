@@ -83,12 +83,14 @@ def typed_moves(folder: pathlib.Path) -> None:
 
 
 def typed_nonsense(folder: pathlib.Path) -> None:
-    """What isn't understood, and moves that aren't legal, are refused with what was typed, and change nothing."""
+    """What isn't understood, and moves that aren't legal or have a wrong number, are refused with what was typed, and change nothing."""
     board, live = begin_game(folder, typed=True)
     refused = {
         "hello": "hello",
         "Nf6": "Nf6 is no legal move: White is to move, after 1... e5",
         "Nf3 Qxf7": "Qxf7 is no legal move: Black is to move, after 2. Nf3",
+        "17. Nc3": "refused: 17. Nc3: 17. isn't the number of the next move: 2. is next, after 1... e5. Nothing was added",
+        "2. Nf3 2. Nc6": "2. isn't the number of the next move: 2... is next, after 2. Nf3. Nothing was added",
         "2-0": "2-0",
         "0-0": "refused: 0-0: do both lose?",
         "K" * 300: "K",

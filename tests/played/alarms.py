@@ -44,8 +44,9 @@ def last_state(live: Live) -> str:
 
 def seen(live: Live) -> None:
     """It is acknowledged, and gone from the last line, and from beside the game."""
+    before = live.lines().count("acknowledged: LOOK ")
     live.type("ok")
-    until_line(live, "acknowledged: LOOK ")
+    until(lambda: live.lines().count("acknowledged: LOOK ") > before, "an answer")
     until(lambda: "LOOK" not in last_state(live), "a last line without it")
     same(bytes_of(live.name + ".look"), b"")
     assert "acknowledged: LOOK " in bytes_of(live.name + ".log").decode()

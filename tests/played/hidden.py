@@ -8,6 +8,7 @@ from typing import List
 from live.broadcast.running import Clocks
 from live.broadcast.shot import Shot
 from live.game import times
+from live.game.began import summed, this_start
 from live.web.view import Ply
 from played.stage import bytes_of
 
@@ -52,6 +53,12 @@ def hidden_shots(name: object) -> List[Shot]:
         Shot(result, tuple(Ply(san, clock) for san, clock in moves), (), text.encode(), Clocks(**clocks), forfeit)
         for result, moves, text, clocks, forfeit in found
     ]
+
+
+def started_again(began: pathlib.Path) -> None:
+    """The computer was started again: what is kept of a game's calls is of an earlier start."""
+    lines = began.read_bytes().replace(this_start().encode(), b"0000-beef").splitlines()
+    began.write_bytes(summed([line[: -len("12345678")] for line in lines], 0))
 
 
 def captures_of(path: pathlib.Path) -> List[pathlib.Path]:

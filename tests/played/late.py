@@ -9,7 +9,7 @@ from typing import List
 from live.broadcast.shot import Shot
 from played import words
 from played.boards import Board
-from played.hidden import hidden_shots
+from played.hidden import hidden_shots, started_again
 from played.recorder import Live
 from played.stage import (
     RUY, RUY_TEXT, a_board, begun, bytes_of, ended, holds_within, kill, refuses, same, stop, until, until_game, until_line,
@@ -152,8 +152,7 @@ def after_a_start_of_the_computer(folder: pathlib.Path) -> None:
     until_line(live, WAITS)
     game.until_kept(WON)
     kill(live)
-    began = pathlib.Path(f"{game.name}.began")
-    began.write_text("".join(f"{line.rpartition(' ')[0]} 0000-beef\n" for line in began.read_text().splitlines()))
+    started_again(pathlib.Path(f"{game.name}.began"))
     for seconds, shown in ((5000, "*"), (5380, "*"), (5520, RUY_TEXT), (5830, RUY_TEXT)):
         if seconds == 5000:
             game.clock.be(seconds)

@@ -19,6 +19,7 @@ from played import TOP, words
 
 # Another recorder may be put to the test: RECORDER is its path.
 LIVE = pathlib.Path(os.environ.get("RECORDER") or TOP / "bin" / "dgt_live").resolve()
+os.environ["PATH"] = f"{LIVE.parent}:{os.environ['PATH']}"  # so messages have the commands' names alone
 XON, XOFF = b"\x11", b"\x13"
 SET_PIPE_SIZE = 1031  # F_SETPIPE_SZ of Linux
 SIGNAL_AT_PARENTS_DEATH = 1  # PR_SET_PDEATHSIG of Linux
@@ -155,7 +156,7 @@ class Live:
             start_new_session=True,
             preexec_fn=prepare,
             cwd=cwd,
-            env={**os.environ, "TMPDIR": str(self.scratch), **({"TERM": "xterm"} if terminal else {}), **(environment or {})},
+            env={**os.environ, "PATH": f"{program.parent}:{os.environ['PATH']}", "TMPDIR": str(self.scratch), **({"TERM": "xterm"} if terminal else {}), **(environment or {})},
         )
         self.told.give_away()
         self.wrong.give_away()

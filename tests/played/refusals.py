@@ -388,11 +388,9 @@ def archive(folder: pathlib.Path) -> None:
     program, version = answer.stdout.decode().split()
     same(program, "dgt_replay")
     unpacked = folder / f"dgt_replay-{version}-x86_64-linux"
-    names = {"CHESS.md", "FORMATS.md", "USING.md", "BROADCAST.md", "REFERENCE.md", "dgt_live.1", "dgt_replay.1", "short-game.dgt"}
+    names = {"USING.md", "BROADCAST.md", "REFERENCE.md", "dgt_live.1", "dgt_replay.1", "short-game.dgt"}
     names |= {"dgt_live", "dgt_round", "dgt_replay"}
     same(names - {path.name for path in unpacked.iterdir()}, set())
-    for left in unpacked.rglob("*"):
-        assert left.suffix != ".pyc" and left.name != "__pycache__", f"{left} is of no use"
     sample = (unpacked / "short-game.dgt").read_bytes()
     answer = subprocess.run([unpacked / "dgt_replay", "record"], input=sample, capture_output=True, env={"LC_ALL": "C"})
     same(answer.stdout.split(b"\n\n")[1].replace(b"\n", b" ").decode(), SAMPLE_TEXT)

@@ -8,7 +8,7 @@ from typing import List
 
 from live.broadcast.said_again import MARGIN, said_again
 from live.game import timed, times
-from live.game.began import Began, began_line, this_start
+from live.game.began import Began, began_line, part_line, summed, this_start
 from live.game.files import Paths
 from live.game.game import put_options
 from live.game.options import Options
@@ -35,7 +35,8 @@ def said_at_each_place(folder: pathlib.Path) -> None:
     heading = times.heading(0, sample[:HEADED])
     lines = [b"0 begin 0\n", *(b"%d heard %d\n" % (1000 * number, size - before) for number, (before, size) in enumerate(zip([0, *sizes], sizes), 1))]
     pathlib.Path(f"{folder}/02.times").write_bytes(heading + b"".join(lines))
-    pathlib.Path(paths.began).write_bytes(began_line((0, len(heading)), Began(began, this_start())))
+    parts = [part_line(0, 0, heading + b"".join(lines[:9])), part_line(0, len(heading + b"".join(lines[:9])), b"".join(lines[9:]))]
+    pathlib.Path(paths.began).write_bytes(summed([began_line((0, len(heading)), Began(began, this_start())), *parts], 0))
     options = Options.of_words(["--white=Anna", "--event=Club", "--first=black", "--recover"])
     put_options(paths, options)
     said = said_again(program_, [paths], 100000.0, time.monotonic)
@@ -80,8 +81,10 @@ def forfeited_since_then(folder: pathlib.Path) -> None:
     dump = (TOP / "samples" / "short-game.dgt").read_bytes()[:67]
     paths, heading = Paths(f"{folder}/01"), times.heading(0, dump)
     pathlib.Path(paths.capture).write_bytes(3 * dump)
-    pathlib.Path(f"{folder}/01.times").write_bytes(heading + b"0 begin 0\n1000 heard 67\n2000 heard 67\n3000 heard 67\n")
-    pathlib.Path(paths.began).write_bytes(began_line((0, len(heading)), Began(timed.milliseconds() - 10000, this_start())))
+    lines = heading + b"0 begin 0\n1000 heard 67\n2000 heard 67\n3000 heard 67\n"
+    pathlib.Path(f"{folder}/01.times").write_bytes(lines)
+    call = began_line((0, len(heading)), Began(timed.milliseconds() - 10000, this_start()))
+    pathlib.Path(paths.began).write_bytes(summed([call, part_line(0, 0, lines)], 0))
     for content, wanted in ((b"-- 67\n", ["", "--", "--"]), (b"-- 134\n", ["", "", "--"]), (b"-- 201\n", [""] * 3), (b"--\n", [""] * 3), (b"+- 67\n", [""] * 3)):
         pathlib.Path(paths.forfeit).write_bytes(content)
         said = said_again(Program(program()), [paths], 900.0, time.monotonic)

@@ -9,10 +9,10 @@ import time
 from typing import Dict, List, Optional, Tuple
 
 from played import TOP
-from played.hidden import hidden_shots
+from played.hidden import QUEUED, hidden_shots, started_again
 from played.ports import free_port
 from played.recorder import Live
-from played.stage import bytes_of, ended, kill, program, refuses, same, stop, until, until_line
+from played.stage import bytes_of, ended, holds_within, kill, program, refuses, same, stop, until, until_line
 from rounds.going_out import Clock
 from rounds.hall import ROUND, Hall, quits
 from rounds.witness import Witness, served, texts_of
@@ -188,7 +188,7 @@ def stuck_as_it_is_said_again(folder: pathlib.Path) -> None:
         until_line(live, "the round is shown at")
         until(lambda: "live" in words_of(live) or live.says("live ended with status 9"), "a call of live")
         time.sleep(1.5)
-        same((bytes_of(goes_out), json.loads(served(port, "/state.json"))["boards"]), (before, []))
+        same((bytes_of(goes_out), texts_of(served(port, "/round.pgn"))), (before, two))
         if how != "killed":
             marks.unlink()
             until(lambda: len(json.loads(served(port, "/state.json"))["boards"]) == 2, "both boards", 0.05)
@@ -255,7 +255,42 @@ def named_as_others(folder: pathlib.Path) -> None:
     for name in ("broadcast", "round", "club.before", "club.before-1", "club.edited", "club.broadcast"):
         refuses(Live(hall.boards[0].device, hall.games / name), 1, "choose another name")
         refuses(Live(hall.boards[0].device, hall.games / name, "--series"), 1, "choose another name")
-    same(sorted(path.name for path in hall.games.glob("broadcast*")), ["broadcast.pgn"])
+    same(sorted(path.name for path in hall.games.glob("broadcast*")), ["broadcast.pgn", "broadcast.shown"])
 
 
-CASES = [ended_while_opened, each_file_lost_or_old, stuck_as_it_is_said_again, recorded_by_itself, named_as_others]
+def times_edited(folder: pathlib.Path) -> None:
+    """A round is ninety seconds late. The power fails behind two plies, and somebody adds a minute to the last time of a game: what came
+    with that line, and after it, counts as just played, and no ply is seen before its time."""
+    clock, hall, port = Clock(folder), Hall(folder, 2), free_port()
+    ahead = folder / "ahead"
+    witness = Witness(lambda: time.monotonic() + float(bytes_of(ahead) or b"0"), 90.0, hall.games / "broadcast.pgn")
+    witness.begin()
+    live = hall.record("--delay", "1.5", "--page", str(port), start=clock.start)
+    hall.begun(live)
+    for ply in range(2):
+        for texts in (FIRST, SECOND):
+            witness.plays(texts[ply])
+        hall.play(ply, ply + 1)
+    until(lambda: [hidden_texts(hall, number)[-1:] for number in (1, 2)] == [[FIRST[1]], [SECOND[1]]], "two plies, hidden", 0.02)
+    kill(live)
+    edited = pathlib.Path(f"{hall.name(1)}.times")
+    front, last, rest = edited.read_bytes().rpartition(b" heard ")
+    before, line, at = front.rpartition(b"\n")
+    edited.write_bytes(before + line + b"%d" % (int(at) + 60_000) + last + rest)
+    for number in (1, 2):
+        started_again(pathlib.Path(f"{hall.name(number)}.began"))
+    for noted in (folder / QUEUED).iterdir():
+        noted.unlink()
+    live = hall.record("--page", str(port), start=clock.start)
+    until(lambda: [hidden_texts(hall, number)[-1:] for number in (1, 2)] == [[FIRST[1]], [SECOND[1]]], "two plies, hidden again", 0.02)
+    for seconds in (35, 60, 85):
+        clock.be(seconds)
+        holds_within(lambda: False, 1.2)
+        witness.look_at(port)
+    clock.be(200)
+    until(lambda: texts_of(served(port, "/round.pgn")) == [FIRST[1], SECOND[1]], "two plies", 0.05)
+    stop(live)
+    witness.end()
+
+
+CASES = [ended_while_opened, times_edited, each_file_lost_or_old, stuck_as_it_is_said_again, recorded_by_itself, named_as_others]

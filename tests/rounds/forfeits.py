@@ -13,7 +13,7 @@ from played import words
 from played.ports import free_port
 from played.recorder import Live
 from played.stage import Skipped, bytes_of, check, movetext, same, stop, until, until_dumped, until_line
-from played.hidden import hidden_shots
+from played.hidden import QUEUED, hidden_shots
 from rounds.alarms import says
 from rounds.delayed import DELAY, Delayed
 from rounds.hall import ROUND, Hall, agrees
@@ -120,10 +120,13 @@ def late_forfeits(folder: pathlib.Path) -> None:
     live.was_killed = True
     live.send_all(signal.SIGKILL)
     until(lambda: not live.runs, "its end")
+    for noted in (folder / QUEUED).iterdir():
+        noted.unlink()
     live = round_.record("--page", str(port))
     until_line(live, "spectators see the round 15 minutes late as before")
     witness.look_at(port)
     until(lambda: texts_of(served(port, "/round.pgn")) == ["*", "*"], "both games, unplayed", 0.05)
+    until(lambda: [shot.forfeit for number in (1, 2) for shot in hidden_shots(hall.name(number))[-1:]] == ["+-", "--"], "both, hidden again", 0.02)
     round_.clock.be(DELAY - 60)
     witness.look_at(port)
     round_.clock.be(DELAY + 60)
@@ -288,6 +291,9 @@ def comes_late(folder: pathlib.Path) -> None:
     hall.begun(live)
     for number, typed, answer in ((1, "+-", f"{hall.name(1)}: forfeit 1-0: it isn't played"), (2, "0-1", "added to"), (3, "1-0", "added to")):
         live.type(f"{number} {typed}")
+        if answer == "added to":  # before a move it is asked about
+            until_line(live, f"{number}: no move was made yet")
+            live.type(f"{number} {typed}")
         until_line(live, f"{number}: {answer}")
     hall.boards[2].play("e2e4")
     until_line(live, f"  3  {hall.name(3)} is over: another move was made after its result")

@@ -1,13 +1,16 @@
 """Names in any script, as the arbiter sees them."""
 
+import csv
 import json
 import pathlib
+from typing import List
 
 from played import words
 from played.ports import free_port
-from played.stage import bytes_of, refuses, rest, same, stop, until, until_line
+from played.recorder import Live
+from played.stage import bytes_of, rest, same, stop, until, until_line
 from rounds.delayed import stuck_program, words_of
-from rounds.hall import Hall
+from rounds.hall import ROUND, Hall
 from rounds.witness import served
 
 from live.game.tags import pairs_of
@@ -15,7 +18,7 @@ from live.terminal.columns import width_of
 
 PLAYERS = [("Иванов, Пётр", "王浩然"), ("Γεωργίου, Νίκος", "이세돌"), ("Jörg Müller", "Åse Lund")]
 CORRECTED = [("Jorg Muller", "Ben Oto"), ("Jörg Müller", "Ben Ott")]  # one is recorded in other letters, the other as it is
-ROW = "   1 Иванов, Пётр 王浩然       1. e4"
+ROW = "   1 Иванов, Пётр"
 ROWS = ("   1 ", "   2 ", "   3 ")  # how the rows of the table begin
 
 
@@ -46,9 +49,6 @@ def names_as_written(folder: pathlib.Path) -> None:
     recorded = bytes_of(hall.games / "round.pgn")
     assert recorded.isascii() and b'[White "White 1"]\n[Black "Black 1"]' in recorded and b'[White "Joerg Mueller"]' in recorded, recorded
     same(stop(live), 0)
-
-    write(("Anna", "Ben"), *PLAYERS[1:])
-    refuses(hall.record(), 1, f"{hall.games}/01 has moves of Иванов, Пётр - 王浩然: for another round take another folder")
 
     write(*PLAYERS)
     live = hall.record(terminal=True, environment={"TERM": "xterm"})
@@ -103,4 +103,32 @@ def change_together(folder: pathlib.Path) -> None:
     same(shown(), {CORRECTED[0]})
     stuck.unlink()
     until(lambda: shown() == {CORRECTED[1]}, "the names that were put right", 0.05)
+    same(stop(live), 0)
+
+
+# A name as the table has it, and as a spreadsheet gets it.
+IN_CELLS = [
+    ('=HYPERLINK("http://x.example","Anna")', '\'=HYPERLINK("http://x.example","Anna")'), ("+1+cmd|' /C calc'!A0", "'+1+cmd|' /C calc'!A0"),
+    ("-x", "'-x"), ("@x", "'@x"), ("＝1+1", "'＝1+1"), ("O'Neil, Ann=Marie", "O'Neil, Ann=Marie"),
+]  # fmt: skip
+
+
+def no_formulas(folder: pathlib.Path) -> None:
+    """Names that a spreadsheet would take for formulas are text in the table of results; ordinary names and the scores stay as they are."""
+    cup, names = folder / "cup", [name for name, _ in IN_CELLS]
+    cup.mkdir()
+    (cup / "boards.csv").write_text("board;device\n" + "".join(f"{number};{folder}/board{number}\n" for number in (1, 2, 3)))
+    with open(cup / "round1.csv", "w", encoding="utf-8", newline="") as file:
+        rows: List[List[object]] = [["board", "white", "black", "result"], [1, *names[:2], "+/-"], [2, *names[2:4], "-/-"], [3, *names[4:], ""]]
+        csv.writer(file, delimiter=";").writerows(rows)
+    live = Live(cup, "1", program=ROUND, typed=True)
+    cells = [cell for _, cell in IN_CELLS]
+    wanted = [["1", *cells[:2], "1-0", "forfeit"], ["2", *cells[2:4], "0-0", "forfeit"], ["3", *cells[4:], "", ""]]
+
+    def results() -> List[List[str]]:
+        text = bytes_of(cup / "round1" / "results.csv").decode("utf-8-sig")
+        return list(csv.reader(text.splitlines(), delimiter=";"))[1:]
+
+    until(lambda: len(results()) == 3 and results()[0][3:] == wanted[0][3:] and results()[1][3:] == wanted[1][3:], "the results", 0.05)
+    same(results(), wanted)
     same(stop(live), 0)

@@ -44,7 +44,7 @@ def plays_on(hall: Hall, number: int) -> None:
 def killed_after_the_sign(folder: pathlib.Path) -> None:
     """The kings stand in the centre by mistake, and the round is killed before the ten seconds are over. When it is started again the
     players go on: the game is over, somebody must look, and it goes on with all moves. On another board nothing more happens: its game
-    ends ten seconds later, and then its end is marked. Meanwhile a table that has another player for it is refused."""
+    ends ten seconds later, and then its end is marked. Meanwhile a table that has other players is refused."""
     hall = Hall(folder, 2)
     live = begun(hall)
     for number, board in enumerate(hall.boards, 1):
@@ -53,8 +53,8 @@ def killed_after_the_sign(folder: pathlib.Path) -> None:
     kill(live)
     same([bytes_of(hall.name(number) + ".end") for number in (1, 2)], [b"", b""])
     table = hall.file.read_text()
-    hall.file.write_text(table.replace("White 2", "Cara"))
-    refuses(hall.record(), 1, f"{hall.name(2)} has the result 1/2-1/2, and was played by White 2 - Black 2: for another round take another")
+    hall.file.write_text(table.replace("White 1", "Dora").replace("White 2", "Cara"))
+    refuses(hall.record(), 1, f"{hall.name(1)} has the result 1/2-1/2, and was played by White 1 - Black 1: for another round take another")
     hall.file.write_text(table)
     again = hall.record(typed=True)
     for number in (1, 2):

@@ -420,16 +420,13 @@ def kept_texts(path: pathlib.Path) -> Callable[[], List[str]]:
 
 def where_sites_are(folder: pathlib.Path) -> None:
     """A relative path of a site in tournament.txt begins at the tournament's folder, a typed one here, and `~/` is the home folder. A
-    line says where each is, and another one where an earlier version has begun it."""
+    line says where each is, and the next call goes on with each."""
     hall, cup, home, here = Hall(folder, 1), folder / "cup", folder / "home", folder / "here"
     cup.mkdir()
+    here.mkdir()
     (cup / "round1.csv").write_text(hall.file.read_text())
     settings = "web = site\noutput typed = 5, web typed\noutput public = 15, web ~/public, ~/none.sh\n"
     (cup / "tournament.txt").write_text(settings)
-    for earlier in ("site", "~/public"):
-        (here / earlier / "round7").mkdir(parents=True)
-        (here / earlier / "round7" / "state.json").write_text("{}")
-    before = sorted(here.rglob("*"))
 
     def call() -> Live:
         return Live("../cup", "1", "--output", "typed = 0, web typed", program=ROUND, cwd=here, environment={"HOME": str(home)}, typed=True)
@@ -439,16 +436,13 @@ def where_sites_are(folder: pathlib.Path) -> None:
     for said, place in sites.items():
         until_line(live, f"{said} {place}")
         until(lambda: (place / "index.html").exists(), f"the site in {place}", 0.05)
-    until_line(live, f"an earlier site is in {here}/site: to go on with it, end this, and move it to {cup}/site")
-    until_line(live, f"an earlier site of output public is in {here}/~/public: to go on with it, end this, and move it to {home}/public")
     until_line(live, f"the command {home}/none.sh can't be started: there is no such file")
     stop(live)
-    same([path for path in sorted(here.rglob("*")) if here / "typed" not in (path, *path.parents)], before)
+    same(list(here.iterdir()), [here / "typed"])
     live = call()
     for said, place in sites.items():
         until_line(live, f"{said} {place}")
     stop(live)
-    assert not live.says("an earlier site"), live.lines()
 
 
 CASES = [three_outputs, one_board, added_and_removed, files_of_one_lost_or_old, in_a_tournament, where_sites_are]

@@ -325,7 +325,7 @@ def on_a_terminal(folder: pathlib.Path) -> None:
     """The table on a terminal of 80 columns: players, last moves, clocks, states, alarms; what is typed is answered."""
     hall = Hall(folder, 3, clocks=(0,))
     live = hall.record("--event", "Club", terminal=True, environment={"TERM": "xterm"})
-    for part in ("Club", "White        Black", "agrees", "3 boards, no alarm", "type help to see what can be typed, and q to end"):
+    for part in ("Club", "White   Black   Last move", "agrees", "3 boards, no alarm", "type help to see what can be typed, and q to end"):
         until_line(live, part)
     hall.play(0, 3)
     until_line(live, "2. Nf3")

@@ -18,7 +18,7 @@ from paged.devtools import Shared, Tab
 from paged.legible import faults
 from played.ports import free_port
 from played.recorder import Live
-from played.stage import Skipped, bytes_of, kill, rest, same, stop, until, until_line
+from played.stage import Skipped, bytes_of, kill, refuses, rest, same, stop, until, until_line
 from rounds.delayed import DELAY, Delayed
 from rounds.going_out import Clock
 from rounds.hall import Hall, games_of, quits
@@ -131,7 +131,7 @@ def two_rounds(folder: pathlib.Path) -> None:
     same(texts_of(bytes_of(www / "round1" / "round.pgn")), ["1. e4 e5 1-0", "0-1 forfeit"])
     same(bytes_of(www / "round1" / "01.pgn") + bytes_of(www / "round1" / "02.pgn"), bytes_of(hall.games / "broadcast.pgn"))
     same(stop(live), 0)
-    same(sorted(path.name for path in www.rglob("*") if path.suffix not in (".pgn", ".js", ".css", ".svg", ".html", ".json", "")), [])
+    same(sorted(path.name for path in www.rglob("*") if path.suffix not in (".pgn", ".js", ".css", ".svg", ".html", ".json", "")), ["dgt_round.txt"])
 
     hall.games, hall.extra = folder / "games2", {1: ",Sportvereinigung Schachfreunde Frankfurt am Main,Süd", 2: ",Süd,Sportvereinigung Schachfreunde Frankfurt am Main"}
     hall.boards[0].codes = list(INITIAL)
@@ -447,4 +447,45 @@ def withdrawn(folder: pathlib.Path) -> None:
     same(other.exists(), True)
 
 
-CASES = [two_rounds, list_of_rounds, team_matches, live_or_not, late_site, killed_between, full_site, carried_away, withdrawn]
+def other_folders(folder: pathlib.Path) -> None:
+    """A site is written into a new folder, an empty one, or one that has its mark; also if a kill has left only the beginning of that. A
+    folder with other files, or with games, is refused, and nothing in it changes. One that gets a game later is left alone from then on."""
+    hall, www = Hall(folder, 1), folder / "www"
+    (folder / "cup" / "round3").mkdir(parents=True)
+    for name, text in (("01.dgt", "bytes"), ("01.pgn", "a game"), ("02.pgn", "a game"), ("round.pgn", "games")):
+        (folder / "cup" / "round3" / name).write_text(text)
+    (folder / "notes").mkdir()
+    (folder / "notes" / "index.html").write_text("mine")
+    (folder / "marked" / "round3").mkdir(parents=True)
+    for name in ("dgt_round.txt", "round3/01.dgt"):
+        (folder / "marked" / name).write_text("")
+    before = files_of(folder)
+    for place, why in (
+        ("cup", f"it has games that are recorded, as {folder}/cup/round3/01.dgt"), ("marked", f"it has games that are recorded, as {folder}/marked/round3/01.dgt"),
+        ("notes", f"it has other files, as {folder}/notes/index.html, and no dgt_round.txt"), ("cup/round3", f"it has games that are recorded, as {folder}/cup/round3/01.dgt"),
+    ):  # fmt: skip
+        for option, words in (("--web", ["--web", str(folder / place)]), ("--output public", ["--output", f"public = 0, web {folder / place}"])):
+            live = hall.record("--round", "3", *words)
+            refuses(live, 1, f"{option}: {folder / place}: {why}: give the site a new folder, or an empty one")
+    same({name: text for name, text in files_of(folder).items() if name in before}, before)
+    same(hall.games.exists(), False)
+    www.mkdir()
+    (www / "dgt_round.txt.new").write_text("dgt_ro")
+    for _ in range(2):
+        live = hall.record("--web", str(www))
+        until(lambda: (www / "index.html").exists(), "the site", 0.05)
+        same(((www / "dgt_round.txt").read_text().startswith("dgt_round keeps a site"), (www / "dgt_round.txt.new").exists()), (True, False))
+        if not (www / "round3").exists():
+            same(stop(live), 0)
+            (www / "round3").mkdir()
+            (www / "index.html").unlink()
+    (www / "round3" / "01.dgt").write_text("bytes")
+    left = files_of(www)
+    hall.begun(live)
+    hall.play(0, 1)
+    until_line(live, f"the site in {www} can't be written (it has games that are recorded, as {www}/round3/01.dgt)")
+    same({name: text for name, text in files_of(www).items() if "state.json" not in name}, {name: text for name, text in left.items() if "state.json" not in name})
+    stop(live)
+
+
+CASES = [two_rounds, list_of_rounds, team_matches, live_or_not, late_site, killed_between, full_site, carried_away, withdrawn, other_folders]

@@ -12,7 +12,7 @@ from play_board import EMPTY, INITIAL, field
 from played.boards import Cables
 from played.recorder import LIVE, Live
 from played.stage import Stage, bytes_of, movetext, rest, same, stop, until, until_game, until_line
-from rounds.hall import ROUND, moves, plain, text
+from rounds.hall import ROUND, Hall, moves, plain, text
 
 BOARDS = 8
 UNPLUGGED_FOR = 1.5  # seconds that hands take to swap two plugs, at least
@@ -200,6 +200,41 @@ def swapped_after_a_ply(folder: pathlib.Path) -> None:
 def swapped_after_six_plies(folder: pathlib.Path) -> None:
     """After six plies, at the USB plug; the arbiter leaves the cables so."""
     swapped(folder, [(1, 8), (2, 7), (3, 6), (4, 5)], 6, AT_USB, puts_back=False)
+
+
+def number_that_changes(folder: pathlib.Path) -> None:
+    """A board gives another serial number each time that it is asked: that is said of the first three, then once that its numbers change, and
+    no more. What it sends is kept back. Then its own number is there again, and its game goes on."""
+    hall = Hall(folder, 1)
+    board = hall.boards[0]
+    board.serial_number = b"00001"
+    live = hall.record(typed=True)
+    hall.begun(live)
+    board.play("e2e4")
+    hall.until_text(1, "1. e4 *")
+    for number in range(8):
+        unplugged = live.lines().count("UNPLUGGED")
+        board.pull()
+        until(lambda: live.lines().count("UNPLUGGED") > unplugged, "that it is unplugged")
+        board.serial_number = b"%05d" % (70 + number)
+        asked = board.asked.count(b"E")
+        board.plug()
+        until(lambda: board.asked.count(b"E") > asked and not board.outgoing, "that it is asked for its number")
+        until(lambda: f"serial number {70 + number:05}, and not 00001" in live.lines() or number >= 3, f"number {number}")
+        until(lambda: "one serial number after the other, and not 00001" in live.lines() or number < 3, "that its numbers change")
+    board.pull()
+    until(lambda: live.lines().count("UNPLUGGED") > 8, "that it is unplugged")
+    board.serial_number = b"00001"
+    board.plug()
+    until(lambda: board.asked_for_updates, "a request for updates")
+    board.play("e7e5")
+    hall.until_text(1, "1. e4 e5 *")
+    log = bytes_of(f"{hall.name(1)}.log").decode()
+    said = [log.count(f"LOOK at the cable: {what}") for what in ("it has the board with", "it has a board that gives one", "it had")]
+    same((said[:2], said[2] <= 3), ([3, 1], True))
+    live.type("1 ok")
+    until_line(live, "1: acknowledged: ")
+    same(stop(live), 0)
 
 
 def found_by_serial(folder: pathlib.Path) -> None:
@@ -409,7 +444,7 @@ def answers_of_all_kinds(folder: pathlib.Path) -> None:
 
 
 CASES = [
-    found_by_serial,
+    found_by_serial, number_that_changes,
     found_on_a_free_socket,
     played_over_another_cable,
     swapped_between_calls,

@@ -1,12 +1,13 @@
 """The pure tables of a round: reading the file of pairings, and the rows on the screen. Expected values are worked by hand."""
 
 import pathlib
+from typing import List
 
 from live.descriptors import Room, room
 from live.game.options import Options
 from live.round.pairings import Pairing, read_pairings
 from live.refused import Refused
-from live.round.table import RowView, head, row, screen
+from live.round.table import Columns, RowView, head, row, screen
 from played.stage import same
 
 LINE = "1,/dev/ttyUSB0,Jörg,Ben"
@@ -176,23 +177,27 @@ def no_table(_: pathlib.Path) -> None:
         same(refused.lines, ("its first line has the column board twice: take one out",))
 
 
+def alone(view: RowView, now: float, width: int = 80) -> List[str]:
+    """Its lines if no other board is there."""
+    return row(view, now, Columns.of([view], now, width))
+
+
 def rows(_: pathlib.Path) -> None:
     """Rows of 80 columns, alarms first where not all fit."""
     calm = RowView(1, "Anna", "Benjamin Miller", "12... Nxe5+", ("1:12:07", "0:58:11"), "agrees", "", 100.0)
-    same(row(calm, 140), ["   1 Anna         Benjamin M.. 12... Nxe5+   1:12:07 0:58:11  agrees 40s"])
+    same(alone(calm, 140), ["   1 Anna  Benjamin Miller 12... Nxe5+ 1:12:07 0:58:11  agrees 40s"])
     alarm = RowView(12, "Anna", "Ben", "3. Bb5", ("", ""), "WRONG", ": e2 d5", 100.0, True)
-    same(row(alarm, 280), ["! 12 Anna         Ben          3. Bb5                         WRONG 3m: e2 d5"])
+    same(alone(alarm, 280), ["! 12 Anna  Ben   3. Bb5     WRONG 3m: e2 d5"])
     waits = RowView(2, "Anna", "Ben", state="waits for the board")
-    same(row(waits, 280), ["   2 Anna         Ben                                         waits for the b.."])
+    same(alone(waits, 280), ["   2 Anna  Ben              waits for the board"])
     over = RowView(2, "Anna", "Ben", state="over, no result", alarm=True)
-    same(row(over, 280), ["!  2 Anna         Ben                                         over, no result"])
+    same(alone(over, 280), ["!  2 Anna  Ben              over, no result"])
     look = RowView(2, "Anna", "Ben", state="LOOK after the start", rest="; over 0-1", alarm=True)
-    same(row(look, 280), ["!  2 Anna         Ben                                         LOOK after the .."])
-    same(row(look, 280, 120)[0][-30:], "LOOK after the start; over 0-1")
+    same(alone(look, 280), ["!  2 Anna  Ben              LOOK after the start; over 0-1"])
     failed = RowView(2, "Anna", "Ben", state="NOT RECORDED", rest=": there is no /dev/ttyUSB0", alarm=True)
-    same(row(failed, 280), ["!  2 NOT RECORDED: there is no /dev/ttyUSB0"])
+    same(alone(failed, 280), ["!  2 NOT RECORDED: there is no /dev/ttyUSB0"])
     wrong = RowView(None, state="line 9 is wrong: a quotation mark isn't closed", alarm=True, is_board=False)
-    same(row(wrong, 0), ["!  ? line 9 is wrong: a quotation mark isn't closed"])
+    same(alone(wrong, 0), ["!  ? line 9 is wrong: a quotation mark isn't closed"])
     shown = screen("10:00:00  Club", [calm] * 30 + [alarm], ["a message"], 280, 24)
     same(len(shown) < 24, True)
     assert all(len(line) < 80 for line in shown), shown
@@ -202,17 +207,37 @@ def rows(_: pathlib.Path) -> None:
 
 def rows_of_any_width(_: pathlib.Path) -> None:
     """The state is told whole where it has room, with its time behind its name; names have more room in a wide terminal."""
-    head_of_80 = "  No White        Black        Last move      White   Black   State and since"
-    same(head(), head_of_80)
     turned = RowView(3, "Anna", "Ben", state="setting up", rest="; turned?", since=0.0, alarm=True)
-    same(row(turned, 4), ["!  3 Anna         Ben                                         setting up 4s; .."])
-    same(row(turned, 4, 100)[0][-22:], "setting up 4s; turned?")
-    long_name = RowView(4, "Bartholomew Zimmermann", "Ben", "1. e4", ("1:30:00", ""), "agrees", "", 0.0)
-    same(row(long_name, 9, 110), ["   4 Bartholomew Zimmermann Ben                    1. e4         1:30:00          agrees 9s"])
-    same(row(long_name, 9, 71), ["   4 Bartho.. Ben      1. e4          agrees 9s"])
+    same(alone(turned, 4), ["!  3 Anna  Ben              setting up 4s; turned?"])
+    long_name = RowView(4, "Bartholomew Zimmermann", "Benjamin Alexander", "1. e4", ("1:30:00", ""), "agrees", "", 0.0)
+    same(alone(long_name, 9, 110), ["   4 Bartholomew Zimmermann Benjamin Alexander 1. e4     1:30:00          agrees 9s"])
+    # 79 columns without 5, 9, 16 of clocks, 4 between and 16 for the state are 29: 14 for each name.
+    same(alone(long_name, 9), ["   4 Bartholomew .. Benjamin Ale.. 1. e4     1:30:00          agrees 9s"])
     for width in range(40, 200):
-        for view in (turned, long_name):
-            assert all(len(line) < width for line in [head(width), *row(view, 4, width)]), (width, row(view, 4, width))
+        for view in (turned, long_name, LOOK):
+            columns = Columns.of([turned, long_name, LOOK], 4, width)
+            assert all(len(line) < width for line in [head(columns), *row(view, 4, columns)]), (width, row(view, 4, columns))
+
+
+LOOK = RowView(5, "Carl Pohl", "Dora Weiss", "38... Qxa1+", ("0:29:49", "0:09:44"), "LOOK at the cable", "; WRONG 12s: a1 b2 c3", alarm=True)
+
+
+def alarms_have_room(_: pathlib.Path) -> None:
+    """Short names leave their room to alarms, in 80 columns and in 110. Beside long names an alarm goes on in the next lines: each of
+    its words is there, and a name keeps ten letters. What is no alarm is cut."""
+    short = RowView(1, "Anna", "Ben", "1. e4", ("1:30:00", "1:30:00"), "agrees", "", 0.0)
+    for width in (80, 110):
+        columns = Columns.of([short, LOOK], 4, width)
+        front = "!  5 Carl Pohl Dora Weiss 38... Qxa1+ 0:29:49 0:09:44  "
+        whole = [f"{front}LOOK at the cable; WRONG", f"{' ' * len(front)}12s: a1 b2 c3"]
+        same(row(LOOK, 4, columns), whole if width == 80 else [f"{front}LOOK at the cable; WRONG 12s: a1 b2 c3"])
+    long_names = RowView(2, "Bartholomew Zimmermann", "Benjamin Alexander", state="in hand g1 f3 and others", since=0.0)
+    columns = Columns.of([long_names, LOOK], 4)
+    lines = row(LOOK, 4, columns)
+    same((lines[0][:27], " ".join(line.strip() for line in [lines[0][columns.front :], *lines[1:]])),
+         ("!  5 Carl Pohl  Dora Weiss ", "LOOK at the cable; WRONG 12s: a1 b2 c3"))  # fmt: skip
+    same(row(long_names, 4, columns)[0][:27], "   2 Bartholo.. Benjamin.. ")
+    same(len(row(long_names, 4, columns)), 1)
 
 
 def messages(_: pathlib.Path) -> None:
@@ -249,7 +274,7 @@ def what_is_counted(_: pathlib.Path) -> None:
         ([wrong, wrong], "no board, no alarm, 2 lines are wrong"),
     ):
         assert screen("t", rows_shown, [], 9, 24)[0].endswith("t" + " " * (77 - len(tail)) + " " + tail), screen("t", rows_shown, [], 9, 24)
-    same(" ".join(line.strip() for line in row(wrong, 9)).replace("!  9 ", ""), wrong.state)
+    same(" ".join(line.strip() for line in alone(wrong, 9)).replace("!  9 ", ""), wrong.state)
 
 
 def room_for_readers(_: pathlib.Path) -> None:

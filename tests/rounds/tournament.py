@@ -275,10 +275,12 @@ def all_carried_away(folder: pathlib.Path) -> None:
     live = round_1("3")
     until(lambda: are_carried("*", "*"), "both games without a result, carried away")
     live.type("1 1-0")
+    live.type("1 1-0")  # it has no move yet, so it was asked about
     until(lambda: are_carried("1-0", "*"), "the result of board 1, carried away")
     same(stop(live), 0)
 
     live = round_1("1000")
+    live.type("3 0-1")
     live.type("3 0-1")
     quits(live)
     assert are_carried("1-0", "0-1"), [bytes_of(carried / name) for name in ("all.pgn", "results.csv")]

@@ -1,0 +1,71 @@
+"""A round is started: what is wrong with one board is said in its row, and the others are recorded."""
+
+import pathlib
+
+from played.stage import bytes_of, same, stop, until, until_line
+from rounds.hall import Hall
+
+
+def name_put_right_while_off(folder: pathlib.Path) -> None:
+    """While the recorder is off, a name of a game that is over is put right, and another line gets two other players: both rows say what
+    to type, the other boards are recorded, and both games keep their players, also in what is published. At r the first has its
+    name, and the second is left alone; with a name of files of its own it is another game."""
+    hall = Hall(folder, 5)
+
+    def write(*players: str, name: str = "") -> None:
+        lines = [f"{number},{folder}/board{number},{pair},{name if number == 3 else ''}" for number, pair in enumerate(players, 1)]
+        hall.file.write_text("\n".join(["board,device,white,black,name", *lines, ""]))
+
+    def players(name: str, file: str = ".pgn") -> str:
+        game = bytes_of(f"{hall.games}/{name}{file}").decode()
+        return " - ".join(game.partition(f'[{tag} "')[2].partition('"')[0] for tag in ("White", "Black"))
+
+    others = ("Cara,Dan", "Eva,Finn", "Gus,Hal", "Ida,Jan")
+    write("Anne,Ben", *others)
+    live = hall.record(typed=True)
+    hall.begun(live)
+    hall.play(0, 2)
+    live.type("1 1-0")
+    hall.until_over(live, 1, "1-0")
+    same(stop(live), 0)
+    before = bytes_of(hall.name(1) + ".pgn")
+    changed = ("Anna,Ben", "Cara,Dan", "Kim,Lea", "Gus,Hal", "Ida,Jan")
+    write(*changed)
+    live = hall.record(typed=True)
+    other = "if another pair plays here, write another name of its files into the column name, then type r"
+    both = f"{other}; to put both names right, change one in the table, type r, then the other"
+    until_line(live, f"  1  isn't recorded: its game is over, and was played by Anne - Ben: to put a name right, type r; {other}\n")
+    until_line(live, f"  3  isn't recorded: its game has moves of Eva - Finn: {both}\n")
+    for number in (2, 4, 5):
+        until_line(live, f"{number:>3}  agrees")
+    hall.play(2, 4, (1, 3, 4))
+    same(bytes_of(hall.name(1) + ".pgn"), before)
+    until(lambda: b'"Anne"' in bytes_of(hall.games / "broadcast.pgn"), "the name under which it was played")
+    assert b'"Anna"' not in bytes_of(hall.games / "broadcast.pgn")
+    live.type("r")
+    until_line(live, "  1  White is now Anna, and was Anne\n")
+    until(lambda: players("01") == "Anna - Ben", "the name that was put right")
+    write(*changed, name="again")
+    live.type("r")
+    until_line(live, f"  3  records {folder}/board3 in {hall.games}/again.dgt")
+    same((players("03"), players("again")), ("Eva - Finn", "Kim - Lea"))
+    same(stop(live), 0)
+
+
+def result_before_a_move(folder: pathlib.Path) -> None:
+    """A result is typed for a board without a move: it is asked about, with what to type if a player hasn't come, and counts when it
+    is typed again. One in the table isn't asked about."""
+    hall = Hall(folder, 2)
+    hall.extra = {2: ",0-1"}
+    hall.write(header="board,device,white,black,result")
+    live = hall.record(typed=True)
+    until_line(live, "  1  agrees")
+    until_line(live, "2: added to")
+    live.type("1 1-0")
+    until_line(live, "1: no move was made yet. If Black has not come, type 1 +-. For 1-0 all the same, type it again within a minute\n")
+    live.type("1 1-0")
+    until_line(live, "1: added to")
+    same(stop(live), 0)
+
+
+CASES = [result_before_a_move, name_put_right_while_off]
