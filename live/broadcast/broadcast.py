@@ -380,8 +380,9 @@ class Broadcast:
     @property
     def is_out(self) -> bool:
         """Whether all that is shown is written and carried away."""
+        is_kept = self._keeper is None or self._keeper.is_idle
         is_written = self._file is None or not self.boards or self._file.is_written
-        return is_written and self.is_told and (self._publisher is None or self._publisher.is_idle)
+        return is_kept and is_written and self.is_told and (self._publisher is None or self._publisher.is_idle)
 
     # How it is carried away.
 

@@ -112,6 +112,11 @@ class Keeper:
         if not (self._writes or self._rests):
             self._write()
 
+    @property
+    def is_idle(self) -> bool:
+        """Whether nothing waits to be let out."""
+        return not (self._writes or self._next)
+
     def _write(self) -> None:
         self._rests, self._writes, self._next = False, self._next, None
         if self._writes:

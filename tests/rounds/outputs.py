@@ -324,7 +324,8 @@ class Start:
         """Both games are open, or can't be, and the text is there."""
         for number in (1, 2):
             until(lambda: self._is_known(number), f"board {number}, {self._spoiled} spoiled")
-        until(lambda: len(texts_of(bytes_of(self._text))) == 2 or not self._live.runs, f"the text, {self._spoiled} spoiled", 0.02)
+        games = 2 - self._live.lines().count("isn't recorded: ")
+        until(lambda: len(texts_of(bytes_of(self._text))) == games or not self._live.runs, f"the text, {self._spoiled} spoiled", 0.02)
         self._witness.see(bytes_of(self._text), f"the text, {self._spoiled} spoiled,")
 
     def _is_known(self, number: int) -> bool:

@@ -69,7 +69,8 @@ class Readers:
 
     def until_read(self) -> None:
         """Each has read something since then."""
-        until(lambda: len(self.seen) == len(self._reads), f"all readers, and not {self.seen} alone", 0.05)
+        for name, _ in self._reads:
+            until(lambda: name in self.seen, f"that {name} is read", 0.05)
 
     def _all(self, plies: Plies) -> bool:
         try:
