@@ -2,19 +2,14 @@
 
 from __future__ import annotations
 
+from live.words.message import Message
+
 # The statuses of dgt_live.
 DONE = 0
 REFUSED = 1
 ARGUMENTS = 2
 FAILED = 3
 NO_PROGRAM = 70
-
-# Ctrl-C in a round would end all its boards.
-ANOTHER_CALL = (
-    "is being recorded by another dgt_live or dgt_round: end that"
-    " (Ctrl-C; in a dgt_round take its line out of the table, and type r)"
-)
-
 
 JOINERS = "\u200c\u200d"  # they can't be seen, and Persian and Indian scripts need them
 
@@ -25,6 +20,11 @@ def printable(text: str) -> str:
     if text.isprintable():
         return text
     return "".join(letter if letter.isprintable() or "\ud800" <= letter <= "\udfff" or letter in JOINERS else "?" for letter in text)
+
+
+def recorded_elsewhere(what: str) -> str:
+    """The message that another call records this. Ctrl-C in a round would end all its boards."""
+    return Message("start.recorded_elsewhere", what=what)
 
 
 class Refused(Exception):

@@ -22,10 +22,11 @@ from live.game.way_back import NO_RESULT
 from live.game.which_game import UNENDED, UNPLAYED, which_game
 from live.refused import DONE
 from live.steps import Steps
+from live.words.message import Message, linked
 
-ADDED = "added"
+ADDED = Message("done.added")
 HOLDS = 60.0  # seconds for which the answer to a question counts
-FORFEITS = {"1-0": ("Black", "+-"), "0-1": ("White", "-+")}  # who hasn't come, and what is typed then
+FORFEITS = {"1-0": (Message("side.black"), "+-"), "0-1": (Message("side.white"), "-+")}  # who hasn't come, and what is typed then
 
 
 def add(obeying: Obeying, line: str, sure: bool) -> Steps[Answer]:
@@ -56,9 +57,9 @@ def add(obeying: Obeying, line: str, sure: bool) -> Steps[Answer]:
     forget_question(games.game.paths)
     what = meaning(said, line, [ply.short for ply in games.course.plies])
     if not said.outcome and had != NO_RESULT:
-        what += f"; the result {had} is gone: add it again"
-    obeying.screen.say(f"added by hand: {what}")
-    return DONE, f"added to {games.game.paths.name}: {what}"
+        what = linked("semicolon", (what, Message("result.gone", result=had)))
+    obeying.screen.say(Message("typed.added_by_hand", what=what))
+    return DONE, Message("typed.added_to", name=games.game.paths.name, what=what)
 
 
 def _be_sure(obeying: Obeying, outcome: str, before: Paths) -> Steps[None]:
@@ -66,9 +67,9 @@ def _be_sure(obeying: Obeying, outcome: str, before: Paths) -> Steps[None]:
     games = obeying.games
     name = games.game.paths.name
     meant = which_game(len(games.course.plies), (yield from obeying.beside(functools.partial(is_unended, before))))
-    why = {UNPLAYED: f"{name} has no move yet", UNENDED: f"{before.name} has no result yet"}.get(meant)
+    why = {UNPLAYED: Message("which.no_move", name=name), UNENDED: Message("which.no_result", name=before.name)}.get(meant)
     if why:
-        raise Refused(f"{why}. Type {outcome} {before.name}, or {outcome} {name}")
+        raise Refused(Message("which.type_one", why=why, result=outcome, before=before.name, name=name))
 
 
 def _ask_once(obeying: Obeying, outcome: str) -> None:
@@ -77,8 +78,9 @@ def _ask_once(obeying: Obeying, outcome: str) -> None:
     if asked is None or asked[0] != outcome or now - asked[1] > HOLDS:
         obeying.asked_about = outcome, now
         absent = FORFEITS.get(outcome)
-        forfeit = f". If {absent[0]} has not come, type {obeying.screen.typed(absent[1])}" if absent else ""
-        raise Asked(f"no move was made yet{forfeit}. For {outcome} all the same, type it again within a minute")
+        if absent:
+            raise Asked(Message("result.no_move_or_absent", side=absent[0], forfeit=obeying.screen.typed(absent[1]), result=outcome))
+        raise Asked(Message("result.no_move", result=outcome))
     obeying.asked_about = None
 
 
@@ -95,11 +97,20 @@ def add_before(obeying: Obeying, paths: Paths, text: str, opens: bool) -> Steps[
     status, answer = yield from obeying.beside(functools.partial(add_by_name, program, paths, text, 0))
     if status == DONE and opens:
         more = yield from obeying.beside(functools.partial(told_of_next, paths))
-        answer += f". Nobody records it now: to go on with it, Ctrl-C, and then {DGT_LIVE} {obeying.plan.device} {paths.name}"
-        answer += f". {more}" if more else ""
+        answer = Message("over.nobody_records", done=answer, dgt_live=DGT_LIVE, device=obeying.plan.device, name=paths.name)
+        answer = linked("stop", filter(None, (answer, more)))
     if status == DONE:
-        obeying.screen.say(answer.replace("added to", "added by hand to", 1))
+        obeying.screen.say(by_hand(answer))
     return status, answer
+
+
+def by_hand(answer: str) -> str:
+    """An answer in the words of the game's log, which has what the board has shown too."""
+    if not isinstance(answer, Message):
+        return answer
+    if answer.key == "typed.added_to":
+        return Message("typed.added_by_hand_to", name=answer.places["name"], what=answer.places["what"])
+    return answer.with_places(lambda place: by_hand(place) if isinstance(place, str) else place)
 
 
 def _add_last(obeying: Obeying, line: str) -> Steps[Answer]:
@@ -107,13 +118,13 @@ def _add_last(obeying: Obeying, line: str) -> Steps[Answer]:
     games = obeying.games
     now, name = games.now, games.game.paths.name
     what, course = yield from obeying.changed(ADDED, functools.partial(_added, games.game, line, obeying.is_there, obeying.guard.now()))
-    obeying.screen.say(f"added by hand to {name}: {what}")
+    obeying.screen.say(Message("typed.added_by_hand_to", name=name, what=what))
     if now:
         now.close()
     games.course = course
     obeying.hears.placed()
     games.watch_on()
-    return DONE, f"added to {name}: {what}"
+    return DONE, Message("typed.added_to", name=name, what=what)
 
 
 def _said_of(game: Game, line: str, sent: bytes) -> Said:

@@ -4,24 +4,32 @@ costs no right move. Pure."""
 from __future__ import annotations
 
 from dataclasses import dataclass
-from typing import Callable, List, Optional, Sequence
+from typing import Callable, Dict, List, Optional, Sequence
 
 from live.board.state import DISK_FULL, OTHER_BOARD, Kind, State, mend_of
 from live.board.whose import WHERE
+from live.game.afterwards import over
 from live.game.answers import NO_PLIES
 from live.game.doubted import ABOUT_CLOCK, THE_START, WHY
 from live.game.looks import AFTER_RESULT, OVER, Look
 from live.game.reply import BACK, OK, REOPENS
+from live.game.way_back import NO_RESULT
+from live.words.message import Message, has, is_of, linked
 
 MOVES = "Nf3 Nc6"  # examples
 FROM_THE_START = "e4 e5 Nf3 Nc6"
 PLY = "13... Nf6"
-IN_MEMORY = "what comes is kept in memory, and is tried again each second"
-AT_THE_CABLE = "look at the cable, the board's power, whether it is the right device, and whether another program has it open; it is asked again and again"
-PLUG_IN = "plug it in again; the recording then goes on"
-AT_THE_SERVER = "look at the serial server, its power and its network; it is tried again and again"
-HOLD_A_KING = "lift a king and hold it until all is typed"
-GO_BACK = {WHY["TAKEN-BACK"]: 4, WHY["UNPRESSED"]: 5}  # plies that go, if the players took them back, or only tried them
+IN_MEMORY = Message("advice.in_memory")
+AT_THE_CABLE = Message("advice.at_the_cable")
+PLUG_IN = Message("advice.plug_in")
+AT_THE_SERVER = Message("advice.at_the_server")
+HOLD_A_KING = Message("advice.hold_a_king")
+GO_BACK: Dict[str, int] = {WHY["TAKEN-BACK"]: 4, WHY["UNPRESSED"]: 5}  # plies that go, if the players took them back, or only tried them
+
+WITH_A_LINE = (
+    *("advice.missing", "advice.wrong", "advice.no_start", "advice.cables", "advice.look", "advice.no_result"),
+    *("screen.other_address", "row.write_device"),
+)  # the keys of what says that something is to be typed
 
 Typed = Callable[[str], str]  # how a line is typed for this board: in a round with its number
 
@@ -42,28 +50,24 @@ class Moves:
 
 def missing(typed: Typed) -> str:
     """What to do if moves were missed."""
-    return f"leave the pieces, and type these moves, as {typed(MOVES)}"
+    return Message("advice.missing", moves=typed(MOVES))
 
 
 def of_state(state: State, typed: Typed) -> List[str]:
     """About a state, apart from what somebody must look at."""
     told: List[str] = []
     if state.disk:
-        told.append(f"{mend_of(state.disk == DISK_FULL)}: {IN_MEMORY}")
+        told.append(linked("colon", (mend_of(state.disk == DISK_FULL), IN_MEMORY)))
     if state.hint == OTHER_BOARD:
-        told.append(f"Is it the game's board? Then {missing(typed)}. Else put the cables right")
+        told.append(Message("advice.other_board", missing=missing(typed)))
     elif state.kind is Kind.WRONG:
-        told.append(
-            f"Is a piece on a wrong square? Put it right. Did the board miss moves? Then {missing(typed)}. Does the game have moves that "
-            f"weren't played? Then leave the pieces, type {typed(BACK)} and the last move that is right, as {typed(f'{BACK} {PLY}')}, and then "
-            "what was played"
-        )
+        told.append(Message("advice.wrong", missing=missing(typed), back=typed(BACK), back_to=typed(f"{BACK} {PLY}")))
     elif state.kind is Kind.NO_START:
-        told.append(f"Set up the start. Is a game being played already? Then leave the pieces, and type all its moves so far, as {typed(FROM_THE_START)}")
+        told.append(Message("advice.no_start", moves=typed(FROM_THE_START)))
     elif state.kind is Kind.SILENT:
-        told.append(capital(AT_THE_CABLE))
+        told.append(Message("join.capital", text=AT_THE_CABLE))
     elif state.kind is Kind.UNPLUGGED:
-        told.append(capital(state.line or PLUG_IN))
+        told.append(Message("join.capital", text=state.line or PLUG_IN))
     return told
 
 
@@ -71,31 +75,33 @@ def of_line(is_server: bool, otherwise: str) -> str:
     """How a line is there again. If it has never been there, `otherwise` says what to do about its device or its address."""
     if not otherwise:
         return AT_THE_SERVER if is_server else PLUG_IN
-    return f"look at the serial server, its power and its network. Is it another address? {otherwise}" if is_server else f"plug it in. Is it another device? {otherwise}"
+    if is_server:
+        return Message("advice.server_or_address", otherwise=otherwise)
+    return Message("advice.plug_in_or_device", otherwise=otherwise)
 
 
 def of_look(look: Look, typed: Typed, moves: Moves) -> str:
     """About something that somebody must look at: what to type if the game is right as it is, and what else."""
     otherwise = if_not(look, typed, moves)
-    return closing(look, typed) + (f"; {otherwise}" if otherwise else "")
+    return linked("semicolon", filter(None, (closing(look, typed), otherwise)))
 
 
 def closing(look: Look, typed: Typed) -> str:
     """What to type if it is right as it is. Before the first move `ok` takes the board on a cable for its game: so the cables come first."""
-    return f"Once the cables are right, type {typed(OK)}" if look.about == WHERE else f"Look at it, and type {typed(OK)}"
+    return Message("advice.cables", ok=typed(OK)) if look.about == WHERE else Message("advice.look", ok=typed(OK))
 
 
 def if_not(look: Look, typed: Typed, moves: Moves) -> str:
     """What to do if it isn't; empty if the words say that."""
     where, _, ply = look.what.partition(" ")
     if look.about == OVER:
-        if "from the start" in look.why and "without a result" in look.why:
-            return f"if the game begins only now, type {typed(f'{BACK} {NO_PLIES}')}: it has these moves then"
-        return f"if the game isn't over, type {typed(REOPENS)}: it goes on with these moves"
+        if is_of(look.why, "look.moves_from_the_start") and look.why.endswith(over(NO_RESULT)):
+            return Message("advice.begins_now", back=typed(f"{BACK} {NO_PLIES}"))
+        return Message("advice.not_over", reopens=typed(REOPENS))
     if look.why == AFTER_RESULT:
-        return f"if this one is right, type {typed(REOPENS)}, and then the result"
+        return Message("advice.this_one_is_right", reopens=typed(REOPENS))
     if look.about.startswith(ABOUT_CLOCK):
-        return f"to take them off, {HOLD_A_KING}: {typed(f'{BACK} {NO_PLIES if ply == THE_START else ply}')}"
+        return Message("advice.take_off", hold=HOLD_A_KING, back=typed(f"{BACK} {(NO_PLIES if ply == THE_START else ply)}"))
     if look.why == WHY["OTHER-TIME"] or look.about == WHERE:
         return ""
     count = GO_BACK.get(look.why, 1)
@@ -103,26 +109,27 @@ def if_not(look: Look, typed: Typed, moves: Moves) -> str:
     if last is None or not moves.plies or ply == THE_START:
         return ""
     if last == moves.plies[-1]:
-        return f"if moves are missing, {HOLD_A_KING}, as {typed(MOVES)}"
-    back = f"{HOLD_A_KING}: {typed(f'{BACK} {last}')}"
-    return f"to take them off, {back}" if count > 1 else f"if moves are missing, {back}, and then what was played"
+        return Message("advice.moves_missing_at_the_end", hold=HOLD_A_KING, moves=typed(MOVES))
+    back = Message("advice.back", hold=HOLD_A_KING, back=typed(f"{BACK} {last}"))
+    return Message("advice.take_off_by", back=back) if count > 1 else Message("advice.moves_missing", back=back)
+
+
+def wants_a_line(advice: str) -> bool:
+    """Whether it says that something is to be typed."""
+    return any(has(advice, key) for key in WITH_A_LINE)
 
 
 def of_no_result(typed: Typed) -> str:
     """About a game that is over without a result."""
-    return f"Type its result, as {typed('1-0')}; if the game goes on, type {typed(REOPENS)}"
+    return Message("advice.no_result", result=typed("1-0"), reopens=typed(REOPENS))
 
-
-def capital(text: str) -> str:
-    """As a sentence begins."""
-    return text[:1].upper() + text[1:]
 
 
 def all_of(state: Optional[State], looks: Sequence[Look], over_without_result: bool, typed: Typed, moves: Moves) -> str:
     """All that is to be done about a board; empty if nothing is."""
-    told = [f"{look.text}. {of_look(look, typed, moves)}" for look in looks]
+    told = [linked("stop", (look.text, of_look(look, typed, moves))) for look in looks]
     if state:
         told += of_state(state, typed)
     elif over_without_result:
         told.append(of_no_result(typed))
-    return ". ".join(told)
+    return linked("stop", told)

@@ -13,6 +13,7 @@ from live.game.course import Course
 from live.game.game import Game
 from live.game.looks import Look
 from live.game.times import BEGIN, HEARD
+from live.game.way_back import reached
 from live.guard import Guard
 
 Attends = Callable[[HearsAnswers], Attending]
@@ -26,7 +27,7 @@ class Afterwards:
         self._attending.note_no_more()
         self.undecided = self._attending.undecided()  # what the board has sent, and was neither kept nor known to be another board's
         self._was_told = self.undecided  # and comes again, before all else
-        self._last, self._result = course.plies[-1].short if course.plies else "the start", course.result
+        self._last, self._result = reached(course.plies), course.result
         self._played = played
         if self._played:
             looks(went_on(self._last, self._played, self._result))

@@ -13,12 +13,11 @@ from live.game.forfeiting import drop_forfeit
 from live.game.forfeits import Forfeit, read_typed
 from live.game.naming import is_naming
 from live.game.reply import Answer, Refused, refusal
-from live.game.typed import ALL_WAYS, ONE_BOARD, WAYS, Acknowledged, Added, Back, Nothing, Quit, Reopened, Typed, with_more
+from live.game.typed import ONE_BOARD, WAYS, Acknowledged, Added, Back, Nothing, Quit, Reopened, Typed, with_more
 from live.refused import DONE
 from live.refused import Refused as Failed
 from live.steps import Steps
-
-OTHER_GAME = '{name} is another game: put its names right by {live} --white Ben {name}. If the name ends so, type name White="Ben {name}"'
+from live.words.message import Message
 
 
 class Arbiter:
@@ -34,11 +33,10 @@ class Arbiter:
         plan = self._obeying.plan
         named = plan.rules.series and name in (here, last.name if last else here)
         if plan.rules.series and not named and is_naming(text) and os.path.lexists(Paths(name).capture):
-            return refusal(text, Refused(OTHER_GAME.format(name=name, live=DGT_LIVE)))
+            return refusal(text, Refused(Message("naming.other_game", name=name, dgt_live=DGT_LIVE)))
         before = last if last and name == last.name else None
         status, answer = yield from self._obeyed(words if named else text, before, sure=named, may_quit=True)
-        is_list = answer.endswith((WAYS, ALL_WAYS))
-        return status, with_more(answer, *ONE_BOARD) if is_list else answer
+        return status, with_more(answer, *ONE_BOARD)
 
     def add(self, text: str, is_sure: bool) -> Steps[Answer]:
         """A line that was typed elsewhere."""
@@ -63,7 +61,7 @@ class Arbiter:
             return DONE, ""
         if isinstance(typed, Quit) and may_quit:
             self._games.end()
-            return DONE, "it ends"
+            return DONE, Message("typed.it_ends")
         if isinstance(typed, Acknowledged) and not before:
             return self._games.acknowledge()
         if before:

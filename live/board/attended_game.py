@@ -16,6 +16,7 @@ from live.game.times import BEGIN, BROUGHT, HEARD, LOOKED
 from live.guard import Guard
 from live.loop import Timer
 from live.terminal.screen import Screen
+from live.words.message import Message
 
 PATIENCE = 5.0  # seconds that the last answers may take
 
@@ -110,7 +111,7 @@ class AttendedGame:
         """The alarms have changed."""
         self._shows_looks()
         if self._alarms.trouble:
-            self._screen.say(f"{self.game.paths.look} can't be written ({text_of(self._alarms.trouble)}): it is tried again")
+            self._screen.say(Message("file.unwritten_again", path=self.game.paths.look, why=text_of(self._alarms.trouble)))
 
     def _shows_looks(self) -> None:
         """Shows them."""
@@ -127,7 +128,7 @@ class AttendedGame:
         """Tries again to keep the alarms beside the game."""
         self._alarms.keep()
         if not self._alarms.trouble:
-            self._screen.say(f"{self.game.paths.look} is written")
+            self._screen.say(Message("file.is_written", path=self.game.paths.look))
 
     # What is answered.
 

@@ -15,6 +15,7 @@ from live.game.making_pgn import Text
 from live.game.names import today
 from live.game.options import Options
 from live.game.reply import reason_of
+from live.words.message import Message
 
 
 def begin_next(game: Game, paths: Paths, content: bytes, looks: Looks) -> Game:
@@ -28,7 +29,7 @@ def begin_next(game: Game, paths: Paths, content: bytes, looks: Looks) -> Game:
 def not_begun(name: str, error: OSError) -> str:
     """That a game can't be begun, why, and what to do."""
     full = error.errno in NO_ROOM
-    return f"{trouble_of(full)}: {name} can't be begun ({reason_of(error)}). {mend_of(full)}: it is tried again"
+    return Message("board.not_begun", trouble=trouble_of(full), name=name, why=reason_of(error), mend=mend_of(full))
 
 
 def begin_anew(game: Game, content: bytes) -> Game:

@@ -40,10 +40,11 @@ from live.loop import Timer, Turns
 from live.refused import DONE, FAILED, Refused
 from live.steps import Steps, beside
 from live.terminal.screen import Screen
+from live.words.message import Message
 
 PAUSES = (2.0, 5.0, 10.0, 20.0, 40.0, 60.0)  # seconds between tries to record a board
-ENDED = "its recording has ended"
-BEING_OPENED = "the game is just being opened: type it again in a moment"
+ENDED = Message("board.ended")
+BEING_OPENED = Message("board.being_opened")
 
 
 @dataclass(frozen=True)
@@ -189,7 +190,7 @@ class Board:
             self._number = self._recorder.number
         self._guard = self._recorder = None
         if was_recorded:
-            self._lines.drop(Refused(FAILED, f"{ENDED}. Type it again"))
+            self._lines.drop(Refused(FAILED, Message("board.ended_again", ended=ENDED)))
 
     def _put_off(self, why: str, error: Optional[Exception]) -> None:
         """Not recorded, for this reason. It is tried again later unless it is ending."""
@@ -208,7 +209,7 @@ class Board:
             self._again = self._loop.after(PAUSES[min(self._tries, len(PAUSES) - 1)], self.begin)
             self._tries += 1
             if why != before:
-                self._screen.say(f"isn't recorded: {why}")
+                self._screen.say(Message("board.not_recorded", why=why))
         self._hears.changed()
 
     def placed(self) -> None:

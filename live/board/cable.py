@@ -18,8 +18,9 @@ from live.game.files import MEMORY
 from live.game.program import Program
 from live.game.times import HEARD, OPENED, TOOK
 from live.guard import Guard
-from live.refused import ANOTHER_CALL, printable
+from live.refused import printable, recorded_elsewhere
 from live.terminal.screen import Screen
+from live.words.message import Message
 
 NO_BOARD = (WAITS, UNPLUGGED)  # states that don't say whether the board answers
 
@@ -92,7 +93,7 @@ class Cable:
 
     def move_to(self, device: str) -> None:
         """The game's board is on this device."""
-        self._screen.say(f"the board with serial number {self.number} is on {device}, and is recorded there")
+        self._screen.say(Message("cable.recorded_there", number=self.number, device=device))
         self._device = device
         self._connection.move_to(device)
 
@@ -246,9 +247,9 @@ class Cable:
     def plugged(self) -> None:
         """The line is open."""
         if self._unplugged:
-            self._screen.say(f"{self.name} is there")
+            self._screen.say(Message("cable.is_there", name=self.name))
         elif self.name != self._device:
-            self._screen.say(f"{self._device} has the cable {self.name}: under that name it is waited for")
+            self._screen.say(Message("cable.waits_for", device=self._device, name=self.name))
         self._unplugged, self._was_plugged = False, True
         if self._hears.standing:
             self._hears.standing.plugged()
@@ -268,8 +269,7 @@ class Cable:
 
     def _gone(self) -> str:
         """That it isn't there, and what to do so that it is."""
-        why = self._connection.why
-        return f"{self.name} isn't there{f' ({printable(why)})' if why else ''}: {self._how_it_is_there()}"
+        return isnt_there(self.name, self._connection.why, self._how_it_is_there())
 
     def _how_it_is_there(self) -> str:
         """What to do so that it is there again."""
@@ -278,26 +278,33 @@ class Cable:
 
     def _gone_for_good(self) -> str:
         """Why it isn't there, if it isn't waited for; and what to do if it never was."""
-        why = f" ({printable(self._connection.why)})" if self._connection.why else ""
+        why = printable(self._connection.why)
         if self._was_plugged:
-            return f"{self._device} has gone away{why}"
-        looks = "look at the serial server, its power, its network and its address"
-        return f"{self._device} isn't there{why}: {looks if why else f'plug it in; {DGT_LIVE} --devices lists what is there'}"
+            return Message("cable.gone_why", device=self._device, why=why) if why else Message("cable.gone", device=self._device)
+        looks = Message("cable.look_at_the_server") if why else Message("cable.plug_in", dgt_live=DGT_LIVE)
+        return isnt_there(self._device, why, looks)
 
     def silence(self, silent: bool) -> None:
         """The board sends no dumps, or sends them again."""
         self._silent = silent
         self._connection.silence(silent)
         if silent:
-            self._screen.cable(f"no board answers on {self.name}: {advice.AT_THE_CABLE}")
+            self._screen.cable(Message("cable.no_answer", name=self.name, advice=advice.AT_THE_CABLE))
         else:
-            self._screen.say(f"the board on {self.name} answers again")
+            self._screen.say(Message("cable.answers_again", name=self.name))
         if self._hears.standing:
             self._hears.standing.silence(silent)
 
     def busy(self) -> None:
         """Another process has the line."""
-        self._hears.gone(f"{self._device} {ANOTHER_CALL}", False)
+        self._hears.gone(recorded_elsewhere(self._device), False)
+
+
+def isnt_there(name: str, why: str, advice: str) -> str:
+    """The message that a line isn't there: why, if that is known, and what to do."""
+    if why:
+        return Message("cable.isnt_there_why", name=name, why=printable(why), advice=advice)
+    return Message("cable.isnt_there", name=name, advice=advice)
 
 
 def keep(kept: List[bytes], sent: bytes) -> None:

@@ -12,6 +12,7 @@ from live.game.files import Capture, folder_of, text_of, unwritten
 from live.game.game import Game
 from live.game.making_pgn import Made
 from live.terminal.screen import Screen
+from live.words.message import Message
 
 
 class HearsDisk(Protocol):
@@ -40,7 +41,7 @@ class Disk:
             self.look()
         if self._capture.lost and not lost and not self._capture.at_limit:
             path = self._capture.path
-            self._screen.say(f"{path} couldn't be written for too long: what comes now is lost, up to a dump after it can be")
+            self._screen.say(Message("disk.lost", path=path))
         return kept
 
     def try_again(self) -> None:
@@ -59,12 +60,12 @@ class Disk:
         self._told = why
         if self._capture.waits:
             self._screen.say(
-                f"{trouble}: {self._capture.path} can't be written ({why}). {mend_of(full)}:",
+                Message("disk.unwritten", trouble=trouble, path=self._capture.path, why=why, mend=mend_of(full)),
                 IN_MEMORY,
             )
         elif not trouble:
             self._capture.lost = 0
-            self._screen.say(f"{'there is room again, and all' if before == DISK_FULL else 'all'} is written")
+            self._screen.say(Message("disk.room_again") if before == DISK_FULL else Message("disk.all_written"))
         self._standing.disk(trouble)
 
     def restore(self) -> bool:
@@ -76,11 +77,11 @@ class Disk:
             self._capture.renew(self._capture.bytes())
         except OSError as error:
             if text_of(error) != self._not_restored:
-                self._screen.say(f"{path} was removed, and can't be written anew ({text_of(error)}): it is tried each second")
+                self._screen.say(Message("disk.not_restored", path=path, why=text_of(error)))
             self._not_restored = text_of(error)
             return False
         self._not_restored = ""
-        self._screen.say(f"{path} was removed: it is written anew, whole")
+        self._screen.say(Message("disk.restored", path=path))
         self._hears.restored()
         return True
 

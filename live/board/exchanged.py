@@ -8,6 +8,7 @@ from typing import Optional, Sequence
 from live.board.whose import WHERE
 from live.device.protocol import differing, picture_of_placement
 from live.game.looks import Look
+from live.words.message import linked, plural
 
 TOGETHER = 60.0  # seconds between two cables that somebody may have exchanged
 APART = 2  # squares on which two boards that stand alike differ at most: a move was just made, or a piece is in a hand
@@ -51,6 +52,5 @@ def stand_alike(one: str, other: str) -> bool:
 def told_of_exchange(others: Sequence[int]) -> Look:
     """The message at one of them; the others are the boards with these numbers."""
     names = [str(number) for number in sorted(others)]
-    which = f"boards {', '.join(names[:-1])} and {names[-1]}, which stand" if len(names) > 1 else f"board {names[0]}, which stands"
-    why = f"it was away together with {which} alike, and no serial number tells them apart"
-    return Look(WHERE, f"{why}: see that each board is on its own cable", WHERE)
+    boards = linked("and", filter(None, (", ".join(names[:-1]), names[-1])))
+    return Look(WHERE, plural("cable.exchanged", len(names), boards=boards), WHERE)

@@ -9,6 +9,7 @@ from live.game.forfeits import NO_RESULT, Forfeit, refuse_played
 from live.game.reply import Answer
 from live.refused import DONE
 from live.steps import Steps
+from live.words.message import Message
 
 
 def forfeit(obeying: Obeying, typed: Forfeit) -> Steps[Answer]:
@@ -19,6 +20,6 @@ def forfeit(obeying: Obeying, typed: Forfeit) -> Steps[Answer]:
     keep_forfeit(paths, typed.kind, game.capture.total)
     if typed.result not in (NO_RESULT, has):
         yield from add(obeying, typed.result, sure=True)
-    obeying.screen.say(f"added by hand: {typed.words}")
+    obeying.screen.say(Message("typed.added_by_hand", what=typed.words))
     obeying.hears.placed()
-    return DONE, f"{paths.name}: {typed.words}: it isn't played"
+    return DONE, Message("forfeit.not_played_of", name=paths.name, words=typed.words)

@@ -19,9 +19,10 @@ from live.game.game import Game, end_mark
 from live.game.making_pgn import Made
 from live.game.report import Event, Picture, line_of
 from live.game.times import BEGIN
-from live.game.way_back import NO_RESULT
+from live.game.way_back import NO_RESULT, reached
 from live.guard import Guard
 from live.terminal.screen import Screen
+from live.words.message import Message, linked
 
 TICK = 1.0  # seconds between two checks
 MOST = 4 * 1024 * 1024  # bytes to watch, some fifteen hours
@@ -49,7 +50,7 @@ class Listening(AttendedGame):
     ) -> None:
         super().__init__(guard, screen, game, hears, before)
         self._hears = hears
-        self._last = course.plies[-1].short if course.plies else "the start"
+        self._last = reached(course.plies)
         self._result, self._plies = course.result, len(course.plies)
         is_at_start = course.result == NO_RESULT or not course.plies
         self._from_the_start = FromTheStart(self._last, course.result) if is_at_start else None
@@ -105,8 +106,8 @@ class Listening(AttendedGame):
 
     def _shows(self) -> None:
         """That the game is over, and what somebody must look at."""
-        over = "over, no result" if self._result == NO_RESULT else f"over {self._result}"
-        self._screen.over(f"{self.looks.short}; {over}" if self.looks.open else over)
+        over = Message("state.over_no_result") if self._result == NO_RESULT else Message("state.over_with", result=self._result)
+        self._screen.over(linked("semicolon", (self.looks.short, over)) if self.looks.open else over)
 
     def _reports(self, at: float, texts: List[str]) -> None:
         for line in filter(None, map(line_of, texts)):
@@ -149,7 +150,7 @@ class Listening(AttendedGame):
 
         def ended() -> None:
             if self.looks.open:
-                self._screen.say(f"in {self.game.paths.pgn}: {self.looks.all}")
+                self._screen.say(Message("look.in_text", pgn=self.game.paths.pgn, looks=self.looks.all))
             done(unwritten_of(self.game, Made()))
 
         self.settle(ended)

@@ -28,9 +28,10 @@ from live.game.reply import Answer, Refused
 from live.guard import Guard
 from live.steps import Resume, Steps, beside
 from live.terminal.screen import Screen
+from live.words.message import Message
 
 TRIES = 3  # calls before what the board sends is held
-JUST_ENDED = "the game is just being ended. Type it again"
+JUST_ENDED = Message("typed.just_ended")
 Answered = TypeVar("Answered")
 Result = TypeVar("Result")
 
@@ -109,8 +110,8 @@ class Obeying:
             raise Refused(JUST_ENDED)
         capture = games.game.capture
         if capture.waits:
-            why = "the disk is full" if capture.full else f"{capture.path} can't be written ({capture.trouble})"
-            raise Refused(f"{why}, and nothing can be {done}. {mend_of(capture.full)}, and type it again")
+            why = Message("disk.is_full") if capture.full else Message("file.unwritten_so", path=capture.path, why=capture.trouble)
+            raise Refused(Message("typed.nothing_can_be", why=why, done=done, mend=mend_of(capture.full)))
         return games.now
 
     def asked(self, done: str, asks: Callable[[bytes], Answered]) -> Steps[Answered]:
@@ -135,7 +136,7 @@ class Obeying:
             attending = now.attending
             yield lambda resume: self._once_settled(attending, resume)
             if not attending.is_settled:
-                raise Refused(f"nothing can be {done} just now. Type it again")
+                raise Refused(Message("typed.not_now", done=done))
 
     def _once_settled(self, attending: Attending, resume: Resume) -> None:
         """Resumes then, or after a while."""
@@ -159,10 +160,10 @@ class Obeying:
         is refused, everything stays as it was."""
         games, now = self.games, self.games.now
         if not isinstance(now, (Listening, SettingUp)) or games.begins_anew or games.game.capture.waits:
-            raise Refused(f"nothing can be {done} just now. Type it again")
+            raise Refused(Message("typed.not_now", done=done))
         yield from self.held(done)
         if games.now is not now:
-            raise Refused(f"nothing can be {done} just now. Type it again")
+            raise Refused(Message("typed.not_now", done=done))
         now.pause()
         try:
             changed = yield from self.beside(change)

@@ -7,17 +7,18 @@ from dataclasses import dataclass
 
 from live.called import DGT_LIVE
 from live.game.course import Course
+from live.words.message import Message
 
 
 class Reason(enum.Enum):
     """Why a game is over."""
 
-    RESULT = "it has a result"
-    TYPED = "its result was given"
-    PLAYS_ON = "another move was made after its result"
-    CORRECTED = "its last move was corrected after its result"
-    SET_UP = "the pieces are at the start again"
-    LIMIT = "its capture is full"
+    RESULT = Message("over.has_a_result")
+    TYPED = Message("over.result_given")
+    PLAYS_ON = Message("over.played_on")
+    CORRECTED = Message("over.corrected")
+    SET_UP = Message("over.set_up")
+    LIMIT = Message("over.capture_full")
 
 
 SAID = {"PLAYS-ON": Reason.PLAYS_ON, "CORRECTED": Reason.CORRECTED, "UNFINISHED": Reason.SET_UP}  # by the program's word
@@ -44,18 +45,21 @@ def told(reason: Reason, result: str, goes_on: str, reopens: str, is_alone: bool
     """Why a game is over, and what to do then. `result`, `goes_on` and `reopens` are what to type, the first two also once nobody listens
     any more. Nothing comes after a game that is alone."""
     if reason is Reason.SET_UP:
-        return f"{reason.value}. Type its result, as {result}; if the game goes on, {goes_on}"
+        return Message("over.type_result", why=reason.value, result=result, goes_on=goes_on)
     if reason in PLAYED_ON:
-        last = f". Was it the last move? Type {reopens}, then the result" if reason is Reason.PLAYS_ON else ""
-        return f"{reason.value}. If it goes on, type {reopens}{'; else q ends the recording' if is_alone else ''}{last}"
+        if is_alone:
+            goes_on = Message("over.if_it_goes_on_alone", why=reason.value, reopens=reopens)
+        else:
+            goes_on = Message("over.if_it_goes_on", why=reason.value, reopens=reopens)
+        return Message("over.last_move", goes_on=goes_on, reopens=reopens) if reason is Reason.PLAYS_ON else goes_on
     return str(reason.value)
 
 
 def told_of_before(name: str, course: Course) -> str:
     """What to do with a game that was over before this call began."""
     if course.is_given:
-        goes_on = f'To go on with it all the same: {DGT_LIVE} --add "*" {name}'
+        goes_on = Message("over.add_reopens", dgt_live=DGT_LIVE, name=name)
     else:
         last = course.plies[-2].short if len(course.plies) > 1 else "0"
-        goes_on = f'If its last move was another one: {DGT_LIVE} --back "{last}" {name}'
-    return f"for another game choose another name. {goes_on}"
+        goes_on = Message("over.back_again", dgt_live=DGT_LIVE, last=last, name=name)
+    return Message("over.another_name", goes_on=goes_on)

@@ -41,6 +41,7 @@ from live.guard import Guard
 from live.loop import Callback
 from live.refused import DONE, FAILED, Broken, Refused
 from live.terminal.screen import Screen
+from live.words.message import Message, linked
 
 AGAIN = 1.0  # seconds between two tries to begin a game anew
 
@@ -106,10 +107,12 @@ class Recorder:
 
     def _record(self, opened: Opened, says: bool = True, remakes: bool = False) -> None:
         self._reason = None
-        ends = "" if self._plan.board else "; Ctrl-C ends it"  # an error there would end all boards
         paths = self.game.paths
         if says:
-            self._screen.say(f"records {self._plan.device or 'no board'} in {paths.capture} and {paths.pgn}{ends}")
+            device = self._plan.device or Message("table.no_board")
+            records = Message("board.records", device=device, capture=paths.capture, pgn=paths.pgn)
+            # In a round Ctrl-C would end all boards.
+            self._screen.say(records if self._plan.board else linked("semicolon", (records, Message("board.ctrl_c_ends"))))
         recording = Recording(self._guard, self._worker, self._screen, opened, self._plan.rules, self)
         self.course = recording.course
         self._look_at(recording)
@@ -120,8 +123,8 @@ class Recorder:
         """The game has ended."""
         self._reason = reason
         if reason is Reason.LIMIT and not self._plan.rules.series:
-            has = f"{self.game.paths.capture} has {mebibytes(self.game.options)} MiB"
-            self._refused = Refused(FAILED, f"{has}, and none may have more: go on under another name, with --fen")
+            has = Message("file.has", path=self.game.paths.capture, mebibytes=mebibytes(self.game.options))
+            self._refused = Refused(FAILED, Message("file.has_most_of_a_game", has=has))
         self._guard.after(0, self._close_game)
 
     def _close_game(self) -> None:
@@ -141,7 +144,7 @@ class Recorder:
             name, series, screen, is_alone = self.game.paths.name, self._plan.rules.series, self._screen, self._plan.is_alone
             types = screen.result_of(name, series), screen.goes_on(name, series), screen.reopens()
             more = [told_of_before(name, self.course)] if is_alone and before.was_over else []
-            screen.say(f"{name} is over: {told(self._reason, *types, is_alone)}", *more)
+            screen.say(Message("over.is_over", name=name, why=told(self._reason, *types, is_alone)), *more)
         self._closing = False
         if self._ending or not before or (unwritten and not self._plan.rules.series):
             self.now.close()
@@ -192,8 +195,8 @@ class Recorder:
                 mark_end(paths, self.game.capture, end)
                 self.game.times.over(end)
             except OSError as error:
-                self._screen.say(f"{paths.end} can't be written ({text_of(error)})")
-        self._screen.say(f"{self._next().name} begins when the pieces are at the start")
+                self._screen.say(Message("file.unwritten_so", path=paths.end, why=text_of(error)))
+        self._screen.say(Message("over.next_begins", name=self._next().name))
         self._look_for_start(end, self.course, before)
 
     def _look_for_start(self, end: int, course: Course, before: Optional[Recording] = None) -> None:
@@ -238,7 +241,7 @@ class Recorder:
         game, capture, is_next = self.game, self.game.capture.number, not self.begins_anew
         paths = self._next() if is_next else game.paths
         if is_next and os.path.exists(paths.pgn):
-            self._fail(f"{paths.pgn} is there without {paths.capture}: choose another name, or move it away")
+            self._fail(Message("name.text_alone", pgn=paths.pgn, capture=paths.capture))
             return None
         try:
             begun = begin_next(game, paths, content, self.looks) if is_next else begin_anew(game, content)
@@ -254,7 +257,7 @@ class Recorder:
         if is_next:
             self.before = game.paths
         else:
-            self._screen.say(f"the pieces have been set up: {paths.name} begins now")
+            self._screen.say(Message("board.set_up", name=paths.name))
         return begun
 
     def placed(self) -> None:
@@ -342,13 +345,13 @@ class Recorder:
         try:
             keep_serial(self.game.paths, number)
         except OSError as error:
-            self._screen.say(f"{self.game.paths.serial} can't be written ({text_of(error)})")
+            self._screen.say(Message("file.unwritten_so", path=self.game.paths.serial, why=text_of(error)))
 
     def another(self, number: str) -> None:
         """The board with this number is on its cable, not its own. If the table says which board is where, each is found by itself."""
         owner = self._hears.owner(number)
         if owner and (self._plan.serial or number == kept_other(self.game.paths)):
-            self._screen.say(f"{self.cable} has the board of {owner.name}, serial number {number}: it goes to that game")
+            self._screen.say(Message("cable.other_game", cable=self.cable, owner=owner.name, number=number))
         elif owner or not self._has_ended:
             self._strange |= {number} if owner is None else set()
             is_changing = owner is None and len(self._strange) > MOST_NUMBERS
@@ -394,7 +397,7 @@ class Recorder:
         if self.now and (ends or not self.standing):  # its game is over, or ends so
             self._guard.after(0, self.end)
             return
-        self._fail(f"{message}; what was played is in {self.game.paths.pgn}" if was_there else message)
+        self._fail(Message("board.gone_and_played", why=message, pgn=self.game.paths.pgn) if was_there else message)
 
     def _look_at(self, now: Union[Recording, SettingUp, Listening]) -> None:
         """From now on this takes the board's bytes and the cable's state."""
@@ -407,11 +410,11 @@ class Recorder:
 
     def broken(self, what: str) -> None:
         """A child process has ended again and again."""
-        played = f"what was played is in {self.game.paths.pgn}"
-        self._fail(f"a part of the program failed again and again ({what}); {played}", Broken)
+        played = Message("board.played_is_in", pgn=self.game.paths.pgn)
+        self._fail(Message("board.failed_again", what=what, played=played), Broken)
 
     def _fail(self, message: str, kind: Type[Refused] = Refused) -> None:
-        self._refused = self._refused or kind(FAILED, message, "Start again with the same NAME")
+        self._refused = self._refused or kind(FAILED, message, Message("board.start_again"))
         self._guard.after(0, self.end)
 
     # Typed lines.
@@ -460,7 +463,7 @@ class Recorder:
             self._screen.say(seen)
         if takes:
             self._cable.take()
-            seen = f"{seen}; the board with serial number {self.number} is recorded here"
+            seen = Message("look.acknowledged_and_taken", seen=seen, number=self.number)
         return DONE, seen
 
     # Ending.
@@ -484,5 +487,5 @@ class Recorder:
     def _all_closed(self, unwritten: str) -> None:
         forget_question(self.game.paths)
         if unwritten and self._refused is None:
-            self._refused = Refused(FAILED, unwritten, "When that is put right, start again with the same NAME")
+            self._refused = Refused(FAILED, unwritten, Message("board.start_again_when_right"))
         self._hears.stopped(self._refused)

@@ -28,6 +28,7 @@ from live.game.times import ADDED, BACK, HEARD, OVER, REOPENED
 from live.guard import Guard
 from live.steps import Resume, Steps
 from live.terminal.screen import Screen
+from live.words.message import Message, linked
 
 TICK = 1.0  # seconds between two looks at what waits
 LARGE = 48 * 1024 * 1024  # bytes of a capture, at which somebody may still look at its board
@@ -142,7 +143,7 @@ class Recording(AttendedGame):
         self._away = self._guard.away.seconds
         self._left = self._heard_at, unheard > 0
         if unheard:
-            self._screen.say(f"this computer slept, or the recorder was stopped, for {lasting(unheard)}: the board wasn't heard")
+            self._screen.say(Message("board.slept", time=lasting(unheard)))
         self._was_away, self.standing.was_away = True, False
 
     def _write(self, sent: bytes) -> int:
@@ -151,8 +152,8 @@ class Recording(AttendedGame):
             self._is_large = True
             most = mebibytes(self.game.options)
             self._screen.say(
-                f"{capture.path} has 48 MiB, and none may have more than {most}: does a piece stand badly, and its square chatter?",
-                f"At {most} MiB the recording ends; the game can go on under another name, with --fen",
+                Message("file.large", path=capture.path, mebibytes=most),
+                Message("file.large_ends", mebibytes=most),
             )
         if capture.size >= LARGE and capture.at_limit:
             self._end(Reason.LIMIT)
@@ -182,7 +183,7 @@ class Recording(AttendedGame):
         self._maker.wake()
         if self._faults:
             more = len(self._faults) - 1
-            self._screen.note(self._faults[0] + (f", and {more} more" if more else ""))
+            self._screen.note(Message("board.faults", fault=self._faults[0], count=more) if more else self._faults[0])
             self._faults.clear()
         self.standing.lasts()
 
@@ -227,7 +228,7 @@ class Recording(AttendedGame):
         is_old = offset < self._old
         if isinstance(event, Fault):
             if not is_old:
-                self._faults.append(f"{event.words} at {offset}")
+                self._faults.append(Message("board.fault", fault=event.words, offset=offset))
             return
         self.course.take(line, came)
         if isinstance(event, (Position, Clock)):
@@ -279,12 +280,11 @@ class Recording(AttendedGame):
         if result == "*" or self._is_over or self.end is not None:  # the game was over before
             return
         if result == self._typed:
-            how = self._screen.mistyped()
+            self._screen.say(linked("semicolon", filter(None, (Message("over.ends_in", seconds=STANDS), self._screen.mistyped()))))
         elif self.course.is_given:
-            how = f"; if the game goes on, put the kings where they belong, and type {self._screen.reopens()}"
+            self._screen.say(Message("over.ends_soon_kings", seconds=STANDS, reopens=self._screen.reopens()))
         else:
-            how = ", unless the last move is corrected"
-        self._screen.say(f"ends in {STANDS} seconds{how}")
+            self._screen.say(Message("over.ends_soon", seconds=STANDS))
 
     def says(self, text: str) -> None:
         """A child has ended, and is started again."""
@@ -306,8 +306,8 @@ class Recording(AttendedGame):
         if self._disk.restore():
             return  # the capture was gone, and is there again
         self._screen.say(
-            f"{self.game.paths.pgn} can't be written ({made.trouble}); {self.game.paths.capture} is. {mend_of(made.full)}:",
-            "it is tried again and again",
+            Message("text.unwritten", pgn=self.game.paths.pgn, why=made.trouble, capture=self.game.paths.capture, mend=mend_of(made.full)),
+            Message("text.tried_again"),
         )
         self._disk.look()
 
@@ -382,14 +382,14 @@ class Recording(AttendedGame):
         if reason is Reason.CORRECTED and self.dropped:
             self.look_at(corrected(self.dropped[0].short))
         elif not over.sure:
-            self._screen.say(f"LOOK at the last moves of {self.game.paths.pgn}: where the game ended isn't sure")
+            self._screen.say(Message("over.end_not_sure", pgn=self.game.paths.pgn))
         self._end(reason)
 
     def _say_what_is_dropped(self, end: int) -> None:
         known = [ply for ply, at in zip(self.course.plies, self.course.ends) if at >= end]
         dropped = [*known, *self.dropped]
         if dropped:
-            self._screen.say(f"taken for setting up, and not for moves: {'; '.join(ply.words for ply in dropped)}")
+            self._screen.say(Message("over.dropped", plies="; ".join(ply.words for ply in dropped)))
 
     def _plays_on(self, moves: int, is_known: bool) -> None:
         self.played = moves
@@ -425,7 +425,7 @@ class Recording(AttendedGame):
             mark_end(paths, self.game.capture, self.game.capture.size if self.end is None else self.end)
             self._note_end()
         except OSError as error:
-            self._screen.say(f"{paths.end} can't be written ({text_of(error)})")
+            self._screen.say(Message("file.unwritten_so", path=paths.end, why=text_of(error)))
 
     def _note_end(self) -> None:
         size = self.game.capture.total if self.end is None else self.end
@@ -445,11 +445,11 @@ class Recording(AttendedGame):
         pgn, course = self.game.paths.pgn, self.course
         if course.recovered:
             pairs = "; ".join(pair.replace("recovered ", "") for pair in course.recovered)
-            self._screen.say(f"recovered in {pgn}, look whether they were played: {pairs}")
+            self._screen.say(Message("text.recovered", pgn=pgn, pairs=pairs))
         if self.looks.open and not self._is_watched:
-            self._screen.say(f"in {pgn}: {self.looks.all}")
+            self._screen.say(Message("look.in_text", pgn=pgn, looks=self.looks.all))
         if self._typed not in ("", course.result):
-            self._screen.say(f"LOOK at {pgn}: its result should be {self._typed}, and isn't")
+            self._screen.say(Message("text.other_result", pgn=pgn, result=self._typed))
         self._maker.limit = self.end
         self._maker.finish(lambda written: self._done(unwritten_of(self.game, Made() if written else self._maker.last)))
 

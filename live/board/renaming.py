@@ -15,8 +15,9 @@ from live.game.options import Options
 from live.game.reply import Answer, Refused
 from live.refused import DONE
 from live.steps import Steps
+from live.words.message import Message, linked
 
-RENAMED = "renamed"
+RENAMED = Message("done.renamed")
 
 
 def rename(obeying: Obeying, text: str) -> Steps[Answer]:
@@ -49,7 +50,7 @@ def _rename_last(obeying: Obeying, text: str) -> Steps[Answer]:
 def _renamed(obeying: Obeying, told: str) -> Answer:
     obeying.screen.say(told)
     obeying.hears.placed()
-    return DONE, f"{obeying.games.game.paths.name}: {told}"
+    return DONE, linked("colon", (obeying.games.game.paths.name, told))
 
 
 def _kept(game: Game, text: str) -> Options:

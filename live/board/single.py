@@ -28,6 +28,7 @@ from live.guard import traced
 from live.loop import Callback, Loop
 from live.refused import DONE, FAILED, REFUSED, Broken, Refused
 from live.terminal.screen import Screen
+from live.words.message import Message, linked
 
 QUITS = ("q", "quit")
 
@@ -203,10 +204,10 @@ class Single:
         """The board's state in words, since when, and whether it is an alarm."""
         state, now = self.board.state, self._loop.now()
         if self.board.trouble:
-            return f"NOT RECORDED: {self.board.trouble}", None, True
+            return Message("state.not_recorded", why=self.board.trouble), None, True
         if state is None:
             look = self.board.looks.short
-            return (f"{look}; over" if look else "over"), None, bool(look)
+            return linked("semicolon", filter(None, (look, Message("state.over")))), None, bool(look)
         since = None if state.kind is Kind.WAITS else state.since
         return state._replace(since=now).text(now), since, state.is_alarm
 
@@ -230,14 +231,14 @@ def why_over(paths: Paths, given: Options, kept: Options) -> Optional[Refused]:
     """The refusal of a game that is over, or whose capture is full; None if it goes on."""
     if end_mark(paths) is not None:
         what = [
-            f"{paths.name} is over: choose another name. To add to it: {DGT_LIVE} --add 1-0 {paths.name}.",
-            f'To go on with it all the same: {DGT_LIVE} --add "*" {paths.name}',
+            Message("over.choose_another", name=paths.name, dgt_live=DGT_LIVE),
+            Message("over.add_reopens", dgt_live=DGT_LIVE, name=paths.name),
         ]
         reading = " ".join(as_typed(given.reading().words()))
         if reading:
-            what.append(f"For --first, --recover and --strict leave the device out: {DGT_LIVE} {reading} {paths.name}")
+            what.append(Message("over.reading", dgt_live=DGT_LIVE, options=reading, name=paths.name))
         return Refused(REFUSED, *what)
     options = kept.with_given(given)
     if size_of(paths.capture) >= largest(options):
-        return Refused(REFUSED, f"{paths.capture} has {mebibytes(options)} MiB, and none may have more: choose another name")
+        return Refused(REFUSED, Message("file.full", path=paths.capture, mebibytes=mebibytes(options)))
     return None

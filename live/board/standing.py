@@ -6,6 +6,7 @@ from live.board.state import TURNED_ROUND, BoardState, Kind, State
 from live.game.attended import Stood
 from live.loop import Turns
 from live.terminal.screen import Screen
+from live.words.message import linked
 
 IN_A_SET_UP = (Kind.WAITS, Kind.AGREES, Kind.IN_HAND)  # states that say nothing while no game is played
 
@@ -15,7 +16,7 @@ class Standing:
 
     def __init__(self, loop: Turns, screen: Screen, rotated: bool, played: bool = True) -> None:
         self._loop, self._screen, self._played = loop, screen, played
-        self.board = BoardState(f"{TURNED_ROUND} {screen.turn(rotated)}")
+        self.board = BoardState(linked("space", (TURNED_ROUND, screen.turn(rotated))))
         self.was_away = False  # unplugged or silent since it was last heard
         self._hint = ""
         self._closed = False

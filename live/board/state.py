@@ -20,11 +20,12 @@ from dataclasses import dataclass
 from typing import NamedTuple, Optional, Tuple
 
 from live.game.attended import UNSEEN, Stood
+from live.words.message import Message, has, linked
 
 MOST_LISTED = 8
-TURNED_ROUND = "is the board turned round?"
-OTHER_BOARD = "another board may be on this cable"
-DISK_FULL, NOT_WRITTEN = "DISK FULL", "NOT WRITTEN"  # the disk has no room, or a file can't be written for another reason
+TURNED_ROUND = Message("state.turned_round")
+OTHER_BOARD = Message("state.other_board")
+DISK_FULL, NOT_WRITTEN = Message("state.disk_full"), Message("state.not_written")  # there is no room, or another reason
 
 
 def trouble_of(full: bool) -> str:
@@ -34,21 +35,21 @@ def trouble_of(full: bool) -> str:
 
 def mend_of(full: bool) -> str:
     """What to do about it."""
-    return "Make room" if full else "Put that right"
+    return Message("disk.make_room") if full else Message("disk.put_right")
 
 
 class Kind(enum.Enum):
     """What an arbiter reads first."""
 
-    WAITS = "waits for the board"
-    AGREES = "agrees"
-    RESULT = "result"
-    IN_HAND = "in hand"
-    WRONG = "WRONG"
-    NO_START = "NO START"
-    SETTING_UP = "setting up"
-    SILENT = "SILENT"
-    UNPLUGGED = "UNPLUGGED"
+    WAITS = Message("state.waits")
+    AGREES = Message("state.agrees")
+    RESULT = Message("state.result")
+    IN_HAND = Message("state.in_hand")
+    WRONG = Message("state.wrong")
+    NO_START = Message("state.no_start")
+    SETTING_UP = Message("state.setting_up")
+    SILENT = Message("state.silent")
+    UNPLUGGED = Message("state.unplugged")
 
     @staticmethod
     def of(word: str) -> Kind:
@@ -88,37 +89,39 @@ class State(NamedTuple):
 
     def parts(self, most_listed: int = MOST_LISTED) -> Tuple[str, str]:
         """The words of the state before and after its duration. More than `most_listed` squares are only counted."""
-        words = " ".join(self.squares) if len(self.squares) <= most_listed else f"{len(self.squares)} squares"
-        front, rest = self.kind.value, ""
+        words = " ".join(self.squares) if len(self.squares) <= most_listed else Message("state.squares", count=len(self.squares))
+        front: str = self.kind.value
+        rest = ""
         if self.kind is Kind.RESULT:
-            front += f" {self.result}"
+            front = linked("space", (front, self.result))
         elif words:
-            rest = f" {words}" if self.kind is Kind.IN_HAND else f": {words}"
-        if self.hint.startswith(TURNED_ROUND):
+            rest = linked("space" if self.kind is Kind.IN_HAND else "colon", ("", words))
+        if has(self.hint, "state.turned_round"):
             front, rest = self.hint, ""  # it says why the board is being set up, and leaves no room for more
         elif self.hint:
-            rest += f"; {self.hint}"
+            rest = linked("semicolon", (rest, self.hint))
         if self.look and (self.kind in ALARMS or self.hint):
-            rest += f"; {self.look}"
+            rest = linked("semicolon", (rest, self.look))
         elif self.look:
-            front, rest = self.look, f"; {front}{rest}"
-        return (f"{self.disk}, {front}" if self.disk else front), rest
+            front, rest = self.look, linked("semicolon", ("", linked("nothing", (front, rest))))
+        return (linked("comma", (self.disk, front)) if self.disk else front), rest
 
     def text(self, now: float, most_listed: int = MOST_LISTED) -> str:
         """The state in a line."""
         front, rest = self.parts(most_listed)
-        lasts = f" since {lasting(now - self.since)}" if self.kind in ALARMS and now >= self.since + 1 else ""
-        return front + lasts + rest
+        if self.kind in ALARMS and now >= self.since + 1:
+            front = Message("state.since", state=front, time=lasting(now - self.since))
+        return linked("nothing", (front, rest))
 
 
 def lasting(seconds: float) -> str:
     """A duration in words: `40 s`, `3 min`, `2 h 05 min`."""
     whole = max(0, math.floor(seconds))
     if whole < 120:
-        return f"{whole} s"
+        return Message("time.seconds", seconds=whole)
     if whole < 7200:
-        return f"{whole // 60} min"
-    return f"{whole // 3600} h {whole // 60 % 60:02} min"
+        return Message("time.minutes", minutes=whole // 60)
+    return Message("time.hours", hours=whole // 3600, minutes=f"{whole // 60 % 60:02}")
 
 
 @dataclass

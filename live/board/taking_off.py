@@ -23,8 +23,9 @@ from live.game.typed import Back
 from live.game.way_back import ALL, NO_RESULT, Way, nothing_goes, refuse, way_of
 from live.refused import DONE
 from live.steps import Steps
+from live.words.message import Message, linked
 
-TAKEN_OFF = "taken off"
+TAKEN_OFF = Message("done.taken_off")
 
 
 def take_result_off(obeying: Obeying) -> Steps[Answer]:
@@ -59,7 +60,7 @@ def go_back(obeying: Obeying, typed: Back) -> Steps[Answer]:
         games.course = course
         obeying.hears.placed()
         games.watch_on()
-    return DONE, f"{game.paths.name}: {done}"
+    return DONE, linked("colon", (game.paths.name, done))
 
 
 def _put(obeying: Obeying, to: str) -> Steps[str]:
@@ -86,10 +87,10 @@ def _put(obeying: Obeying, to: str) -> Steps[str]:
         yield from _begin_anew(obeying)
         raise
     games.record_anew(opened)
-    done = f"{way.words}. {kept}"
+    done = linked("stop", (way.words, kept))
     obeying.screen.say(done)
     obeying.hears.placed()
-    return f"{paths.name}: {done}"
+    return linked("colon", (paths.name, done))
 
 
 def _unforfeited(obeying: Obeying, plies: Sequence[Move]) -> str:
@@ -98,7 +99,7 @@ def _unforfeited(obeying: Obeying, plies: Sequence[Move]) -> str:
     done = unforfeited(paths, plies)
     obeying.screen.say(done)
     obeying.hears.placed()
-    return f"{paths.name}: {done}"
+    return linked("colon", (paths.name, done))
 
 
 def _go_on(obeying: Obeying, said: str) -> Steps[None]:

@@ -7,8 +7,9 @@ from dataclasses import dataclass
 from typing import Optional
 
 from live.game.looks import Look
+from live.words.message import Message, linked
 
-WHERE = "at the cable"
+WHERE = Message("look.at_the_cable")
 MOST_NUMBERS = 3  # of boards that nobody knows, each of which is named on a cable
 
 
@@ -28,19 +29,18 @@ def may_take(owner: Optional[Owner], has_moves: bool) -> bool:
 def another(own: str, shown: str, owner: Optional[Owner], has_moves: bool) -> Look:
     """The message about a board with another number on the cable of a game."""
     if owner is None:
-        has = f"it has the board with serial number {shown}, and not {own}: what it sends is kept back"
-        return Look(WHERE, f"{has}. Put the cables right; if this board is to be recorded here, ok takes it", WHERE)
-    has = f"it has the board of {owner.name}, serial number {shown}, and not {own}"
-    right = "; if they are right now, ok takes this board" if may_take(owner, has_moves) else ""
-    return Look(WHERE, f"{has}: what it sends goes to the game of {owner.name}. Put the cables right{right}", WHERE)
+        has = Message("cable.unknown_board", number=shown, own=own)
+        return Look(WHERE, Message("cable.unknown_board_taken", has=has), WHERE)
+    of_owner = Message("cable.board_of_another", owner=owner.name, number=shown, own=own)
+    return Look(WHERE, linked("semicolon", (of_owner, Message("cable.may_take"))) if may_take(owner, has_moves) else of_owner, WHERE)
 
 
 def changing(own: str) -> Look:
     """The message about a board that gives another number again and again."""
-    has = f"it has a board that gives one serial number after the other, and not {own}: what it sends is kept back"
-    return Look(WHERE, f"{has}. Put the cables right, or take another board", WHERE)
+    has = Message("cable.changing_numbers", own=own)
+    return Look(WHERE, Message("cable.changing_advice", has=has), WHERE)
 
 
 def back(own: str, other: str) -> Look:
     """The message when the game's own board is on the cable again."""
-    return Look(WHERE, f"it had the board with serial number {other}; its own, {own}, is back", WHERE)
+    return Look(WHERE, Message("cable.own_is_back", other=other, own=own), WHERE)

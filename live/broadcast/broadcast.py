@@ -31,6 +31,7 @@ from live.loop import Loop, Timer
 from live.refused import Refused
 from live.round.published import Published
 from live.web.view import round_pgn
+from live.words.message import Message, linked
 
 GATHERED = 0.05  # seconds in which changes are gathered if a page shows them
 FOR_A_FILE = 0.5  # the same if they only go to a file
@@ -398,16 +399,18 @@ class Broadcast:
     @property
     def told_of_alarm(self) -> str:
         """That the text can't be carried away, and why; empty if it can."""
-        name = f"output {self._out.name}: " if self._out.name else ""
-        return f"{NOT_PUBLISHED}: {name}{self.alarm}" if self.alarm else ""
+        if not self.alarm:
+            return ""
+        of_output = [Message("output.called", name=self._out.name)] if self._out.name else []
+        return linked("colon", (NOT_PUBLISHED, *of_output, self.alarm))
 
     def published(self, trouble: str) -> None:
         """A run of the command has ended, with what went wrong, or nothing."""
         before, self.alarm = self.alarm, trouble
         if trouble and trouble != before:
-            self._hears.say(f"{self.told_of_alarm}; it is tried again")
+            self._hears.say(Message("broadcast.again", alarm=self.told_of_alarm))
         elif before and not trouble:
-            self._hears.say(f"{self._place} is published again")
+            self._hears.say(Message("broadcast.is_out_again", place=self._place))
         if trouble != before:
             self._hears.changed()
 
@@ -447,4 +450,4 @@ class Broadcast:
         """Lets nothing further go out. Returns what was wrong at the end."""
         self._closed = True
         self._guard.end()
-        return [f"{self._place} isn't published: {self.alarm}"] if self.alarm else []
+        return [Message("broadcast.is_not_out", place=self._place, why=self.alarm)] if self.alarm else []

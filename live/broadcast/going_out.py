@@ -13,6 +13,7 @@ from typing import Optional, Sequence, Tuple
 from live.game.file_names import has_delay, owners_of
 from live.game.files import NO_SUCH_FILE, Paths, beginning, existing, not_written, put_in_place, remove, text_of
 from live.refused import ARGUMENTS, FAILED, REFUSED, Refused
+from live.words.message import Message, linked
 
 MINUTE = 60.0
 LONGEST = 24 * 60 * MINUTE  # seconds
@@ -43,7 +44,7 @@ def read_delay(text: str) -> float:
     """`15` minutes in seconds. Refused if the text is not such a number."""
     seconds = seconds_in(text)
     if seconds is None:
-        raise Refused(ARGUMENTS, f"--delay {text!r}: it is a number of minutes, as 15; 0 is for no delay")
+        raise Refused(ARGUMENTS, Message("option.delay", value=repr(text)))
     return seconds
 
 
@@ -51,7 +52,7 @@ def read_hold(text: str) -> float:
     """`2` seconds. Refused if the text is not such a number."""
     front, dot, rest = text.partition(".")
     if not (front + rest).isdecimal() or not text.isascii() or len(text) > 8 or float(text) > LONGEST_HOLD:
-        raise Refused(ARGUMENTS, f"--hold {text!r}: it is a number of seconds up to 60, as 2; with 0 each move goes out at once")
+        raise Refused(ARGUMENTS, Message("option.hold", value=repr(text)))
     return float(text)
 
 
@@ -61,11 +62,11 @@ def read_command(text: str, option: str = "--publish") -> Tuple[str, ...]:
         words = tuple(shlex.split(text))
     except ValueError:
         words = ()
-        why = "a quote in it isn't closed"
+        why: str = Message("option.open_quote")
     else:
-        why = "it is a command, as /home/anna/copy.sh"
+        why = Message("option.command")
     if not words:
-        raise Refused(ARGUMENTS, f"{option}: {why}")
+        raise Refused(ARGUMENTS, linked("colon", (option, why)))
     return (in_home(words[0]), *words[1:])
 
 
@@ -77,7 +78,7 @@ def in_home(text: str) -> str:
 def minutes(seconds: float) -> str:
     """`15 minutes`."""
     whole = f"{seconds / MINUTE:.2f}".rstrip("0").rstrip(".")
-    return f"{whole} minute{'' if whole == '1' else 's'}"
+    return Message("time.one_minute") if whole == "1" else Message("time.whole_minutes", minutes=whole)
 
 
 def kept_delay(paths: Paths) -> float:
@@ -92,11 +93,11 @@ def _given_last(paths: Paths) -> float:
     except OSError as error:
         if error.errno in NO_SUCH_FILE:
             return 0.0
-        raise Refused(FAILED, f"{paths.delay} can't be read ({text_of(error)}): give --delay, or remove it") from None
+        raise Refused(FAILED, Message("delay.unreadable", path=paths.delay, why=text_of(error))) from None
     try:
         return read_delay(text)
     except Refused:
-        raise Refused(REFUSED, f"{paths.delay} has no number of minutes: give --delay, or remove it") from None
+        raise Refused(REFUSED, Message("delay.no_number", path=paths.delay)) from None
 
 
 def keep_delay(paths: Paths, seconds: float, games: Sequence[Paths]) -> None:
@@ -135,7 +136,7 @@ def _earlier(game: Paths) -> float:
     except OSError as error:
         if error.errno in NO_SUCH_FILE:
             return 0.0
-        raise Refused(FAILED, f"{game.delayed} can't be read ({text_of(error)}): give --delay, or remove it") from None
+        raise Refused(FAILED, Message("delay.unreadable", path=game.delayed, why=text_of(error))) from None
     except (ValueError, TypeError, KeyError):
         return 0.0
     return delay if 0.0 < delay < math.inf else 0.0

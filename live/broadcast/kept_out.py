@@ -10,10 +10,11 @@ from live.broadcast.going_out import HOLD, read_hold
 from live.game.file_names import owners_of
 from live.game.files import NO_SUCH_FILE, Paths, beginning, not_written, put_in_place, text_of
 from live.refused import FAILED, REFUSED, Refused
+from live.words.message import Message
 
 LONGEST = 200  # bytes of the file
 OF_HOLD, OF_COMMAND = "--hold ", "--publish"
-UNPUBLISHED = "nothing is published: the command isn't kept, as a password may be in it. To publish, end this, and start again with --publish COMMAND"
+UNPUBLISHED = Message("broadcast.command_not_kept")
 
 
 @dataclass(frozen=True)
@@ -50,8 +51,8 @@ def told_of_kept(kept: KeptOut, hold: Optional[float], command: bool) -> List[st
     """What to say at the start of a call that was given this."""
     told: List[str] = []
     if hold is None and kept.hold not in (None, HOLD):
-        how = f"a last move goes out once it has stood for {kept.hold:g} seconds" if kept.hold else "each move goes out at once"
-        told.append(f"{how}, as before; --hold {HOLD:g} ends that")
+        how = Message("hold.stands", seconds=f"{kept.hold:g}") if kept.hold else Message("hold.none")
+        told.append(Message("hold.as_before", how=how, usual=f"{HOLD:g}"))
     return [*told, UNPUBLISHED] if kept.command and not command else told
 
 
@@ -69,9 +70,9 @@ def _kept(paths: Paths) -> KeptOut:
     except OSError as error:
         if error.errno in NO_SUCH_FILE:
             return KeptOut()
-        raise Refused(FAILED, f"{paths.out} can't be read ({text_of(error)}): remove it, and give --hold and --publish again") from None
+        raise Refused(FAILED, Message("hold.unreadable", path=paths.out, why=text_of(error))) from None
     except Refused:
-        raise Refused(REFUSED, f"{paths.out} has no number of seconds: remove it, and give --hold and --publish again") from None
+        raise Refused(REFUSED, Message("hold.no_number", path=paths.out)) from None
 
 
 def keep_out(paths: Paths, hold: Optional[float], command: bool) -> None:

@@ -12,6 +12,7 @@ from live.game.files import LOCK_PATIENCE, Paths, open_regular
 from live.lock import locked
 from live.loop import Loop
 from live.refused import REFUSED, Refused
+from live.words.message import Message
 
 LOOK, SOON = 0.5, 0.05  # seconds
 STAYS = 10.0  # seconds for which all that was shown stays on the page
@@ -42,7 +43,7 @@ def hold(paths: Paths) -> Optional[int]:
         return None
     if not locked(number, LOCK_PATIENCE):
         os.close(number)
-        raise Refused(REFUSED, f"another dgt_live shows {paths.name} to spectators: leave it running, or Ctrl-C there first")
+        raise Refused(REFUSED, Message("delay.shown_elsewhere", name=paths.name))
     return number
 
 
@@ -74,7 +75,7 @@ class Leaving:
             self._finish()
         elif left is not None and not self.ends:
             if left:  # else it is shown in a moment
-                self._says(f"{self._last_moves(left)}: it goes on until then")
+                self._says(Message("delay.goes_on", last=self._last_moves(left)))
             self._wait()
 
     def asked(self) -> None:
@@ -86,7 +87,7 @@ class Leaving:
             self._finish()
         else:
             self._was_asked = True
-            self._says(f"{self._last_moves(left)}: leave it running until then. To end it now, Ctrl-C again")
+            self._says(Message("delay.leave_running", last=self._last_moves(left)))
             self._wait()
 
     def goes_on(self) -> None:
@@ -101,7 +102,7 @@ class Leaving:
     def _last_moves(self, left: float) -> str:
         """When spectators see the last moves, which are hidden for so many seconds."""
         self._told = self._loop.now() + until_clock_in(left, time.time())
-        return f"spectators see the last moves at {clock_in(left)}"
+        return Message("delay.last_moves", time=clock_in(left))
 
     def _wait(self) -> None:
         if not self._waits:
@@ -116,7 +117,7 @@ class Leaving:
             self._shown_at = None
         elif self._shown_at is None:
             self._shown_at = now
-            self._says(f"spectators have seen all moves: it ends in {stays_for(now, self._told, now):.0f} seconds")
+            self._says(Message("delay.all_seen", seconds=format(stays_for(now, self._told, now), ".0f")))
         elif stays_for(self._shown_at, self._told, now) <= 0:
             self._finish()
             return

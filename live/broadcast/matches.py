@@ -5,9 +5,12 @@ from __future__ import annotations
 from dataclasses import dataclass
 from typing import Dict, FrozenSet, List, Optional, Sequence, Set, Tuple
 
+from live.words.message import Message, linked, plural
+
+
 HALF_POINTS = {"1-0": (2, 0), "0-1": (0, 2), "1/2-1/2": (1, 1), "0-0": (0, 0), "*": (0, 0)}  # a game that goes on has none yet
 UNKNOWN = ""  # the score of a board that isn't recorded, if the table has no result for it
-IN_THE_TABLE = "put that right in the table, save it, and type r"
+IN_THE_TABLE = Message("match.in_the_table")
 MOST_TOLD = 5  # matches that are named one by one
 MOST_ODD = 4  # of so many boards one may have a misspelt team
 
@@ -89,7 +92,7 @@ def _match(group: Sequence[Paired], lost: Sequence[Paired]) -> Match:
     odd = [board for board in group if frozenset(board.teams) != teams]
     first = next((board.teams for board in group if board not in odd), group[0].teams)
     unknown = [board.number for board in group if board.score not in HALF_POINTS]
-    why = "; ".join(filter(None, (*map(_told_of_odd, (*odd, *lost)), told_of_unknown(unknown))))
+    why = linked("semicolon", filter(None, (*map(_told_of_odd, (*odd, *lost)), told_of_unknown(unknown))))
     shown = tuple(board.number for board in group if board.is_shown)
     return Match(first, None if why else _points(first, group), shown, why)
 
@@ -105,8 +108,10 @@ def _points(teams: Tuple[str, str], group: Sequence[Paired]) -> Tuple[float, flo
 def _told_of_odd(board: Paired) -> str:
     one, other = board.teams
     if one and other:
-        return f"board {board.number} has {one} – {other}"
-    return f"board {board.number} has no {'team' if one or other else 'teams'}{' for Black' if one else ' for White' if other else ''}"
+        return Message("match.of_others", board=board.number, one=one, other=other)
+    if one:
+        return Message("match.no_team_for_black", board=board.number)
+    return Message("match.no_team_for_white", board=board.number) if other else Message("match.no_teams", board=board.number)
 
 
 def told_of_unknown(numbers: Sequence[int]) -> str:
@@ -114,16 +119,17 @@ def told_of_unknown(numbers: Sequence[int]) -> str:
     names = list(map(str, sorted(numbers)))
     if not names:
         return ""
-    which = f"boards {', '.join(names[:-1])} and {names[-1]}" if names[1:] else f"board {names[0]}"
-    return f"the result{'s' if names[1:] else ''} of {which} {'are' if names[1:] else 'is'}n't known"
+    return plural("match.unknown_results", len(names), boards=linked("and", filter(None, (", ".join(names[:-1]), names[-1]))))
 
 
 def told_of_matches(matches: Sequence[Match]) -> List[str]:
     """Lines for the arbiter about matches that show no score."""
     without = [match for match in matches if match.why]
-    lines = [f"the match {' – '.join(match.teams)} shows no score: {match.why}: {IN_THE_TABLE}" for match in without[:MOST_TOLD]]
+    lines: List[str] = []
+    for match in without[:MOST_TOLD]:
+        lines.append(Message("match.no_score", teams=" – ".join(match.teams), why=match.why, in_the_table=IN_THE_TABLE))
     more = len(without) - MOST_TOLD
-    return [*lines, f"{more} more match{'es show' if more > 1 else ' shows'} no score"] if more > 0 else lines
+    return [*lines, plural("match.more", more)] if more > 0 else lines
 
 
 def printed(points: float) -> str:

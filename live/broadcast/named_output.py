@@ -13,6 +13,7 @@ from live.broadcast.going_out import GoingOut, in_home, minutes, read_command, s
 from live.game.file_names import OF_AN_OUTPUT
 from live.game.files import new_of, remove, text_of
 from live.refused import ARGUMENTS, REFUSED, Refused
+from live.words.message import Message, linked, plural
 
 OPTION = "--output"
 NAME = re.compile(r"[a-z][a-z0-9-]{0,29}", re.ASCII)
@@ -54,8 +55,8 @@ def read_name(text: str) -> str:
     name = text.strip().lower()
     if NAME.fullmatch(name):
         return name
-    what = f"'{text.strip()}' is no name of an output" if name else "an output has a name"
-    raise Refused(ARGUMENTS, f"{what}: type letters, digits and -, a letter first, as output {EXAMPLE}")
+    what = Message("output.no_name", name=text.strip()) if name else Message("output.has_a_name")
+    raise Refused(ARGUMENTS, Message("output.name_how", why=what, example=EXAMPLE))
 
 
 def read_output(text: str) -> Output:
@@ -69,22 +70,23 @@ def read_output(text: str) -> Output:
     found = MINUTES.fullmatch(late)
     seconds = seconds_in(found.group(1)) if found else None
     if seconds is None:
-        why = f"'{late}' is no number of minutes:" if late else "how late is it?"
-        raise _refused(name, f"{why} type minutes, 0 for at once, and behind a comma the command, as {EXAMPLE}")
+        if late:
+            raise _refused(name, Message("output.no_minutes", late=late, example=EXAMPLE))
+        raise _refused(name, Message("output.how_late", example=EXAMPLE))
     if rest[:1].isdigit():
-        raise _refused(name, f"'{late},{rest[:1]}': a part of a minute is typed as 0.5, and a command that begins with a digit with its path")
+        raise _refused(name, Message("output.part_of_a_minute", late=late, rest=rest[:1]))
     site = WEB.fullmatch(rest)
     web, _, command = (part.strip() for part in (site.group(1) or "").partition(",")) if site else ("", "", rest)
     if site and not web:
-        raise _refused(name, f"in which folder is its site? Type it, as {LONG_EXAMPLE}")
+        raise _refused(name, Message("output.which_folder", example=LONG_EXAMPLE))
     words = read_command(command, f"{OPTION} {name}") if command else ()
     if words and words[0].endswith(","):
-        raise _refused(name, f"a comma is behind the minutes and behind web FOLDER alone, as {LONG_EXAMPLE}")
+        raise _refused(name, Message("output.comma", example=LONG_EXAMPLE))
     return Output(name, GoingOut(seconds, words, name), in_home(web))
 
 
 def _refused(name: str, why: str) -> Refused:
-    return Refused(ARGUMENTS, f"{OPTION} {name}: {why}")
+    return Refused(ARGUMENTS, linked("colon", (f"{OPTION} {name}", why)))
 
 
 def read_outputs(texts: Sequence[str]) -> Tuple[Output, ...]:
@@ -93,27 +95,27 @@ def read_outputs(texts: Sequence[str]) -> Tuple[Output, ...]:
     names = [output.name for output in outputs]
     for name in names:
         if names.count(name) > 1:
-            raise Refused(ARGUMENTS, f"{OPTION} {name} is given twice: give one of them another name, or leave it out")
+            raise Refused(ARGUMENTS, Message("output.twice", option=OPTION, name=name))
     if len(outputs) > MOST:
-        raise Refused(ARGUMENTS, f"{len(outputs)} outputs are given, and there can be {MOST}: let one command carry to several places")
+        raise Refused(ARGUMENTS, Message("output.too_many", count=len(outputs), most=MOST))
     return outputs
 
 
 def refuse_shared_sites(web: str, outputs: Sequence[Output]) -> None:
     """Refuses two sites of which one is in the folder of the other, or in the same: readers of the later one would get the earlier one too."""
-    sites = {os.path.realpath(web): (web, "the round's own site")} if web else {}
+    sites = {os.path.realpath(web): (web, Message("output.own_site"))} if web else {}
     for output in outputs:
         if not output.web:
             continue
         place = os.path.realpath(output.web)
         for other, (folder, whose) in sites.items():
             if place == other:
-                raise _refused(output.name, f"{output.web} is the folder of {whose}: give it another one")
+                raise _refused(output.name, Message("output.same_folder", web=output.web, whose=whose))
             if is_within(place, other):
-                raise _refused(output.name, f"{output.web} is in {folder}, the folder of {whose}: give it one that isn't in there")
+                raise _refused(output.name, Message("output.inside", web=output.web, folder=folder, whose=whose))
             if is_within(other, place):
-                raise _refused(output.name, f"{output.web} has {folder} in it, the folder of {whose}: give it one beside that")
-        sites[place] = output.web, f"the site of output {output.name}"
+                raise _refused(output.name, Message("output.around", web=output.web, folder=folder, whose=whose))
+        sites[place] = output.web, Message("output.site_of", name=output.name)
 
 
 def sites_given(web: str, outputs: Sequence[Output]) -> List[Tuple[str, str]]:
@@ -126,8 +128,8 @@ def refuse_games_in_site(folder: pathlib.Path, web: str, outputs: Sequence[Outpu
     """Refuses a site in whose folder the round keeps its games: it would overwrite their round.pgn, and publish them at once."""
     for option, site in sites_given(web, outputs):
         if is_within(os.path.realpath(folder), os.path.realpath(site)):
-            why = f"the round keeps its games there, in {folder}, and readers would get them at once: give the site another folder"
-            raise Refused(REFUSED, f"{option}: {site}: {why}")
+            why = Message("output.games_there", folder=folder)
+            raise Refused(REFUSED, linked("colon", (option, site, why)))
 
 
 def is_within(inner: str, outer: str) -> bool:
@@ -157,8 +159,9 @@ def refuse_unknown(removed: Sequence[str], known: Sequence[str]) -> None:
     there = sorted(set(known))
     for name in removed:
         if name not in there:
-            others = f"there {'are' if there[1:] else 'is'} {', '.join(there) or 'none'}"
-            raise Refused(REFUSED, f"{OPTION} {name}={NO}: there is no output {name}: {others}")
+            names = ", ".join(there)
+            others = Message("output.none") if not there else plural("output.there_are", len(there), names=names)
+            raise Refused(REFUSED, Message("output.unknown", option=OPTION, name=name, no=NO, others=others))
 
 
 def refuse_links(folder: pathlib.Path, outputs: Sequence[Output]) -> None:
@@ -166,7 +169,7 @@ def refuse_links(folder: pathlib.Path, outputs: Sequence[Output]) -> None:
     for output in outputs:
         place = folder / output.folder
         if place.is_symlink():
-            raise Refused(REFUSED, f"{place} is a link, and the folder of output {output.name}: move it away")
+            raise Refused(REFUSED, Message("output.link", place=place, name=output.name))
 
 
 def removed(folder: pathlib.Path, output: Output) -> str:
@@ -181,21 +184,24 @@ def removed(folder: pathlib.Path, output: Output) -> str:
         if not any(place.iterdir()):
             place.rmdir()
     except OSError as error:
-        return f"what is left of output {output.name} in {place} can't be removed ({text_of(error)})"
-    return f"output {output.name} is removed" if own else ""
+        return Message("output.not_removed", name=output.name, place=place, why=text_of(error))
+    return Message("output.removed", name=output.name) if own else ""
 
 
 def told_of(folder: pathlib.Path, outputs: Sequence[Output], left: Sequence[str]) -> List[str]:
     """Lines about what goes out beside the first output, and what is left of outputs that aren't given."""
-    lines = []
+    lines: List[str] = []
     for output in outputs:
         if output.out:
-            late = f"is {output.late} late" if output.late else "isn't late"
-            lines.append(f"output {output.name} {late}: {folder / output.folder / TEXT}")
+            place = folder / output.folder / TEXT
+            if output.late:
+                lines.append(Message("output.is_late", name=output.name, late=output.late, place=place))
+            else:
+                lines.append(Message("output.is_not_late", name=output.name, place=place))
     given = [output.name for output in outputs]
     for name in left:
         if name not in given:
-            lines.append(f"output {name} isn't given: nothing goes out there. {OPTION} {name}={NO} removes what is left of it")
+            lines.append(Message("output.not_given", name=name, option=OPTION, no=NO))
     return lines
 
 

@@ -19,6 +19,7 @@ from typing import Callable, Optional, Protocol, Sequence, Tuple
 from live.beside import Worker
 from live.game.files import AnyPath
 from live.loop import ENDING, Timer, Turns
+from live.words.message import Message
 
 EACH = 5.0  # least seconds between the beginnings of two runs
 LONGEST = 30.0  # seconds that a run may take
@@ -82,7 +83,7 @@ def run(words: Sequence[str], path: AnyPath, seconds: float) -> str:
                 start_new_session=True,
             )
         except OSError as error:
-            return f"the command can't be started: {error.strerror}"
+            return Message("command.not_started", why=error.strerror)
         finally:
             signal.pthread_sigmask(signal.SIG_BLOCK, ENDING)
             os.close(into)
@@ -93,17 +94,17 @@ def run(words: Sequence[str], path: AnyPath, seconds: float) -> str:
     if word == "ended":
         return "" if more == "0" else last_line(tail) or _status(int(more))
     if word == "unstarted":
-        return f"the command {shown(words[0])} can't be started: {_why_unstarted(words[0], more)}"
-    return "an earlier run of the command goes on" if word == "beside" else f"the command took more than {seconds:.0f} s, and was ended"
+        return Message("command.not_started_so", command=shown(words[0]), why=_why_unstarted(words[0], more))
+    return Message("command.earlier_run") if word == "beside" else Message("command.took_too_long", seconds=format(seconds, ".0f"))
 
 
 def _why_unstarted(program: str, reason: str) -> str:
     """Why a program can't be started, in plain words if it isn't there or may not run."""
     if reason == os.strerror(errno.EACCES) and os.path.isfile(program):
-        return f"type chmod +x {shown(program)}"
+        return Message("command.chmod", program=shown(program))
     if reason != os.strerror(errno.ENOENT):
         return reason
-    return "its first line names a program that isn't there" if os.path.exists(program) else "there is no such file"
+    return Message("command.interpreter_missing") if os.path.exists(program) else Message("command.missing")
 
 
 def shown(text: str) -> str:
@@ -153,7 +154,7 @@ def last_line(text: bytes) -> str:
 
 
 def _status(status: int) -> str:
-    return f"the command ended with status {status}" if status > 0 else f"the command was ended by signal {-status}"
+    return Message("command.status", status=status) if status > 0 else Message("command.signal", signal=-status)
 
 
 class HearsPublisher(Protocol):

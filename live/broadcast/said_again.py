@@ -27,6 +27,7 @@ from live.game.program import CHUNK, Program, ending_of
 from live.game.reading import PIECE, new_course, wanted
 from live.game.report import Clock, Move, Recovered, Result, line_of
 from live.game.times import HEADED
+from live.words.message import Message
 
 PATIENCE = 30.0  # seconds that the program may take
 ROUNDED = 2  # milliseconds by which bytes may have come later than their times say
@@ -208,7 +209,7 @@ class Told:
             for count in counts:
                 found = list(itertools.islice(answers, count))
                 if len(found) < count:
-                    raise OSError("live didn't answer all")
+                    raise OSError(Message("program.not_all_answered"))
                 yield found
             for _ in answers:
                 pass  # it ends

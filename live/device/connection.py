@@ -13,11 +13,12 @@ from live.game.program import Program
 from live.game.times import ANSWERED, ASKED, CALLED, GONE, OPENED
 from live.guard import Guard
 from live.loop import Timer
+from live.words.message import Message
 
 LOOK_AGAIN = 0.5  # seconds between two tries to open a device that isn't there
 CONNECT_AGAIN = 2.0  # and to connect to a serial server
 CALL_AGAIN = 10.0  # seconds of silence after which a serial server is called again
-FLOOD = "it sends faster than a board can"
+FLOOD = Message("device.flood")
 
 
 class Hears(Protocol):
@@ -175,7 +176,7 @@ class Connection:
 
     def _lost(self, why: str) -> None:
         said = self._trial.said if self._trial and not self._trial.has_answered else ""
-        self._is_gone(f"{why}, and said '{said}'" if said else why)
+        self._is_gone(Message("device.said", why=why, said=said) if said else why)
 
     def _is_gone(self, why: str = "") -> None:
         """It isn't there. That is reported once; it is tried again and again."""

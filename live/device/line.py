@@ -9,7 +9,8 @@ from live.device import network_line, serial_line
 from live.device.network_address import HOW, is_network, read_address
 from live.device.network_line import NetworkLine
 from live.device.serial_line import Busy, SerialLine
-from live.refused import ANOTHER_CALL, FAILED, Refused
+from live.refused import FAILED, Refused, recorded_elsewhere
+from live.words.message import Message
 
 
 Line = Union[SerialLine, "NetworkLine"]
@@ -27,7 +28,7 @@ def check(device: str, may_wait: bool) -> None:
     if not is_network(device):
         serial_line.check(device, may_wait)
     elif read_address(device) is None:
-        raise Refused(FAILED, f"{device} is no address of a serial server: {HOW}")
+        raise Refused(FAILED, Message("device.no_address", device=device, how=HOW))
 
 
 def check_free(device: str) -> None:
@@ -38,7 +39,7 @@ def check_free(device: str) -> None:
     try:
         network_line.check_free(device)
     except Busy:
-        raise Refused(FAILED, f"{device} {ANOTHER_CALL}") from None
+        raise Refused(FAILED, recorded_elsewhere(device)) from None
 
 
 def same_line(device: str) -> str:

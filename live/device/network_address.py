@@ -6,8 +6,10 @@ import re
 from dataclasses import dataclass
 from typing import Optional
 
+from live.words.message import Message
+
 SCHEME = "tcp://"
-HOW = "type tcp://HOST:PORT, as tcp://192.168.1.20:2001"
+HOW = Message("device.address_how")
 HIGHEST_PORT = 65535
 LONGEST_HOST = 253
 _FORM = re.compile(r"(?i:tcp)://(?:\[([0-9A-Fa-f:.%\w-]+)\]|([^\[\]:/?#@\s]+)):([0-9]{1,5})/?")

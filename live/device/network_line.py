@@ -12,13 +12,14 @@ from live.device.network_address import Address, read_address
 from live.device.serial_line import Busy
 from live.guard import Guard
 from live.loop import Timer
+from live.words.message import Message
 
 CONNECTS_IN = 5.0  # seconds that one address of a host may take
 IDLE = 5  # seconds without a byte after which the other end is asked whether it is there
 ASKED_EACH, ASKED = 2, 3  # seconds between two such questions, and how many are left unanswered
 USER_TIMEOUT = 18  # TCP_USER_TIMEOUT of Linux
 UNANSWERED = 10_000  # milliseconds that a request may stay without an answer of the other system
-HUNG_UP = "it has hung up"
+HUNG_UP = Message("device.hung_up")
 Place = Tuple[int, Tuple[object, ...]]  # a family, and an address for it
 
 
@@ -33,7 +34,7 @@ def looked_up(address: Address) -> "List[Place] | str":
     try:
         return places_of(address)
     except (OSError, UnicodeError) as error:
-        return f"the host {address.host} isn't known ({getattr(error, 'strerror', None) or error})"
+        return Message("device.unknown_host", host=address.host, why=getattr(error, "strerror", None) or error)
 
 
 def lock_of(address: Address) -> socket.socket:
@@ -123,7 +124,7 @@ class NetworkLine:
 
         def late() -> None:
             self._timer = None
-            self._fails(f"no answer within {CONNECTS_IN:.0f} s", done)
+            self._fails(Message("device.no_answer", seconds=format(CONNECTS_IN, ".0f")), done)
 
         guard.watch(number, writable=connected)
         self._timer = guard.after(CONNECTS_IN, late)

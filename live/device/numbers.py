@@ -16,6 +16,7 @@ from live.game.program import Program
 from live.game.times import HEARD, OPENED
 from live.guard import Guard
 from live.loop import Callback, Loop
+from live.words.message import Message, linked
 
 ANSWERS_IN = 2.0  # seconds that a board may take
 NOBODY = b"-----"  # no board's number: each one that comes is another board's
@@ -113,7 +114,7 @@ class _Board:
 
     def says(self, text: str) -> None:
         """The child is started again. If no number comes in time, that is why."""
-        self.why = text.partition(";")[0]
+        self.why = str(text.places["what"]) if isinstance(text, Message) else text
 
     def broken(self, what: str) -> None:
         """The child ends again and again."""
@@ -136,17 +137,17 @@ def listing(found: Sequence[Tuple[str, str]], asked: Asked) -> List[str]:
     """The printed list of devices: each with the name of its cable and its board's serial number, as far as known; or what to do
     if there is none."""
     if not found:
-        return ["dgt_live: no board is plugged in: there is no /dev/ttyUSB*, /dev/ttyACM* or /dev/rfcomm*. Plug it in, and try again"]
+        return [linked("colon", ("dgt_live", Message("device.none")))]
     return ["  ".join(filter(None, (device, name, _state(device, asked)))) for device, name in found]
 
 
 def _state(device: str, asked: Asked) -> str:
     """A device's number, or why it gave none."""
     if device in asked.shut:
-        return "may not be opened"
+        return Message("device.shut")
     if device in asked.failed:
-        return f"can't be asked ({asked.failed[device]})"
-    return "in use" if device in asked.in_use else asked.numbers.get(device, "")
+        return Message("device.not_asked", why=asked.failed[device])
+    return Message("device.in_use") if device in asked.in_use else asked.numbers.get(device, "")
 
 
 def told_of_shut(asked: Asked, user: str) -> List[str]:

@@ -12,9 +12,10 @@ from typing import Dict, List, Optional, Tuple
 
 from live.called import DGT_LIVE
 from live.lock import locked
-from live.refused import ANOTHER_CALL, FAILED, Refused
+from live.refused import FAILED, Refused, recorded_elsewhere
+from live.words.message import Message
 
-SEE_DEVICES = f"see which devices there are with {DGT_LIVE} --devices"
+SEE_DEVICES = Message("device.see_devices", dgt_live=DGT_LIVE)
 PLUGGED = ("ttyUSB", "ttyACM", "rfcomm")  # how the names of their devices begin; the last is a Bluetooth board's
 CONTROLLING_TERMINAL = os.makedev(5, 0)  # the number of /dev/tty, under any name
 BUSY_PATIENCE = 3.0  # seconds: a call that was just killed may still hold the lock
@@ -73,12 +74,12 @@ def login_name() -> str:
 
 def may_not_open(device: str, user: str) -> str:
     """The message if the system doesn't let this user open the device."""
-    return f"{device} may not be opened: let an administrator type 'sudo adduser {user} dialout', and then log in again"
+    return Message("device.may_not_open", device=device, user=user)
 
 
 def is_terminal(device: str) -> str:
     """The message if a device is this call's own terminal."""
-    return f"{device} is this terminal, and no board: {SEE_DEVICES}"
+    return Message("device.is_terminal", device=device, see_devices=SEE_DEVICES)
 
 
 def is_own_terminal(line: int) -> bool:
@@ -100,11 +101,11 @@ def check(device: str, may_wait: bool) -> None:
     except FileNotFoundError:
         if may_wait:
             return
-        raise Refused(FAILED, f"there is no {device}: plug the board in, and {SEE_DEVICES}") from None
+        raise Refused(FAILED, Message("device.missing", device=device, see_devices=SEE_DEVICES)) from None
     except OSError as error:
-        raise Refused(FAILED, f"{device} can't be looked at ({error.strerror}): {SEE_DEVICES}") from None
+        raise Refused(FAILED, Message("device.not_looked_at", device=device, why=error.strerror, see_devices=SEE_DEVICES)) from None
     if not stat.S_ISCHR(found.st_mode):
-        raise Refused(FAILED, f"{device} is no device: see {DGT_LIVE} --devices")
+        raise Refused(FAILED, Message("device.is_no_device", device=device, dgt_live=DGT_LIVE))
     if found.st_rdev == CONTROLLING_TERMINAL:
         raise Refused(FAILED, is_terminal(device))
     try:
@@ -114,10 +115,10 @@ def check(device: str, may_wait: bool) -> None:
     except OSError:
         if may_wait:
             return
-        raise Refused(FAILED, f"{device} can't be opened: plug the board in again, and {SEE_DEVICES}") from None
+        raise Refused(FAILED, Message("device.not_opened", device=device, see_devices=SEE_DEVICES)) from None
     try:
         if not os.isatty(line):
-            raise Refused(FAILED, f"{device} is no serial line: {SEE_DEVICES}")
+            raise Refused(FAILED, Message("device.no_serial_line", device=device, see_devices=SEE_DEVICES))
         if is_own_terminal(line):
             raise Refused(FAILED, is_terminal(device))
     finally:
@@ -132,7 +133,7 @@ def check_free(device: str) -> None:
         return
     try:
         if not locked(line, BUSY_PATIENCE):
-            raise Refused(FAILED, f"{device} {ANOTHER_CALL}")
+            raise Refused(FAILED, recorded_elsewhere(device))
     finally:
         os.close(line)
 

@@ -27,6 +27,7 @@ from live.web.doors import Title, TwoPages
 from live.web.kept_pages import keep_pages, pages_of
 from live.web.round_page import ArbiterView
 from live.web.view import round_pgn
+from live.words.message import Message
 
 
 class Audience:
@@ -88,14 +89,14 @@ class Audience:
 
     def _greeting(self) -> Tuple[str, ...]:
         """What is printed once the game is recorded."""
-        greeting = self._pages.told("the game")
+        greeting = self._pages.told(Message("page.the_game"))
         if self._call.shows:
-            greeting.append("Ctrl-C ends it")
+            greeting.append(Message("board.ctrl_c_ends"))
         if self.is_unseen:
-            greeting.append(f"{self._paths.name} is over: spectators get what they haven't seen of it")
+            greeting.append(Message("delay.over_unseen", name=self._paths.name))
         if self._late:
-            stays = " as before; --delay 0 ends that" if self._call.delay is None else ""
-            greeting.append(f"spectators see the game {self._late} late{stays}")
+            late = Message("delay.game", late=self._late)
+            greeting.append(Message("delay.as_before", delay=late) if self._call.delay is None else late)
         return (*greeting, *self._told_of_kept)
 
     def hears(self, text: str) -> bool:
@@ -108,7 +109,7 @@ class Audience:
         left = self._broadcast.hidden_for
         unseen = ""
         if left is not None:
-            unseen = f"spectators haven't seen all moves. Start it again to show them, the last ones at {clock_in(left)}"
+            unseen = Message("delay.unseen", time=clock_in(left))
         return self._broadcast.close(), unseen
 
 

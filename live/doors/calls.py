@@ -7,17 +7,18 @@ from typing import Dict, List, Optional, Sequence, Tuple
 
 from live.broadcast.going_out import read_command, read_delay, read_hold
 from live.called import DGT_LIVE
-from live.game.options import PLAIN, RECOVER, SEE_HELP, STRICT, TAG, VALUED, Options, assigned, meant, no_option, typed_tag, typed_value
+from live.game.options import PLAIN, RECOVER, SEE_HELP, STRICT, TAG, VALUED, Options, assigned, meant, no_option, typed_tag, typed_value, with_help
 from live.game.reply import BACK
 from live.refused import ARGUMENTS, Refused
 from live.web.address import Pages, read_pages
+from live.words.message import Message
 
 LINGER = "--linger"  # of earlier versions
 RECORDING = (LINGER, "--page", "--arbiter-page", "--delay", "--publish", "--hold")  # options of a recording that have a value
 OF_ROUNDS = ("--output", "--web", "--embed")
 HELP, VERSION = ("--help", "-h"), ("--version", "-V")
-QUOTES = "is one argument too many. Put a text with blanks in quotes, as 'Anna Kern'"
-TEN_SECONDS = f"{LINGER} has no effect any more: a result waits ten seconds before it ends a game"
+
+TEN_SECONDS = Message("option.linger", linger=LINGER)
 
 
 @dataclass(frozen=True)
@@ -79,7 +80,7 @@ def parse(arguments: Sequence[str]) -> Call:
             line = value if equals else typed_value(word, left)
             typed.append(line if option == "--add" else f"{BACK} {line}")
         elif option in OF_ROUNDS:
-            raise Refused(ARGUMENTS, f"{option} is an option of dgt_round, which records one board too: write a table of one line for it")
+            raise Refused(ARGUMENTS, Message("option.of_rounds", option=option))
         elif word.startswith("-") and len(word) > 1:
             raise no_option(word)
         else:
@@ -92,25 +93,25 @@ def parse(arguments: Sequence[str]) -> Call:
     late, command = going_out(delay, publish)
     if flags["--devices"]:
         if len(arguments) > 1:
-            raise Refused(ARGUMENTS, f"--devices takes nothing else: {SEE_HELP}")
+            raise Refused(ARGUMENTS, with_help(Message("option.devices_alone")))
         return Call(devices=True)
     if flags["--pack"]:
         if len(arguments) != 2 or not "".join(plain):
-            raise Refused(ARGUMENTS, f"--pack takes the NAME of a game, and nothing else: {SEE_HELP}")
+            raise Refused(ARGUMENTS, with_help(Message("option.pack_alone")))
         return Call(name=plain[0], packs=True)
     options = Options.of_words(words)
     reads_otherwise = bool(words) and options.lies_as(Options()) and not options.unrotated
     has_name = not typed and len(plain) == 1 and not flags["--series"]
     wanted = 1 if typed or (has_name and (reads_otherwise or (pages and pages.any and not words))) else 2
     if len(plain) > wanted:
-        raise Refused(ARGUMENTS, f"{plain[wanted]} {QUOTES}: {SEE_HELP}")
+        raise Refused(ARGUMENTS, with_help(Message("option.quotes", word=plain[wanted])))
     if len(plain) < wanted or not plain[-1]:
-        what = f"type a DEVICE and a NAME, as {DGT_LIVE} /dev/ttyUSB0 game"
+        what = Message("option.device_and_name", dgt_live=DGT_LIVE)
         if typed:
-            what = "type the NAME of a game after --add and --back"
-        raise Refused(ARGUMENTS, f"{what}: {SEE_HELP}")
+            what = Message("option.name_after_add")
+        raise Refused(ARGUMENTS, with_help(what))
     if typed and (words or flags["--series"]):
-        raise Refused(ARGUMENTS, f"--add and --back take no other option: {SEE_HELP}")
+        raise Refused(ARGUMENTS, with_help(Message("option.add_alone")))
     device = plain[0] if wanted == 2 else ""
     return Call(device, plain[-1], options, flags["--series"], flags["--once"], told, typed=tuple(typed), pages=pages,
                 delay=late, publish=command, hold=hold_of(hold))  # fmt: skip
@@ -119,13 +120,13 @@ def parse(arguments: Sequence[str]) -> Call:
 def refuse_both(words: Sequence[str], see_help: str = SEE_HELP) -> None:
     """Refuses both options: pairs are recovered, or they aren't."""
     if RECOVER in words and STRICT in words:
-        raise Refused(ARGUMENTS, f"{RECOVER} and {STRICT}: only one of them can be: {see_help}")
+        raise Refused(ARGUMENTS, with_help(Message("option.recover_or_strict", recover=RECOVER, strict=STRICT), see_help))
 
 
 def refuse_hosts(page: Optional[str], hosts: Sequence[str], see_help: str = SEE_HELP) -> None:
     """Refuses names of a page that isn't shown."""
     if hosts and page is None:
-        raise Refused(ARGUMENTS, f"--page-host names a page, and there is none without --page PORT: {see_help}")
+        raise Refused(ARGUMENTS, with_help(Message("option.page_host_without_page"), see_help))
 
 
 def pages_of(page: Optional[str], arbiter_page: Optional[str], hosts: Sequence[str]) -> Optional[Pages]:
@@ -154,5 +155,5 @@ def told_of_linger(seconds: Optional[str]) -> Tuple[str, ...]:
     if seconds is None:
         return ()
     if not (seconds.isascii() and seconds.isdigit()):
-        raise Refused(ARGUMENTS, f"{LINGER} wants a number of seconds, and not '{seconds}'")
+        raise Refused(ARGUMENTS, Message("option.linger_seconds", linger=LINGER, seconds=seconds))
     return (TEN_SECONDS,)

@@ -24,6 +24,7 @@ from live.loop import Loop, Signals
 from live.refused import DONE, FAILED, Refused
 from live.terminal.screen import Screen
 from live.terminal.terminal import Terminal, Typed
+from live.words.message import Message, linked
 
 HELP = """\
 usage: dgt_live [--series] [--once] DEVICE NAME [OPTION..]
@@ -95,7 +96,7 @@ def record_in(call: Call, program: Program, signals: Signals) -> Outcome:
     if unseen:
         single.say(unseen)
     if single.refused is None:
-        terminal.line(f"dgt_live: what was played is in {single.board.paths.pgn}")
+        terminal.line(linked("colon", ("dgt_live", Message("board.played_is_in", pgn=single.board.paths.pgn))))
     terminal.end(PRINTED)
     if single.refused:
         raise single.refused
@@ -124,7 +125,7 @@ def main(arguments: Sequence[str], here: str) -> int:
             print(HELP, end="")
             return DONE, ()
         if asked.version:
-            print(f"dgt_live {Program.find(here).version()}")
+            print("dgt_live", Program.find(here).version())
             return DONE, ()
         if not asked.device and not asked.shows:
             without_recording: Callable[[Call, str], Outcome] = door("kept_game").done

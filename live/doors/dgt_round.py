@@ -19,14 +19,14 @@ from live.broadcast.named_output import (
 )  # fmt: skip
 from live.called import DGT_ROUND
 from live.doors import calls
-from live.doors.calls import LINGER, QUOTES, refuse_both, refuse_hosts, told_of_linger
+from live.doors.calls import LINGER, refuse_both, refuse_hosts, told_of_linger
 from live.doors.door import Outcome, through
 from live.game.file_names import ROUND, is_of_an_output
 from live.game.files import LOCK_PATIENCE, Paths, text_of
 from live.game.game import keep_options, kept_options
 from live.game.opening import recordable, turned, unknown
 from live.game.options import RECOVER, STRICT, TAG, UNKNOWN, Options
-from live.game.options import as_typed, assigned, meant, no_option, typed_tag, typed_value
+from live.game.options import as_typed, assigned, meant, no_option, typed_tag, typed_value, with_help, without_help
 from live.game.program import Program
 from live.lock import locked
 from live.loop import Loop, Signals
@@ -45,8 +45,9 @@ from live.web.address import Pages, read_pages
 from live.web.doors import Title, TwoPages
 from live.web.kept_pages import keep_pages, pages_of
 from live.web.round_page import ArbiterView
+from live.words.message import Message, linked
 
-SEE_HELP = f"see {DGT_ROUND} --help"
+SEE_HELP = Message("help.round", dgt_round=DGT_ROUND)
 TAGS = ("--event", "--site", "--date", "--round")
 NEW, EMBED, WEB = "--new", "--embed", "--web"
 VALUED = (*TAGS, TAG, LINGER, "--page", "--page-host", "--arbiter-page", EMBED, WEB, "--delay", "--publish", "--hold", OUTPUT, ENCODING, MATCHES)
@@ -145,17 +146,17 @@ def each_read(arguments: Sequence[str]) -> Asked:
             plain.append(word)
     refuse_both(words, SEE_HELP)
     if not plain or not plain[0]:
-        raise Refused(ARGUMENTS, f"type the FILE with the pairings: {SEE_HELP}")
+        raise Refused(ARGUMENTS, with_help(Message("option.file"), SEE_HELP))
     if len(plain) > 2:
-        raise Refused(ARGUMENTS, f"{plain[2]} {QUOTES}: {SEE_HELP}")
+        raise Refused(ARGUMENTS, with_help(Message("option.quotes", word=plain[2]), SEE_HELP))
     told = told_of_linger(values.pop(LINGER, None))
     page, arbiter_page = (values.pop(option, None) for option in ("--page", "--arbiter-page"))
     refuse_hosts(page or arbiter_page, hosts, SEE_HELP)
     embed, web = values.pop(EMBED, None), in_home(values.pop(WEB, ""))
     if embed and not embed.isascii():
-        raise Refused(ARGUMENTS, f"{EMBED} {embed!r}: {told_of_letters(embed)}")
+        raise Refused(ARGUMENTS, Message("option.embed", option=EMBED, value=repr(embed), how=told_of_letters(embed)))
     if embed and not page:
-        raise Refused(ARGUMENTS, f"{EMBED} lets a site show the page, and there is none without --page PORT: {SEE_HELP}")
+        raise Refused(ARGUMENTS, with_help(Message("option.embed_without_page", option=EMBED), SEE_HELP))
     delay, publish, hold, encoding = (values.pop(option, None) for option in ("--delay", "--publish", "--hold", ENCODING))
     no_matches = read_matches(values.pop(MATCHES, ""))
     words += [assigned(option, value) for option, value in values.items()]
@@ -181,9 +182,9 @@ def told_of_letters(site: str) -> str:
     try:
         scheme, _, rest = site.strip().lower().rpartition("://")
         host, colon, port = rest.rstrip("/").partition(":")
-        return f"type it as browsers send it, as {scheme or 'https'}://{host.encode('idna').decode()}{colon}{port}"
+        return Message("option.embed_as", site=f"{scheme or 'https'}://{host.encode('idna').decode()}{colon}{port}")
     except UnicodeError:
-        return "type it as browsers send it: open the site, and copy its address, as https://xn--bcher-kva.example"
+        return Message("option.embed_copy")
 
 
 def of_tournament(arguments: Sequence[str], tournament: Tournament, typed: Asked) -> Asked:
@@ -196,7 +197,7 @@ def of_tournament(arguments: Sequence[str], tournament: Tournament, typed: Asked
     try:
         with_sites_in(each_read([*words, str(table)]), tournament.folder, Asked())
     except Refused as refused:
-        raise Refused(REFUSED, f"{tournament.settings}: {refused.lines[0].replace(f': {SEE_HELP}', '')}") from None
+        raise Refused(REFUSED, linked("colon", (str(tournament.settings), without_help(refused.lines[0], SEE_HELP)))) from None
     known = tuple(filter(None, map(name_in, words)))
     words = without_those(words, [output.name for output in typed.outputs])
     asked = each_read([assigned("--round", str(tournament.number)), *words, *arguments])
@@ -224,7 +225,7 @@ def folder_of(asked: Asked) -> Tuple[pathlib.Path, int]:
     """The folder, made if necessary, and locked. Refused if what is asked of its outputs can't be."""
     folder = pathlib.Path(asked.folder)
     if is_of_an_output(str(folder)):
-        raise Refused(REFUSED, f"{folder} is the folder of an output of a round: choose another FOLDER")
+        raise Refused(REFUSED, Message("folder.of_an_output", folder=folder))
     refuse_games_in_site(folder, asked.web, asked.outputs)
     for option, site in sites_given(asked.web, asked.outputs):
         refuse_no_site(option, pathlib.Path(site))
@@ -232,11 +233,11 @@ def folder_of(asked: Asked) -> Tuple[pathlib.Path, int]:
         folder.mkdir(exist_ok=True)
         lock = os.open(folder, os.O_RDONLY | os.O_DIRECTORY)
     except OSError as error:
-        raise Refused(FAILED, f"{told_of_no_folder(folder, error)}: choose another FOLDER") from None
+        raise Refused(FAILED, Message("folder.choose_another", why=told_of_no_folder(folder, error))) from None
     if not os.access(folder, os.W_OK | os.X_OK):
-        raise Refused(FAILED, f"you may not write in the folder {folder}: get the right to, or choose another FOLDER")
+        raise Refused(FAILED, Message("folder.no_right", folder=folder))
     if not locked(lock, LOCK_PATIENCE):
-        raise Refused(REFUSED, f"{folder} is another dgt_round's: end that one, or choose another FOLDER")
+        raise Refused(REFUSED, Message("folder.in_use", folder=folder))
     refuse_unknown([output.name for output in asked.outputs if not output.out], [*asked.known, *left_in(folder)])
     refuse_links(folder, asked.outputs)
     return folder, lock
@@ -245,10 +246,10 @@ def folder_of(asked: Asked) -> Tuple[pathlib.Path, int]:
 def told_of_no_folder(folder: pathlib.Path, error: OSError) -> str:
     """Why a folder isn't there."""
     if isinstance(error, FileNotFoundError):
-        return f"there is no folder {folder.parent} to make {folder.name} in"
+        return Message("folder.no_parent", parent=folder.parent, name=folder.name)
     if isinstance(error, (FileExistsError, NotADirectoryError)):
-        return f"{folder} is a file, or is to be in one"
-    return f"the folder {folder} can't be made or opened ({text_of(error)})"
+        return Message("folder.is_file", folder=folder)
+    return Message("folder.cannot_be_made", folder=folder, why=text_of(error))
 
 
 def round_of(text: Optional[str]) -> Optional[int]:
@@ -261,7 +262,7 @@ def told_of_kept(given: Options, kept: Options) -> str:
     filled, tags = given.filled(kept, TAGS), dict(given.tags)
     left = filled.only([option for option in TAGS if given.value(option) is None])
     words = left.tagged({name: value for name, value in filled.tags if name not in tags}).words()
-    return f"the round goes on with {shlex.join(as_typed(words))}; give others to change that" if words else ""
+    return Message("round.goes_on_with", options=shlex.join(as_typed(words))) if words else ""
 
 
 def play(asked: Asked, program: Program, signals: Signals) -> Outcome:
@@ -294,15 +295,16 @@ def play(asked: Asked, program: Program, signals: Signals) -> Outcome:
     hold = next((seconds for seconds in (asked.hold, kept_before.hold) if seconds is not None), HOLD)
     shown = given.written("--event") or file.stem
     event = "" if given.event == UNKNOWN else given.written("--event")
-    title = ", ".join(filter(None, (event, given.round and f"round {given.round}"))) or file.stem
+    title = linked("comma", filter(None, (event, given.round and Message("round.number", number=given.round)))) or file.stem
     told_of_removed = [removed(folder, output) for output in asked.outputs if not output.out]
     told_of_named = [*filter(None, told_of_removed), *told_of(folder, asked.outputs, left_in(folder))]
-    games = Round(loop, source, read, title, replace(hall, out=GoingOut(delay, asked.publish, hold=hold), outputs=held(asked.outputs, hold)), of_others)
+    hall = replace(hall, out=GoingOut(delay, asked.publish, hold=hold), outputs=held(asked.outputs, hold))
+    games = Round(loop, source, read, title, hall, of_others)
     for line in filter(None, (told_of_place, told, *asked.told)):
         games.say(line)
     if late:
-        stays = " as before; --delay 0 ends that" if asked.delay is None else ""
-        games.say(f"spectators see the round {late} late{stays}")
+        spectators = Message("delay.round", late=late)
+        games.say(Message("delay.as_before", delay=spectators) if asked.delay is None else spectators)
     for line in (*told_of_kept_out(kept_before, asked.hold, bool(asked.publish)), *told_of_named):
         games.say(line)
     try:
@@ -318,10 +320,10 @@ def play(asked: Asked, program: Program, signals: Signals) -> Outcome:
     pages.trouble = games.trouble
     pages.show(Title(shown, given.round or "", late), arbiter, games.broadcast)
     games.on_change = pages.changed
-    for line in filter(None, (*pages.told("the round"), pages.secret)):
+    for line in filter(None, (*pages.told(Message("tag.round")), pages.secret)):
         games.say(line)  # the round's log has only faults
     if hall.terminal is None and os.isatty(0):
-        games.say("type help to see what can be typed, and q to end")
+        games.say(Message("round.type_help"))
     signals.tell(loop, games.end, games.hung_up)
     more = files_of(asked.tournament, loop, games) if asked.tournament else None
     for line in told_of_sites(asked):
@@ -348,8 +350,9 @@ def files_of(tournament: Tournament, loop: Loop, games: Round) -> TournamentFile
 
 def told_of_sites(asked: Asked) -> List[str]:
     """Where each site is."""
-    sites = (("", asked.web), *((f" of output {output.name}", output.web) for output in asked.outputs if output.out))
-    return [f"the site{whose} is in {os.path.abspath(web)}" for whose, web in sites if web]
+    told = [Message("site.is_in", folder=os.path.abspath(asked.web))] if asked.web else []
+    outputs = [output for output in asked.outputs if output.out and output.web]
+    return [*told, *(Message("site.of_output_is_in", name=output.name, folder=os.path.abspath(output.web)) for output in outputs)]
 
 
 def sites_of(asked: Asked, loop: Loop, games: Round, title: Title) -> List[SiteFiles]:
@@ -375,7 +378,7 @@ def main(arguments: Sequence[str], here: str) -> int:
             print(HELP, end="")
             return DONE, ()
         if asked.version:
-            print(f"dgt_round {Program.find(here).version()}")
+            print("dgt_round", Program.find(here).version())
             return DONE, ()
         if asked.new:
             print("\n".join(made(pathlib.Path(asked.file), lambda: Program.find(here))))

@@ -17,6 +17,7 @@ from live.game.changing import add_by_name, told_of_round, told_of_series
 from live.game.file_names import check_name, has_delay
 from live.game.files import LOCK_PATIENCE, Paths
 from live.game.log import log_once
+from live.game.making_pgn import first_time
 from live.game.names import today
 from live.game.naming import line_of
 from live.game.opening import Opening, checked, read_otherwise
@@ -26,6 +27,7 @@ from live.game.refusal import is_recorded
 from live.game.reply import OK, REOPENS, Answer
 from live.loop import Loop
 from live.refused import DONE, FAILED, REFUSED, Refused, printable
+from live.words.message import Message, linked
 
 
 def publish_anew(paths: Paths, given: Options = Options()) -> List[str]:
@@ -34,7 +36,7 @@ def publish_anew(paths: Paths, given: Options = Options()) -> List[str]:
         return []
     if has_delay(paths) or os.path.lexists(paths.delayed):
         if is_hidden(paths):
-            return [f"{paths.broadcast} gets its tags as the rest of it is shown"]
+            return [Message("text.gets_its_tags", path=paths.broadcast)]
     return [published_text.publish_anew(paths)]
 
 
@@ -43,16 +45,23 @@ def existing_game(name: str, *more: str) -> Paths:
     paths = Paths(name)
     if not os.path.isfile(paths.capture):
         last = numbered(name, last_number(name))
-        known = f" The last one is {last.name}" if os.path.isfile(last.capture) else ""
-        raise Refused(REFUSED, f"there is no {paths.capture}: type the NAME of a game, with its folder.{known}", *more)
+        missing: str = Message("name.missing", path=paths.capture)
+        if os.path.isfile(last.capture):
+            missing = Message("name.missing_but", missing=missing, last=last.name)
+        raise Refused(REFUSED, missing, *more)
     return paths
+
+
+def tell(text: str) -> None:
+    """Prints what was done."""
+    print(printable(f"dgt_live: {text}"))
 
 
 def remake(call: Call, program: Program) -> Outcome:
     """Makes anew the text of a game that nobody records: with or without its recovered pairs, with the other side's time first, or
     with other names. The call that records a game takes names from here too."""
     line = line_of(call.options)
-    device_first = f"To record a new game, type its DEVICE first, as {DGT_LIVE} /dev/ttyUSB0 {call.name}"
+    device_first = Message("name.device_first", dgt_live=DGT_LIVE, name=call.name)
     paths = existing_game(call.name, *([device_first] if line else []))
     asked = control.ask(paths.capture, line) if line else None
     if asked:
@@ -64,14 +73,14 @@ def remake(call: Call, program: Program) -> Outcome:
         raise Refused(REFUSED, *is_recorded(paths.name, control.board_of(paths.capture), call.options)) from None
     opened.game.capture.close()
     options = opened.game.options
-    said = [f"{options.side.capitalize()}'s time comes first"] if call.options.first else []
+    said = [first_time(options.side)] if call.options.first else []
     said += [*opened.told, *opened.old.course.recovered]
     if call.options.recover is not None and not opened.old.course.recovered:
-        said.append("nothing recovered")
+        said.append(Message("text.nothing_recovered"))
     said += publish_anew(paths, given)
-    what = "; ".join([*(said or ["nothing has changed"]), *opened.results])
-    log_once(paths, f"made anew: {what}")
-    print(printable(f"dgt_live: {paths.pgn} is made anew: {what}"))
+    what = linked("semicolon", [*(said or [Message("naming.nothing_changed")]), *opened.results])
+    log_once(paths, Message("text.made_anew_so", what=what))
+    tell(Message("text.made_anew", pgn=paths.pgn, text=what))
     return DONE, ()
 
 
@@ -80,7 +89,7 @@ def answered(answer: Answer) -> Outcome:
     status, text = answer
     if status != DONE:
         raise Refused(status, text)
-    print(printable(f"dgt_live: {text}"))
+    tell(text)
     return DONE, ()
 
 
@@ -95,7 +104,7 @@ def add(call: Call, program: Program) -> Outcome:
     last = call.typed[-1].strip().lower()
     left = [] if asked or last == OK else [told_of_round(paths), told_of_series(paths) if last == REOPENS else ""]
     for told in filter(None, left):
-        print(printable(f"dgt_live: {told}"))
+        tell(told)
     return DONE, ()
 
 
@@ -105,9 +114,9 @@ def pack(call: Call, here: str) -> Outcome:
     try:
         version = Program.find(here).version()
     except Refused:
-        version = "of unknown version"
+        version = Message("pack.unknown_version")
     packed = packing.pack(paths, version)
-    print(printable(f"dgt_live: {packed.path} is made. It has {', '.join(packed.names)}, and the names of the players"))
+    tell(Message("pack.made", path=packed.path, names=", ".join(packed.names)))
     return (FAILED if packed.left_out else DONE), packed.left_out
 
 

@@ -7,22 +7,24 @@ from typing import Optional, Sequence, Tuple
 
 from live.game.looks import AFTER_RESULT, OVER, Look
 from live.game.report import Event, Move
+from live.words.message import Message
 
 SURE = 2  # moves: one alone may be a piece that somebody sets straight
 
 
-def _over(result: str) -> str:
-    return "the game is over without a result" if result == "*" else f"the game is over: {result}"
+def over(result: str) -> str:
+    """The message that a game is over, with this result or without one."""
+    return Message("over.without_result") if result == "*" else Message("over.with_result", result=result)
 
 
 def went_on(after: str, moves: int, result: str) -> Look:
     """The program says that so many moves were made after a game with this last move and this result."""
-    return Look(f"after {after}", f"{moves} moves were made, and {_over(result)}", OVER)
+    return Look(Message("look.after", ply=after), Message("look.moves_after_result", count=moves, over=over(result)), OVER)
 
 
 def corrected(ply: str) -> Look:
     """This ply corrects the last one of a game after its result, with which the game is over."""
-    return Look(f"at {ply}", AFTER_RESULT)
+    return Look(Message("look.at", ply=ply), AFTER_RESULT)
 
 
 def is_read_anew(stood: str, start: str, plies: int) -> bool:
@@ -60,4 +62,5 @@ class FromTheStart:
         self.count += not event.corrects
         if self.count < SURE:
             return None
-        return Look(f"after {self.after}", f"{self.count} moves were made from the start, and {_over(self.result)}", OVER)
+        why = Message("look.moves_from_the_start", count=self.count, over=over(self.result))
+        return Look(Message("look.after", ply=self.after), why, OVER)

@@ -7,7 +7,8 @@ import os
 from typing import Dict, Optional
 
 from live.game.files import Paths, existing, put_in_place, remove
-from live.game.looks import Look, Looks
+from live.game.looks import AT_THE_GAME, Look, Looks
+from live.words.message import Message
 
 
 def kept_looks(paths: Paths) -> Looks:
@@ -15,7 +16,7 @@ def kept_looks(paths: Paths) -> Looks:
     try:
         return Looks.of_content(existing(paths.look))
     except OSError:
-        return Looks((Look("at the game", f"{paths.look} can't be read"),))
+        return Looks((Look(AT_THE_GAME, Message("look.unreadable", path=paths.look)),))
 
 
 def keep_looks(paths: Paths, looks: Looks) -> None:
@@ -28,7 +29,7 @@ def keep_looks(paths: Paths, looks: Looks) -> None:
 
 def acknowledged(seen: str) -> str:
     """The answer to an acknowledgement."""
-    return f"acknowledged: {seen}" if seen else "there is no LOOK here"
+    return Message("look.acknowledged", seen=seen) if seen else Message("look.none")
 
 
 def acknowledge(paths: Paths) -> str:
@@ -41,7 +42,7 @@ def acknowledge(paths: Paths) -> str:
 def carry_over(before: Paths, looks: Looks, paths: Paths) -> None:
     """Carries the open alarms of a game over to the next one of a series. Raises OSError if they can't be kept."""
     if looks.open:
-        keep_looks(paths, Looks((Look(f"at {os.path.basename(before.name)}", looks.all),)))
+        keep_looks(paths, Looks((Look(Message("look.at", ply=os.path.basename(before.name)), looks.all),)))
 
 
 class Alarms:

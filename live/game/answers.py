@@ -8,9 +8,10 @@ from typing import List, Optional, Sequence, Tuple
 
 from live.device.protocol import DUMP_BEGINS, DUMP_SIZE
 from live.game.options import RECOVER, Options
-from live.game.program import Program, ending_of
+from live.game.program import Program, told_of_ending
 from live.game.reply import OK, Refused
 from live.game.typed import WAYS
+from live.words.message import Message, plural
 
 SLOWEST = 60.0  # seconds that a call may take
 TOO_LONG = "input: too long"
@@ -19,22 +20,22 @@ NOTHING, MIXED, ILLEGAL, MEANT, UNKNOWN, ENDED, BOARD, LONG = "nothing", "mixed"
 MISNUMBERED = "misnumbered"
 PLACED = (ILLEGAL, MISNUMBERED)  # the kinds whose sentence says where in the game it is
 NO_PLIES = "0"
-A_RESULT = "the result "  # and the result that is added
+
 NUMBERED = re.compile(r"\d+\s+([A-Za-z*]|[01½][-–—−:/.]|[+-][+-])", re.ASCII)  # a line that begins as in a round
 OK_NUMBERED = re.compile(r"ok\s+(\d+)", re.ASCII | re.IGNORECASE)
 NUMBER = re.compile(r"\d+\.+", re.ASCII)  # of a move
 
-NOTHING_ADDED = "Nothing was added"
+NOTHING_ADDED = Message("typed.nothing_added")
 SENTENCES = {
-    MIXED: "a result among other words. Type the moves, and then the result alone, in a line of its own",
-    ENDED: f"the game has ended on the board, by mate or stalemate: that is its result. {NOTHING_ADDED}",
-    BOARD: "what the board shows would change the game. Set the pieces as they stand after what you typed, and type it again",
-    LONG: f"the capture is full. {NOTHING_ADDED}",
+    MIXED: Message("typed.mixed"),
+    ENDED: Message("typed.ended_on_the_board", nothing_added=NOTHING_ADDED),
+    BOARD: Message("typed.board_would_change"),
+    LONG: Message("typed.capture_full", nothing_added=NOTHING_ADDED),
 }
-LETTERS_OF_PIECES = "in English letters: pieces are K, Q, R, B and N, in capitals, and squares a1 to h8"
-BY_LETTER = "the piece's letter and where it goes"
-PROMOTED = "with the piece that the pawn becomes"
-NO_COMMAS = "with blanks between moves, and no commas"
+LETTERS_OF_PIECES = Message("spelling.pieces")
+BY_LETTER = Message("spelling.piece_and_square")
+PROMOTED = Message("spelling.promotion")
+NO_COMMAS = Message("spelling.no_commas")
 
 
 @dataclass(frozen=True)
@@ -92,39 +93,39 @@ def read_answer(command: str, status: int, line: str, output: bytes) -> Said:
         return Said(kind, tuple(words))
     if status == 1 and front == TOO_LONG:
         return Said(LONG)
-    raise OSError(f"{command} {ending_of(status)}")
+    raise OSError(told_of_ending(command, status))
 
 
 def meaning(said: Said, line: str, plies: Sequence[str]) -> str:
     """What is added, in words; of a result also what it ends, a game with these plies, as `14... Qd7`."""
-    return f"{A_RESULT}{said.outcome} {what_ends(plies)}" if said.kind == RESULT else " ".join(line.split())
+    return Message("result.added", result=said.outcome, where=what_ends(plies)) if said.kind == RESULT else " ".join(line.split())
 
 
 def what_ends(plies: Sequence[str]) -> str:
     """Where a result ends a game with these plies."""
     if not plies:
-        return "before the first move"
-    return f"after {plies[-1]}, {len(plies)} {'ply' if len(plies) == 1 else 'plies'}"
+        return Message("result.before_the_first_move")
+    return plural("result.after", len(plies), last=plies[-1])
 
 
 def refuse(said: Said, line: str, place: str) -> Refused:
     """Why a line adds nothing. `place` is what `place_of` says."""
     if NUMBERED.match(line.strip()) and said.kind in (UNKNOWN, MIXED):
-        return Refused(f"leave out the number in front. {WAYS}")
+        return Refused(Message("typed.number_in_front", ways=WAYS))
     ok = OK_NUMBERED.fullmatch(line.strip())
     if ok:
-        return Refused(f"{OK} stands alone. In the terminal of a round the board's number goes in front, as {ok[1]} {OK}")
+        return Refused(Message("typed.ok_alone", ok=OK, number=ok[1]))
     if said.kind in SENTENCES:
         return Refused(SENTENCES[said.kind])
     if said.kind == ILLEGAL:
-        return Refused(f"{said.words[1]} is no legal move: {place}. {NOTHING_ADDED}")
+        return Refused(Message("typed.illegal", word=said.words[1], place=place, nothing_added=NOTHING_ADDED))
     if said.kind == MISNUMBERED:
-        return Refused(f"{NUMBER.findall(said.words[1])[0]} isn't the number of the next move: {place}. {NOTHING_ADDED}")
+        return Refused(Message("typed.misnumbered", number=NUMBER.findall(said.words[1])[0], place=place, nothing_added=NOTHING_ADDED))
     if said.kind == MEANT:
-        return Refused(f"{written_so(*said.words[1:])}. {NOTHING_ADDED}")
+        return Refused(Message("typed.meant", written_so=written_so(*said.words[1:]), nothing_added=NOTHING_ADDED))
     if said.kind == UNKNOWN:
-        return Refused(f"{shortened(said.words[1])}: neither a move nor a result. {WAYS}")
-    return Refused(f"{shortened(line)}: no move. {WAYS}")
+        return Refused(Message("typed.neither", word=shortened(said.words[1]), ways=WAYS))
+    return Refused(Message("typed.no_move", line=shortened(line), ways=WAYS))
 
 
 def written_so(word: str, meant: str) -> str:
@@ -132,12 +133,12 @@ def written_so(word: str, meant: str) -> str:
     if word.rstrip(",;") == meant:
         how = NO_COMMAS
     elif meant.startswith("O-O"):
-        how = "with letters"
+        how = Message("spelling.castling")
     elif sum(letter.isdigit() for letter in word) > 1:  # both squares
         how = BY_LETTER
     else:
         how = PROMOTED if "=" in meant and word[-1:].isdigit() else LETTERS_OF_PIECES
-    return f"{word}: write {meant}, {how}"
+    return Message("spelling.write", word=word, meant=meant, how=how)
 
 
 def shortened(text: str) -> str:
@@ -159,10 +160,11 @@ def place_of(said: Said, fen: Optional[str], played: Sequence[str], line: str) -
         return ""
     sans = [*played, *moves_in(line)[: int(said.words[0])]]
     half = first_half(fen) + len(sans)
-    after = f", after {number_of(half - 1)} {sans[-1]}" if sans else ""
     if said.kind == MISNUMBERED:
-        return f"{number_of(half)} is next{after}"
-    return f"{'Black' if half % 2 else 'White'} is to move{after}"
+        place = Message("typed.next_number", number=number_of(half))
+    else:
+        place = Message("typed.black_to_move") if half % 2 else Message("typed.white_to_move")
+    return Message("typed.after_a_move", place=place, last=f"{number_of(half - 1)} {sans[-1]}") if sans else place
 
 
 def first_half(fen: Optional[str]) -> int:

@@ -16,6 +16,7 @@ from live.game.timed import Times
 from live.guard import Guard
 from live.loop import Callback, Counting, Timer
 from live.refused import FAILED, Refused
+from live.words.message import Message
 
 PIECE = 64 * 1024  # bytes of a capture without times that are told at once; with its times it is told as a whole
 LATER = 0.01  # seconds by which it is woken later than it has said: two times that are close need one wake
@@ -250,7 +251,7 @@ class Attending(Child):
             assert self._past
             content = self._past.capture.read(at, min(CHUNK, until - at))
             if not content:
-                raise Refused(FAILED, f"{self._past.capture.path} is shorter than it was")
+                raise Refused(FAILED, Message("file.shorter", path=self._past.capture.path))
             at += os.write(number, content)
             left, is_left = (at, until), at < until
         if is_left:

@@ -16,7 +16,7 @@ from live.game.forfeiting import drop_forfeit, keep_forfeit
 from live.game.forfeits import NO_RESULT, Forfeit, read_typed, refuse_played
 from live.game.game import Game, end_mark, forget_question, is_unplayed, keep_options, kept_options, mark_end, result_in
 from live.game.log import log_once
-from live.game.made_anew import go_back_closed, made_of, reopen, replace_result
+from live.game.made_anew import go_back_closed, and_made, made_of, reopen, replace_result
 from live.game.making_pgn import Text, told_of_result
 from live.game.naming import is_naming, read_names, told_of_names
 from live.game.opening import checked
@@ -28,6 +28,7 @@ from live.game.timed import Times
 from live.game.times import ADDED, LOOKED, OVER
 from live.game.typed import WAYS, Acknowledged, Back, Nothing, Quit, Reopened
 from live.refused import DONE, FAILED
+from live.words.message import Message, linked
 
 LONGEST_NUMBER = 10  # digits of the number of a game in a series
 
@@ -42,7 +43,7 @@ def add_to_closed(game: Game, line: str, is_there: bool = False) -> Tuple[Said, 
     said = answers.add(game.program, game.options, sent, line)
     replaced = replace_result(game, line, is_there) if said.kind == BOARD else None
     if replaced:
-        return replaced[0], f". {replaced[1]}"
+        return replaced
     if not said.put:
         played = game_of(game.program, game.options, sent).plies if said.kind in PLACED else []
         raise answers.refuse(said, line, place_of(said, game.options.fen, [ply.san for ply in played], line))
@@ -69,9 +70,10 @@ def add_and_make(game: Game, line: str, is_there: bool = False) -> str:
     before = result_in(game.paths)
     said, more = add_to_closed(game, line, is_there)
     made = made_of(game, Text(game).make(end_mark(game.paths)))
-    gone = "" if said.outcome else "".join(f"; {told}" for told in told_of_result(before, result_in(game.paths)))
+    gone = [] if said.outcome else told_of_result(before, result_in(game.paths))
     plies = game_of(game.program, game.options, game.capture.bytes(0, end_mark(game.paths))).plies if said.outcome else []
-    return meaning(said, line, [ply.short for ply in plies]) + gone + more + made
+    told = linked("semicolon", (meaning(said, line, [ply.short for ply in plies]), *gone))
+    return and_made(linked("stop", (told, more)) if more else told, made)
 
 
 def add_by_name(program: Program, paths: Paths, text: str, patience: float) -> Answer:
@@ -89,7 +91,7 @@ def add_by_name(program: Program, paths: Paths, text: str, patience: float) -> A
         if isinstance(typed, Forfeit):
             told = forfeit_closed(game, typed)
             log_once(paths, told)
-            return DONE, f"{paths.name}: {told}"
+            return DONE, linked("colon", (paths.name, told))
         if isinstance(typed, Reopened):
             told = reopen(game)
             drop_forfeit(paths)
@@ -99,7 +101,7 @@ def add_by_name(program: Program, paths: Paths, text: str, patience: float) -> A
             done = go_back_closed(game, typed.to)
             drop_forfeit(paths)
             log_once(paths, done)
-            return DONE, f"{paths.name}: {done}"
+            return DONE, linked("colon", (paths.name, done))
         if isinstance(typed, (Quit, Nothing)):
             raise Refused(WAYS)
         what = add_and_make(game, typed.line)
@@ -113,8 +115,8 @@ def add_by_name(program: Program, paths: Paths, text: str, patience: float) -> A
         capture.close()
         if times.told:
             log_once(paths, *times.told)
-    log_once(paths, f"added by hand: {what}")
-    return DONE, f"added to {paths.name}: {what}"
+    log_once(paths, Message("typed.added_by_hand", what=what))
+    return DONE, Message("typed.added_to", name=paths.name, what=what)
 
 
 def acknowledge_closed(paths: Paths, times: Times) -> str:
@@ -135,14 +137,14 @@ def forfeit_closed(game: Game, typed: Forfeit) -> str:
     keep_forfeit(game.paths, typed.kind, game.capture.total)
     if typed.result not in (NO_RESULT, course.result):
         add_and_make(game, typed.result)
-    return f"{typed.words}: it isn't played"
+    return Message("forfeit.not_played", words=typed.words)
 
 
 def rename_closed(game: Game, text: str) -> str:
     """A game that nobody records now gets these tags. Returns the message. Refused if it can't have them."""
     told = put_names_right(game, text)[1]
     log_once(game.paths, told)
-    return f"{game.paths.name}: {told}"
+    return linked("colon", (game.paths.name, told))
 
 
 def put_names_right(game: Game, text: str) -> Tuple[Options, str]:
@@ -153,7 +155,7 @@ def put_names_right(game: Game, text: str) -> Tuple[Options, str]:
     made_before = Text(game)
     made_before.look(end_mark(game.paths))
     keep_options(game.paths, options)
-    return options, told + made_of(game, Text(replace(game, options=options)).make(end_mark(game.paths)))
+    return options, and_made(told, made_of(game, Text(replace(game, options=options)).make(end_mark(game.paths))))
 
 
 # What is still to be done then.
@@ -164,7 +166,7 @@ def told_of_round(paths: Paths) -> str:
     of_round = ROUND if paths.folder == "." else f"{paths.folder}/{ROUND}"
     if not all(os.path.lexists(f"{of_round}.{ending}") for ending in ("log", "pgn")):
         return ""
-    return f"{of_round}.pgn has it once the round is started again"
+    return Message("text.at_next_start", round=of_round)
 
 
 def told_of_series(paths: Paths) -> str:
@@ -172,7 +174,9 @@ def told_of_series(paths: Paths) -> str:
     if next_of(paths) is None:
         return ""
     first = told_of_next(paths)
-    return f"in a series, go on with it by {DGT_LIVE} DEVICE {paths.name}, until it is over. {f'{first}. ' if first else ''}Then start the series again"
+    if first:
+        return Message("text.in_a_series_first", dgt_live=DGT_LIVE, name=paths.name, first=first)
+    return Message("text.in_a_series", dgt_live=DGT_LIVE, name=paths.name)
 
 
 def told_of_next(paths: Paths) -> str:
@@ -183,7 +187,7 @@ def told_of_next(paths: Paths) -> str:
             return ""
     except OSError:
         return ""
-    return f"If {following.name} has moves of {paths.name}, take them off: {DGT_LIVE} --back 0 {following.name}"
+    return Message("text.moves_of_the_game_before", following=following.name, name=paths.name, dgt_live=DGT_LIVE)
 
 
 def next_of(paths: Paths) -> Optional[Paths]:

@@ -18,6 +18,7 @@ from live.game.files import open_regular
 from live.game.reply import NO_TEXT, Answer
 from live.loop import Turns
 from live.refused import DONE, REFUSED, printable
+from live.words.message import Message
 
 LONGEST = 4096  # bytes of a request, and of an answer
 WHO = "\0"  # asks who records the game: no argument has such a byte
@@ -94,7 +95,7 @@ class Control:
         try:
             words = asked.decode("utf-8")
         except UnicodeDecodeError:
-            answered((REFUSED, f"refused: {NO_TEXT}"))
+            answered((REFUSED, Message("refused.why", why=NO_TEXT)))
             return
         if words == WHO:
             answered((DONE, self._board))
@@ -139,7 +140,7 @@ def ask(capture: str, words: str) -> Optional[Answer]:
                 return None
             asked = words.encode("utf-8", "surrogateescape")
             if len(asked) > LONGEST:
-                return REFUSED, f"refused: {printable(words[:60])}: more than {LONGEST:,} bytes. Nothing of it counts"
+                return REFUSED, Message("refused.too_long", line=printable(words[:60]), most=format(LONGEST, ","))
             call.send(asked)
             call.settimeout(LONGEST_ANSWER)
             answer = call.recv(LONGEST + 1)

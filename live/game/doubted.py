@@ -4,22 +4,23 @@ from __future__ import annotations
 
 from typing import Sequence
 
-from live.game.attended import SINCE, Doubt
+from live.game.attended import AFTER, SINCE, Doubt
 from live.game.looks import Look
 from live.game.report import Move
+from live.words.message import Message, plural
 
 WHY = {
-    "LATE": "it corrects a move late, so moves may be missing: compare with the score sheets",
-    "ELSEWHERE": "pieces of the other side were on other squares before it, so moves may be missing: compare with the score sheets",
-    "BOTH-ELSEWHERE": "pieces of both sides were on other squares, so moves may be missing: compare with the score sheets",
-    "AFTER-GAP": "the board wasn't heard for a time, so moves may be missing: compare with the score sheets",
-    "TAKEN-BACK": "both players went straight back: if they took their moves back, take them off here too",
-    "UNPRESSED": "six moves were made and nobody pressed the clock: if the game is over, take them off here",
-    "OTHER-TIME": "players think while the other side's time runs: the clock may lie the other way round",
+    "LATE": Message("doubt.late"),
+    "ELSEWHERE": Message("doubt.elsewhere"),
+    "BOTH-ELSEWHERE": Message("doubt.both_elsewhere"),
+    "AFTER-GAP": Message("doubt.after_gap"),
+    "TAKEN-BACK": Message("doubt.taken_back"),
+    "UNPRESSED": Message("doubt.unpressed"),
+    "OTHER-TIME": Message("doubt.other_time"),
 }
 ABOUT_CLOCK = "clock"
-THE_START = "the start"  # in the place of a ply
-UNKNOWN = "moves may be missing: compare with the score sheets"  # for a word of a newer program
+THE_START = Message("ply.the_start")  # in the place of a ply
+UNKNOWN = Message("doubt.unknown")  # for a word of a newer program
 
 
 def byte_of(doubt: Doubt, ends: Sequence[int]) -> int:
@@ -29,16 +30,17 @@ def byte_of(doubt: Doubt, ends: Sequence[int]) -> int:
     return ends[ply] if 0 <= ply < len(ends) else 0
 
 
+def name_of(number: int, plies: Sequence[Move]) -> str:
+    """How the ply with this number is called, in a game that has these; 0 is the start."""
+    if not number:
+        return THE_START
+    return plies[number - 1].short if number <= len(plies) else Message("ply.number", number=number)
+
+
 def look_of(doubt: Doubt, plies: Sequence[Move]) -> Look:
     """What somebody must look at, in a game that has these plies. A ply that isn't known is named by its number."""
-    if not doubt.plies:
-        name = THE_START
-    elif doubt.plies <= len(plies):
-        name = plies[doubt.plies - 1].short
-    else:
-        name = f"ply {doubt.plies}"
+    name = name_of(doubt.plies, plies)
     if doubt.where == SINCE:
-        moves, them = ("a move was", "it") if doubt.moves == 1 else (f"{doubt.moves} moves were", "them")
-        why = f"{moves} made while the clock was stopped: if the players only tried {them}, take {them} off here"
-        return Look(f"since {name}", why, f"{ABOUT_CLOCK} {name}")
-    return Look(f"{doubt.where} {name}", WHY.get(doubt.why, UNKNOWN))
+        return Look(Message("look.since", ply=name), plural("doubt.clock_stopped", doubt.moves), f"{ABOUT_CLOCK} {name}")
+    what = Message("look.after", ply=name) if doubt.where == AFTER else Message("look.at", ply=name)
+    return Look(what, WHY.get(doubt.why, UNKNOWN))

@@ -11,6 +11,7 @@ from live.game.files import Paths, existing, put_in_place
 from live.game.options import Options
 from live.game.program import Program
 from live.game.report import Move, Result, line_of
+from live.words.message import Message
 
 CHANGES = 16  # the last changes of a game: its text may have been made after any of them
 LARGEST = 4 * 1024 * 1024  # bytes of a capture that is compared so closely
@@ -18,7 +19,7 @@ LARGEST = 4 * 1024 * 1024  # bytes of a capture that is compared so closely
 
 def told_of_edit(pgn: str, kept: str) -> str:
     """The message about an edited text."""
-    return f"{pgn} was edited by hand: that text is kept in {kept}, and a new one takes its place"
+    return Message("text.edited", pgn=pgn, kept=kept)
 
 
 def keep(paths: Paths, text: bytes) -> str:

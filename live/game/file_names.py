@@ -9,6 +9,7 @@ from typing import List
 
 from live.game.files import Paths, plain, size_of
 from live.refused import ARGUMENTS, REFUSED, Refused
+from live.words.message import Message
 
 # A shell completes to the last one.
 ENDINGS = (
@@ -29,21 +30,21 @@ def check_name(name: str) -> None:
     except OSError:
         is_device = False
     if is_device or name.startswith(DEVICES):
-        raise Refused(ARGUMENTS, f"{name} is a device: type the DEVICE first, and then the NAME")
+        raise Refused(ARGUMENTS, Message("name.is_device", name=name))
     if size_of(Paths(name).capture):
         return
     for ending in ENDINGS:
         game = name[: -len(ending)]
         if name.endswith(ending) and game.strip("./"):
-            raise Refused(REFUSED, f"{name} would be a file of the game: type its NAME alone, {game}")
+            raise Refused(REFUSED, Message("name.is_file", name=name, game=game))
     game = OF_A_GAME.sub("", name)
     if game != name and game.strip("./"):
-        raise Refused(REFUSED, f"{name} may be a file of the game {game}: choose another name")
+        raise Refused(REFUSED, Message("name.of_a_game", name=name, game=game))
     folder, _, last = plain(name).rpartition("/")
     if last.lower() in OF_A_ROUND and os.path.lexists(f"{folder or '.'}/{ROUND}.log"):
-        raise Refused(REFUSED, f"{name} may be a file of the round in {folder or 'this folder'}: choose another name")
+        raise Refused(REFUSED, Message("name.of_a_round", name=name, folder=folder or Message("name.this_folder")))
     if is_of_an_output(folder):
-        raise Refused(REFUSED, f"{folder} is the folder of an output of a round: choose another one")
+        raise Refused(REFUSED, Message("name.of_an_output", folder=folder))
 
 
 def is_of_an_output(folder: str) -> bool:

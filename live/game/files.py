@@ -12,7 +12,8 @@ from dataclasses import dataclass
 from typing import List, Optional, Union
 
 from live.lock import locked
-from live.refused import ANOTHER_CALL, FAILED, REFUSED, Refused
+from live.refused import FAILED, REFUSED, Refused, recorded_elsewhere
+from live.words.message import Message
 
 LARGEST = 64 * 1024 * 1024  # bytes of a capture: the program reads no more
 MEMORY = 1024 * 1024  # bytes that are kept in memory while they can't be written
@@ -191,11 +192,11 @@ def open_regular(path: AnyPath, flags: int) -> int:
         number = os.open(path, flags | os.O_NONBLOCK | os.O_NOCTTY | (os.O_NOFOLLOW if refuses else 0), 0o666)
     except OSError as error:
         if refuses and error.errno == errno.ELOOP:
-            raise OSError(errno.ELOOP, f"{os.path.basename(path)} is a link", os.fspath(path)) from None
+            raise OSError(errno.ELOOP, Message("file.is_link", path=os.path.basename(path)), os.fspath(path)) from None
         raise
     try:
         if not stat.S_ISREG(os.fstat(number).st_mode):
-            raise OSError(errno.EINVAL, f"{os.path.basename(path)} is no regular file", os.fspath(path))
+            raise OSError(errno.EINVAL, Message("file.not_regular", path=os.path.basename(path)), os.fspath(path))
     except BaseException:
         os.close(number)
         raise
@@ -261,7 +262,7 @@ def not_written(path: AnyPath, error: OSError) -> str:
 def unwritten(path: AnyPath, why: str, full: bool) -> str:
     """The same, given the reason in words, and whether there is no room: a file may also be larger than a process may write."""
     asks = full and why != os.strerror(errno.EFBIG)
-    return f"{path} can't be written ({why}): {'is the disk full?' if asks else 'put that right'}"
+    return Message("file.unwritten_full", path=path, why=why) if asks else Message("file.unwritten", path=path, why=why)
 
 
 class Recorded(Refused):
@@ -290,7 +291,7 @@ class Capture:
                 number = open_regular(path, os.O_RDWR | os.O_APPEND | os.O_CREAT)
                 try:
                     if not locked(number, patience):
-                        raise Recorded(REFUSED, f"{path} {ANOTHER_CALL}, or choose another name")
+                        raise Recorded(REFUSED, Message("name.recorded_elsewhere", recorded=recorded_elsewhere(path)))
                     if _has_name(number, path):
                         if not os.fstat(number).st_size:
                             sync_folder(folder_of(path))  # it may be new: no other file of the game is there without it
@@ -300,8 +301,9 @@ class Capture:
                     raise
                 os.close(number)  # the last owner of the lock has put a new file in its place
         except OSError as error:
-            right = "get the right to, or " if isinstance(error, PermissionError) else ""
-            raise Refused(FAILED, f"{path} can't be written ({text_of(error)}): {right}choose another name") from None
+            if isinstance(error, PermissionError):
+                raise Refused(FAILED, Message("name.no_right", path=path, why=text_of(error))) from None
+            raise Refused(FAILED, Message("name.unwritable", path=path, why=text_of(error))) from None
 
     @staticmethod
     def begin(path: str, content: bytes) -> Capture:
@@ -458,10 +460,10 @@ def size_of(path: AnyPath) -> int:
 def open_game(paths: Paths, patience: float = LOCK_PATIENCE) -> Capture:
     """The capture of a game, new or old."""
     if not os.path.isdir(paths.folder):
-        raise Refused(FAILED, f"there is no folder {paths.folder}: make it, or choose another name")
+        raise Refused(FAILED, Message("name.no_folder", folder=paths.folder))
     try:
         if os.path.exists(paths.pgn) and not os.path.exists(paths.capture):
-            raise Refused(REFUSED, f"{paths.pgn} is there without {paths.capture}: choose another name, or move it away")
+            raise Refused(REFUSED, Message("name.text_alone", pgn=paths.pgn, capture=paths.capture))
     except OSError as error:
-        raise Refused(FAILED, f"{paths.capture} can't be written ({text_of(error)}): choose another name") from None
+        raise Refused(FAILED, Message("name.unwritable", path=paths.capture, why=text_of(error))) from None
     return Capture.open(paths.capture, patience)

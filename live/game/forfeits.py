@@ -14,6 +14,7 @@ from live.game.game import is_unplayed
 from live.game.reply import REOPENS, Refused
 from live.game.typed import NOUGHTS, Typed, read_words, refuse_no_text
 from live.game.typed import BOTH_LOSE as NO_SCORE
+from live.words.message import Message
 
 WHITE, BLACK, BOTH = "+-", "-+", "--"  # White wins, Black wins, nobody does
 SCORES: Dict[str, str] = {WHITE: "1-0", BLACK: "0-1", BOTH: NOUGHTS}
@@ -21,8 +22,8 @@ NO_RESULT = "*"
 TERMINATION = "rules infraction"
 SPELT: Dict[str, str] = {"+--": WHITE, "--+": BLACK}  # +:- and + - -, as pairing programs write them
 MARKED = re.compile(r"([01])F?-([01])(?:F|FF|K|FORFEIT)|([01])F-([01])F", re.IGNORECASE)
-BOTH_LOSE = "PGN has no result for two players who lose. Leave it without one, and note it"
-ALONE = "type {} FF alone, in a line of its own"
+BOTH_LOSE = Message("forfeit.both_lose")
+
 
 
 @dataclass(frozen=True)
@@ -34,7 +35,7 @@ class Forfeit:
     @property
     def words(self) -> str:
         """What it comes to."""
-        return f"forfeit {SCORES[self.kind]}"
+        return Message("forfeit.words", score=SCORES[self.kind])
 
     @property
     def result(self) -> str:
@@ -77,12 +78,12 @@ def read_typed(text: str, name: str = "") -> Union[Forfeit, Typed]:
     if kind:
         return Forfeit(kind)
     if in_one_word(text) == NOUGHTS:
-        raise Refused(f"{NO_SCORE}. If neither player has come, type {BOTH}")
+        raise Refused(Message("forfeit.noughts", no_score=NO_SCORE, both=BOTH))
     words = text.split()
     if len(words) > 1 and name and text.strip().endswith(f" {name}"):
         named = in_a_table(" ".join(words[: -len(name.split())]))
         if named:
-            raise Refused(ALONE.format(SCORES[named]))
+            raise Refused(Message("forfeit.alone", score=SCORES[named]))
     return read_words(text)
 
 
@@ -99,7 +100,7 @@ def told_to_readers(kind: str) -> Mapping[str, str]:
 def refuse_played(plies: int, result: str, typed: Forfeit) -> None:
     """Refused if a game with so many plies and this result can't be the one that is forfeited: it has a result as others have."""
     if plies:
-        how = BOTH_LOSE if typed.kind == BOTH else f"type {typed.result}"
-        raise Refused(f"the game has moves, so it isn't a forfeit: {how}")
+        how = BOTH_LOSE if typed.kind == BOTH else Message("forfeit.type_the_result", result=typed.result)
+        raise Refused(Message("forfeit.has_moves", how=how))
     if typed.result == NO_RESULT and result != NO_RESULT:
-        raise Refused(f"the game has the result {result}: take that off first, with {REOPENS}")
+        raise Refused(Message("forfeit.has_result", result=result, reopens=REOPENS))

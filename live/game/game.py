@@ -15,6 +15,7 @@ from live.game.program import Program
 from live.game.tags import Tags
 from live.game.timed import Times
 from live.refused import FAILED, REFUSED, Refused
+from live.words.message import Message
 
 RESULT = re.compile(rb'^\[Result "([^"]*)"\]$', re.MULTILINE)
 SERIAL = re.compile(rb"([!-~]{5})\s*")
@@ -137,11 +138,11 @@ def kept_options(paths: Paths) -> Optional[Options]:
     except OSError as error:
         if error.errno in NO_SUCH_FILE:
             return None
-        raise Refused(FAILED, f"{paths.options} can't be read ({text_of(error)}): move it away") from None
+        raise Refused(FAILED, Message("options.unreadable", path=paths.options, why=text_of(error))) from None
     try:
         return Options.of_text(text)
     except Refused as refused:
-        raise Refused(REFUSED, f"{paths.options} can't be read ({refused.lines[0]}): put it right, or move it away") from None
+        raise Refused(REFUSED, Message("options.wrong", path=paths.options, why=refused.lines[0])) from None
 
 
 def kept_tags(paths: Paths) -> Tags:

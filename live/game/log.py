@@ -8,6 +8,7 @@ import time
 from typing import Dict, Optional
 
 from live.game.files import AnyPath, Paths, open_regular, text_of
+from live.words.message import Message, plural
 
 MOST_TROUBLES = 8  # messages about a log
 DATE = len("2024-05-31 ")
@@ -77,9 +78,8 @@ class Log:
     def _gap(self) -> str:
         why = "; ".join(self._troubles)
         if self._missing == 0:
-            return f"(the log couldn't be opened at first: {why})"
-        lines = "1 line is" if self._missing == 1 else f"{self._missing} lines are"
-        return f"({lines} missing here: the log couldn't be written: {why})"
+            return Message("log.opened_late", why=why)
+        return plural("log.missing", self._missing, why=why)
 
     def close(self) -> None:
         """Writes nothing further. An unexpected error is raised here if the log couldn't report it."""

@@ -5,7 +5,11 @@ from __future__ import annotations
 from dataclasses import dataclass
 from typing import Container, Iterable, List, Tuple
 
-AFTER_RESULT = "it corrects the last move after its result: compare with the score sheets"
+from live.words.message import Message, linked
+
+
+AFTER_RESULT = Message("look.after_result")
+AT_THE_GAME = Message("look.at_the_game")
 OVER = "over"  # what an alarm about moves after a result is about
 
 
@@ -20,12 +24,12 @@ class Look:
     @property
     def short(self) -> str:
         """`LOOK at 4... Qg4+`."""
-        return f"LOOK {self.what}"
+        return Message("look.short", what=self.what)
 
     @property
     def text(self) -> str:
         """In full."""
-        return f"{self.short}: {self.why}"
+        return linked("colon", (self.short, self.why))
 
     def counts_on(self, before: Look) -> bool:
         """Whether it only counts more moves after a result than the one before."""
@@ -57,12 +61,12 @@ class Looks:
         if not self.open:
             return ""
         more = len(self.open) - 1
-        return self.open[0].short + (f" and {more} more" if more else "")
+        return Message("look.and_more", look=self.open[0].short, count=more) if more else self.open[0].short
 
     @property
     def all(self) -> str:
         """All of them in full."""
-        return "; ".join(look.text for look in self.open)
+        return linked("semicolon", (look.text for look in self.open))
 
     def content(self) -> bytes:
         """The text that is kept beside the game: a line for each."""
@@ -81,5 +85,5 @@ def _read(lines: Iterable[str]) -> List[Look]:
         if len(parts) == 3:
             looks.append(Look(*parts))
         elif line.strip():
-            looks.append(Look("at the game", line.strip()))
+            looks.append(Look(AT_THE_GAME, line.strip()))
     return looks

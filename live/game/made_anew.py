@@ -27,6 +27,7 @@ from live.game.report import Move, Picture, line_of
 from live.game.times import BACK, OVER, REOPENED
 from live.game.way_back import ALL, ANEW, AS_IT_IS, CUT, NO_RESULT, PLIES, SIGNED, STILL_SHOWN, Way
 from live.game.way_back import asked_of, nothing_goes, played_since, refuse, stays_of, taken_up, way_of
+from live.words.message import Message, linked
 
 NO_LINKS = (errno.EPERM, errno.EOPNOTSUPP, errno.EMLINK)  # a file system without hard links
 
@@ -66,7 +67,8 @@ def put_way(game: Game, way: Way, end: Optional[int] = None) -> str:
     game.times.begin()
     if end is not None:
         game.times.note(OVER, end)
-    return f"{_settle(game.paths, way)}What the board had sent is kept in {kept}"
+    settled, kept_in = _settle(game.paths, way), Message("back.kept", kept=kept)
+    return linked("stop", (settled, kept_in)) if settled else kept_in
 
 
 def _renew(game: Game, way: Way, end: Optional[int]) -> None:
@@ -96,7 +98,7 @@ def _settle(paths: Paths, way: Way) -> str:
         keep_looks(paths, left)
     except OSError:
         return ""  # it stays, and must be acknowledged
-    return f"Settled: {', '.join(look.short for look in before.open if look not in left.open)}. "
+    return Message("look.settled", looks=linked("comma", (look.short for look in before.open if look not in left.open)))
 
 
 # Games that nobody records, or that are over.
@@ -128,8 +130,10 @@ def go_back_closed(game: Game, to: str, listens: bool = False, may_stay: bool = 
     if way is None:
         raise refuse(said, to, course.plies)
     ask_first(game.paths, way)
-    more = ". The game stays over" if is_over else ""
-    return _put_closed(game, way, len(way.content) if is_over else None) + (". The game begins with the moves made since the start" if anew else more)
+    done = _put_closed(game, way, len(way.content) if is_over else None)
+    if anew:
+        return Message("back.begins_since_the_start", done=done)
+    return Message("back.stays_over", done=done) if is_over else done
 
 
 def reopen(game: Game, is_there: bool = False) -> str:
@@ -137,14 +141,14 @@ def reopen(game: Game, is_there: bool = False) -> str:
     message. Refused if the game has no result and isn't over, if it ended by mate, or if the board itself shows the result and
     its device is there; OSError if a file can't be written."""
     mark, course = end_mark(game.paths), course_of(game)
-    had, total, goes_on = course.result, len(course.plies), f"{game.paths.name} goes on"
+    had, total, name = course.result, len(course.plies), game.paths.name
     if mark is None and had == NO_RESULT:
         return unforfeited(game.paths, course.plies)
     said = _said(game, game.capture.bytes(), asked_of(had, total))
     how = taken_up(had, said, is_there)
     if how == AS_IT_IS:
         more = _open_again(game)
-        return f"{goes_on}, without the result{played_since(course.plies, course_of(game).plies)}{more}"
+        return and_made(Message("over.goes_on", name=name, since=played_since(course.plies, course_of(game).plies)), more)
     way = None
     if how == ANEW:
         way = Way(course.plies, total, had, said.put)
@@ -153,9 +157,9 @@ def reopen(game: Game, is_there: bool = False) -> str:
     if way is None:
         raise refuse(said, ALL, course.plies)
     if mark is None or had == NO_RESULT or how == CUT:
-        return f"{goes_on}: {_put_closed(game, way)}"
+        return Message("over.goes_on_so", name=name, done=_put_closed(game, way))
     kept = _put_closed(game, way, says=False)
-    return f"{goes_on}, without the result{played_since(course.plies, course_of(game).plies)}. {kept}"
+    return linked("stop", (Message("over.goes_on", name=name, since=played_since(course.plies, course_of(game).plies)), kept))
 
 
 def or_reopened(game: Game, change: Callable[[], str]) -> str:
@@ -167,7 +171,7 @@ def or_reopened(game: Game, change: Callable[[], str]) -> str:
     except OSError as error:
         if not was_over or end_mark(game.paths) is not None:
             raise
-        return f"the game goes on. {not_written(game.paths.pgn, error)}"
+        return Message("over.goes_on_unwritten", unwritten=not_written(game.paths.pgn, error))
 
 
 def replace_result(game: Game, line: str, is_there: bool) -> Optional[Tuple[Said, str]]:
@@ -196,9 +200,9 @@ def replace_result(game: Game, line: str, is_there: bool) -> Optional[Tuple[Said
 def unforfeited(paths: Paths, plies: Sequence[Move]) -> str:
     """A game that goes on and has no result isn't forfeited any more. Returns the message. Refused if it wasn't."""
     if plies or not kept_forfeit(paths):
-        raise Refused("the game has no result")
+        raise Refused(Message("result.none"))
     drop_forfeit(paths)
-    return "the game isn't forfeited any more"
+    return Message("forfeit.gone")
 
 
 def course_of(game: Game, now: float = 0.0) -> Course:
@@ -249,14 +253,19 @@ def _put_closed(game: Game, way: Way, end: Optional[int] = None, says: bool = Tr
     text = Text(game)
     text.look(end_mark(game.paths))
     kept = put_way(game, way, end)
-    return (f"{way.words}. {kept}" if says else kept) + made_of(game, text.make(None))
+    return and_made(linked("stop", (way.words, kept)) if says else kept, made_of(game, text.make(None)))
 
 
 def made_of(game: Game, made: Made) -> str:
-    """What is added to a message about a text that was made. Raises OSError if it couldn't be made."""
+    """What else is to be said of a text that was made; mostly nothing. Raises OSError if it couldn't be made."""
     if made.trouble:
         raise made.error()
-    return f"; {told_of_edit(game.paths.pgn, made.edited)}" if made.edited else ""
+    return told_of_edit(game.paths.pgn, made.edited) if made.edited else ""
+
+
+def and_made(done: str, made: str) -> str:
+    """What was done, and what `made_of` says."""
+    return linked("semicolon", filter(None, (done, made)))
 
 
 # The question.

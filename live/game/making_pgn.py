@@ -18,20 +18,26 @@ from live.game.files import LARGEST, NO_ROOM, AnyPath, Opened
 from live.game.files import content_of, existing, new_of, open_new, open_regular, sync_folder, text_of, unwritten, write_all
 from live.game.game import Game
 from live.game.options import Options
-from live.game.program import ending_of, wake
+from live.game.program import told_of_ending, wake
 from live.guard import Guard
 from live.loop import Timer
+from live.words.message import Message
 
 AGAIN = 1.0  # seconds after a try that failed
 WRITE_FAULT = 3  # the program's status if a stream failed
 SLOWEST = 60.0  # seconds that a call may take before it is ended and begun anew
 
 
+def first_time(side: str) -> str:
+    """The message whose time comes first."""
+    return Message("text.white_first") if side == "white" else Message("text.black_first")
+
+
 def told_of_reading(before: Options, now: Options, pairs: Sequence[str]) -> List[str]:
     """What to report if a game is made anew because its capture is read differently; `pairs` are those recovered now."""
-    told = [f"{now.side.capitalize()}'s time comes first"] if now.side != before.side else []
+    told = [first_time(now.side)] if now.side != before.side else []
     if bool(now.recover) != bool(before.recover):
-        told += list(pairs) or ["nothing recovered"]
+        told += list(pairs) or [Message("text.nothing_recovered")]
     return told
 
 
@@ -40,8 +46,8 @@ def told_of_result(before: str, now: str) -> List[str]:
     if before == now:
         return []
     if now == "*":
-        return [f"the result {before} is gone: add it again"]
-    return [f"the result is {now}" if before == "*" else f"the result is {now}, and was {before}"]
+        return [Message("result.gone", result=before)]
+    return [Message("result.now", result=now) if before == "*" else Message("result.changed", result=now, before=before)]
 
 
 @dataclass(frozen=True)
@@ -152,12 +158,12 @@ class Text:
         status = child.wait()
         if status in (WRITE_FAULT, -signal.SIGXFSZ):
             os.write(target, b"\n")  # what stopped `record` stops this too, and says why
-            return Made("no room" if status < 0 else f"record {ending_of(status)}", status < 0)
+            return Made(Message("disk.no_room") if status < 0 else told_of_ending("record", status), status < 0)
         if status != 0:
-            return Made(f"record {ending_of(status)}")
+            return Made(told_of_ending("record", status))
         for recover in before:
             if recover.wait() != 0:
-                return Made(f"recover {ending_of(recover.returncode)}")
+                return Made(told_of_ending("recover", recover.returncode))
         return Made()
 
     def _start_children(self, limit: Optional[int], target: int) -> int:

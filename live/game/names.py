@@ -10,6 +10,9 @@ import time
 import unicodedata
 from typing import Dict, List, Match, Optional
 
+from live.words.message import Complaint, Message
+
+
 LONGEST = 100  # characters of a tag's value
 
 # What passports write for the letters that aren't a basic letter with a mark (the tables for Latin letters of ICAO Doc 9303),
@@ -32,7 +35,7 @@ PARTS = {
 }
 
 
-class Unreadable(Exception):
+class Unreadable(Complaint):
     """What was typed can't be changed to PGN. The text says why, and what to write; the name of the value goes before it."""
 
 
@@ -43,11 +46,11 @@ def ascii_name(text: str) -> str:
     for at, letter in enumerate(composed):
         written = _written(letter, composed[at - 1 : at], composed[at + 1 : at + 2])
         if written is None:
-            raise Unreadable("has letters that PGN can't take: write it with the letters A to Z")
+            raise Unreadable(Message("name.letters"))
         turned.append(written)
     name = "".join(turned)
     if len(name) > LONGEST:
-        raise Unreadable(f"has {len(name)} letters: write at most {LONGEST}")
+        raise Unreadable(Message("name.long", count=len(name), most=LONGEST))
     return name
 
 
@@ -82,7 +85,7 @@ def pgn_date(text: str) -> str:
         match = pattern.fullmatch(text.strip())
         if match:
             return _date(text, match)
-    raise Unreadable(f"{_shown(text)!r} can't be read: write it as 2024.05.31, with ? for what isn't known")
+    raise Unreadable(Message("date.unreadable", text=repr(_shown(text))))
 
 
 def today() -> str:
@@ -97,7 +100,7 @@ def _date(text: str, match: Match[str]) -> str:
     # A leap year and a long month replace unknown ones.
     numbers = [int(part) if part.isdigit() else known for part, known in ((year, 2000), (month, 1), (day, 1))]
     if not is_a_day(*numbers):
-        raise Unreadable(f"{_shown(text)!r} isn't in the calendar: write it as 2024.05.31, year, month and day")
+        raise Unreadable(Message("date.not_in_calendar", text=repr(_shown(text))))
     return f"{year}.{month}.{day}"
 
 

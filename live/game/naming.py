@@ -8,13 +8,14 @@ from typing import Dict, List, Optional
 from live.game.options import DATE, PUBLISHED, TAG, UNKNOWN, Options
 from live.game.reply import Refused
 from live.game.tags import Malformed, pair_of
+from live.words.message import Message, linked
 
 NAME = "name"
 OPTION_OF = {"Date": DATE, **{name: option for option, name in PUBLISHED.items()}}
 NEXT_PAIR = re.compile(r"\s+(?=[A-Za-z]+\s*=)")  # before the second pair in a line, and those after it
 PLACE = re.compile(r"^\s*place\s*=", re.IGNORECASE)  # what PGN calls Site
-HOW = "type name White=Anna, name Black=Ben, and so on: Event, Place, Date and Round can be put right too"
-IN_A_TABLE = "the names of a round are in its table: change them there, save it, and type r"
+HOW = Message("naming.how")
+IN_A_TABLE = Message("naming.in_a_table")
 
 
 def is_naming(text: str) -> bool:
@@ -30,7 +31,7 @@ def read_names(text: str) -> Options:
         try:
             name, value = pair_of(PLACE.sub("Site=", unquoted(pair), count=1))
         except Malformed as error:
-            raise Refused(f"{error}. {HOW.replace('type', 'Type', 1)}") from None
+            raise Refused(Message("naming.malformed", why=error.message)) from None
         words += [OPTION_OF[name], value or UNKNOWN] if name in OPTION_OF else [TAG, f"{name}={value}"]
     if not words:
         raise Refused(HOW)
@@ -47,9 +48,9 @@ def told_of_names(now: Options, before: Options) -> str:
     tags: Dict[str, str] = dict(before.tags)
     others = {name: value for name, value in now.tags if name not in OPTION_OF and tags.get(name) != value}
     gone = [name for name in tags if name not in (*OPTION_OF, *dict(now.tags))]
-    parts = [now.told_of_tags(before), *(f"its {name} is now {value}" for name, value in others.items())]
-    parts += [f"it has no {name} any more" for name in gone]
-    return "; ".join(filter(None, parts)) or "nothing has changed"
+    parts = [now.told_of_tags(before), *(Message("naming.now", name=name, value=value) for name, value in others.items())]
+    parts += [Message("naming.gone", name=name) for name in gone]
+    return linked("semicolon", filter(None, parts)) or Message("naming.nothing_changed")
 
 
 def line_of(given: Options) -> Optional[str]:

@@ -21,6 +21,7 @@ from live.game.refusal import reason
 from live.game.timed import Times
 from live.loop import Callback
 from live.refused import FAILED, REFUSED, Refused
+from live.words.message import Message
 
 # What changes each tag, and what it is called if that fails.
 TURNS: Dict[str, Callable[[str], str]] = {
@@ -32,12 +33,12 @@ TURNS: Dict[str, Callable[[str], str]] = {
     "--date": names.pgn_date,
 }
 CALLED: Dict[str, str] = {
-    "--event": "the name of the event",
-    "--site": "the place",
-    "--round": "the round",
-    "--white": "the white player's name",
-    "--black": "the black player's name",
-    "--date": "the date",
+    "--event": Message("tag.event"),
+    "--site": Message("tag.site"),
+    "--round": Message("tag.round"),
+    "--white": Message("tag.white"),
+    "--black": Message("tag.black"),
+    "--date": Message("tag.date"),
 }
 
 
@@ -78,7 +79,7 @@ def turned(given: Options) -> Options:
             try:
                 return TURNS[option](value)
             except names.Unreadable as error:
-                raise Refused(REFUSED, f"{CALLED[option]} {error}") from None
+                raise Refused(REFUSED, Message("start.unfit_value", called=CALLED[option], why=error.message)) from None
 
         return of_value
 
@@ -151,7 +152,7 @@ class Opening:
         with self._lock:
             if self._dropped:
                 capture.close()
-                raise Refused(FAILED, "nobody wants it any more")
+                raise Refused(FAILED, Message("start.not_wanted"))
             self._capture = capture
         try:
             return self._read(capture, chooses, now, today)
@@ -254,15 +255,15 @@ def added_to_kept(given: Options, name: str, told_first: Sequence[str] = (), is_
 def refuse_another_game(chosen: Options, kept: Options, name: str, is_over: bool) -> None:
     """Refuses options that a game with moves can't go on with."""
     if not chosen.lies_as(kept) or (is_over and not chosen.has_tags_of(kept)):
-        goes_on = "give none to go on, or choose another name"
+        goes_on = Message("start.give_none")
         if not as_typed(kept.words()):
-            raise Refused(REFUSED, f"{name} has moves, and was begun without options: {goes_on}")
-        raise Refused(REFUSED, f"{name} has moves, and was begun with other options: {goes_on}. They were", kept.said)
+            raise Refused(REFUSED, Message("start.without_options", name=name, goes_on=goes_on))
+        raise Refused(REFUSED, Message("start.other_options", name=name, goes_on=goes_on), kept.said)
     if chosen.has_other_players_than(kept):
         raise Refused(
             REFUSED,
-            f"{name} has moves of {kept.players}: choose another name for another game",
-            "To change both names, start it without them, and type: name White=Anna Black=Ben",
+            Message("start.other_players", name=name, players=kept.players),
+            Message("start.change_both_names"),
         )
 
 
@@ -274,7 +275,7 @@ def strictly(given: Options, name: str) -> Chooses:
         if kept is not None and not kept.is_said_by(given):
             wanted = kept.going_on(given, has_moves())
         if wanted is None:
-            raise Refused(REFUSED, f"{name} was begun with other options")
+            raise Refused(REFUSED, Message("start.begun_with_others", name=name))
         before = kept or Options()
         tags_now = given if wanted == given else given.tagged_over(before)
         chosen = wanted.tagged(dict(tags_now.tags)).recovering(before.recovers_with(given))
@@ -296,8 +297,8 @@ def of_a_line(given: Options, name: str) -> Chooses:
                 raise
             stays, asked = kept.fixed().of_board(), given.fixed().of_board()
             if stays != asked:
-                words = " ".join(as_typed(stays)) or "nothing in the columns rotated and fen"
-                told.append(f"the game has moves, and keeps what it was begun with: {words}")
+                words = " ".join(as_typed(stays)) or Message("start.lies_as_usual")
+                told.append(Message("start.keeps", words=words))
             wanted = kept.with_tags_of(given).recovering(kept.recovers_with(given))
             told += filter(None, [wanted.told_of_tags(kept)])
         chosen = wanted.tagged(dict(given.tags)).with_first(given.side)

@@ -9,6 +9,7 @@ from typing import Callable, Dict, List, Mapping, Optional, Sequence, Tuple
 from live.called import DGT_LIVE
 from live.game.tags import Malformed, pair_of
 from live.refused import ARGUMENTS, REFUSED, Refused
+from live.words.message import Message, linked
 
 FIRST, FEN = "--first", "--fen"
 DATE = "--date"
@@ -24,7 +25,7 @@ VALUED = (FIRST, FEN, *TAGS)
 ROTATED, RECOVER, STRICT = "--rotated", "--recover", "--strict"
 NOT_ROTATED = f"{ROTATED}=no"  # takes ROTATED back
 PLAIN = (ROTATED, NOT_ROTATED, RECOVER, STRICT)
-SEE_HELP = f"see {DGT_LIVE} --help"
+SEE_HELP = Message("help.live", dgt_live=DGT_LIVE)
 INITIAL = "rnbqkbnr/pppppppp/8/8/8/8/PPPPPPPP/RNBQKBNR"
 
 
@@ -68,13 +69,13 @@ class Options:
                 tags[name] = tags_value
                 continue
             if option[2:] in values:
-                raise Refused(ARGUMENTS, f"{option} is given twice: {SEE_HELP}")
+                raise Refused(ARGUMENTS, with_help(Message("option.twice", option=option)))
             if word in (ROTATED, NOT_ROTATED):
                 values["rotated"], values["unrotated"] = word == ROTATED, word == NOT_ROTATED
             elif option in (*VALUED, BEGAN):
                 values[option[2:]] = value if equals else value_of(word, left)
             else:
-                raise Refused(ARGUMENTS, f"there is no option {word}: {SEE_HELP}")
+                raise Refused(ARGUMENTS, with_help(Message("option.unknown", word=word)))
         return Options(**values, tags=sorted_pairs(tags))  # type: ignore[arg-type]
 
     def words(self) -> Tuple[str, ...]:
@@ -92,7 +93,7 @@ class Options:
     def of_text(text: str) -> Options:
         """From the kept text, one word a line."""
         if "\0" in text:
-            raise Refused(REFUSED, "it has a character that no option has")
+            raise Refused(REFUSED, Message("option.character"))
         return Options.of_words(text.split("\n")[:-1])
 
     def text(self) -> str:
@@ -110,7 +111,7 @@ class Options:
         for word in self.words():
             if "\n" in word:
                 option, _, value = word.partition("=")
-                raise Refused(REFUSED, f"{option} has a line break in it: type {value!r} in one line")
+                raise Refused(REFUSED, Message("option.line_break", option=option, value=repr(value)))
 
     # Which calls of the program get which options.
 
@@ -279,25 +280,37 @@ class Options:
     def told_of_tags(self, before: Options) -> str:
         """The message if the tags differ from before; empty if they are the same."""
         told = [self._told_of_tag(option, PUBLISHED[option], before) for option in PLAYERS]
-        told += [self._told_of_tag(option, f"its {as_typed([option])[0][2:]}", before) for option in TAGS if option not in PLAYERS]
-        return "; ".join(filter(None, told))
+        others = [option for option in TAGS if option not in PLAYERS]
+        told += [self._told_of_tag(option, Message("tag.its", tag=as_typed([option])[0][2:]), before) for option in others]
+        return linked("semicolon", filter(None, told))
 
     def _told_of_tag(self, option: str, called: str, before: Options) -> str:
         """The message about one tag, which is called so."""
         value, was = self.shown(option), before.shown(option)
         if value == was:
             return ""
-        says = f"{called} is unknown now" if value == UNKNOWN else f"{called} is now {value}"
-        return says if was == UNKNOWN else f"{says}, and was {was}"
+        says = Message("tag.unknown_now", called=called) if value == UNKNOWN else Message("tag.now", called=called, value=value)
+        return says if was == UNKNOWN else Message("tag.now_and_was", says=says, was=was)
 
     def told_of_all(self, before: Options) -> str:
         """The message if a game without a move has other options than before; empty if it doesn't."""
-        return "" if self.fixed() == before.fixed() else f"its options are now {self.said}, and were {before.said}"
+        return "" if self.fixed() == before.fixed() else Message("options.now", now=self.said, before=before.said)
 
     def told_of_turned(self, typed: Options) -> List[str]:
         """The message about values that were changed to what PGN allows."""
         pairs = [(option, typed.value(option), self.value(option)) for option in VALUED]
-        return [f"{option} {old} is written as {new}" for option, old, new in pairs if old != new]
+        return [Message("tag.written_as", option=option, old=old, new=new) for option, old, new in pairs if old != new]
+
+
+def with_help(message: str, see_help: str = SEE_HELP) -> str:
+    """A complaint, and where the options are explained."""
+    return linked("colon", (message, see_help))
+
+
+def without_help(message: str, see_help: str) -> str:
+    """The same without that."""
+    is_linked = isinstance(message, Message) and message.places.get("last") == see_help
+    return str(message.places["front"]) if isinstance(message, Message) and is_linked else message
 
 
 def sorted_pairs(tags: Mapping[str, str]) -> Tuple[Tuple[str, str], ...]:
@@ -310,13 +323,13 @@ def typed_tag(text: str, see_help: str = SEE_HELP) -> str:
     try:
         return "=".join(pair_of(text))
     except Malformed as error:
-        raise Refused(ARGUMENTS, f"{TAG} {error}: {see_help}") from None
+        raise Refused(ARGUMENTS, with_help(Message("option.malformed_tag", tag=TAG, why=error.message), see_help)) from None
 
 
 def value_of(option: str, left: List[str], see_help: str = SEE_HELP) -> str:
     """The value of an option: the next word."""
     if not left:
-        raise Refused(ARGUMENTS, f"{option} wants a value: {see_help}")
+        raise Refused(ARGUMENTS, with_help(Message("option.wants_value", option=option), see_help))
     return left.pop(0)
 
 
@@ -324,8 +337,8 @@ def typed_value(option: str, left: List[str], see_help: str = SEE_HELP) -> str:
     """The next word as somebody typed it. One that looks like an option is refused: a value may have been forgotten."""
     value = value_of(option, left, see_help)
     if value[:2] == "--" and value[2:3].isalpha():
-        what = f"{option} wants a value, and {value} looks like an option"
-        raise Refused(ARGUMENTS, f"{what}. As a text it is typed {assigned(option, value)}")
+        what = Message("option.wants_value_not", option=option, value=value)
+        raise Refused(ARGUMENTS, Message("option.as_a_text", what=what, typed=assigned(option, value)))
     return value
 
 
@@ -351,4 +364,4 @@ def as_typed(words: Sequence[str]) -> List[str]:
 
 def no_option(word: str, see_help: str = SEE_HELP) -> Refused:
     """The answer to an unknown option, which may also be a name that begins with `-`."""
-    return Refused(ARGUMENTS, f"there is no option {word}; a name that begins so is typed as ./{word}: {see_help}")
+    return Refused(ARGUMENTS, with_help(Message("option.unknown_or_name", word=word), see_help))

@@ -16,30 +16,31 @@ from live.game.files import Paths, existing, new_of, not_written, open_new, open
 from live.game.made_anew import NO_LINKS
 from live.lock import locked
 from live.refused import FAILED, REFUSED, Refused
+from live.words.message import Message
 
 README = "README.txt"
 # The end of each file's name, after the game's name and a full stop, and what the file has. The capture is read last, so that no
 # other file speaks of bytes that it lacks.
 FILES = (
-    ("times", "when these bytes came, and what else happened at the board"),
-    ("began", "when each call in the times began, by the computer's own clock"),
-    ("pgn", "the game, as it was recorded"),
-    ("options", "the options, with the players' names, and the day on which the game began"),
-    ("log", "what was printed of the game, with date and time of day"),
-    ("look", "what somebody is still to look at"),
-    ("end", "how many bytes of the capture are the game's"),
-    ("serial", "the serial number of the board"),
-    ("cable", "the serial number of another board that was left on the cable"),
-    ("forfeit", "how the game was forfeited"),
-    ("back", "what was asked before many plies are taken off"),
-    ("front", "how many bytes of the capture were made when plies were taken off"),
-    (r"before\.dgt", "what the board had sent before the pieces were set up"),
-    (r"before\.times", "when those bytes came"),
-    (r"before-[0-9]+\.dgt", "the capture before plies were taken off"),
-    (r"before-[0-9]+\.times", "when those bytes came"),
-    (r"edited(?:-[0-9]+)?\.pgn", "a text of the game that somebody had edited"),
-    (r"other(?:-[0-9]+)?\.times", "times that don't belong to the capture"),
-    ("dgt", "the capture: what the board sent, and what was added by hand"),
+    ("times", Message("packed.times")),
+    ("began", Message("packed.began")),
+    ("pgn", Message("packed.pgn")),
+    ("options", Message("packed.options")),
+    ("log", Message("packed.log")),
+    ("look", Message("packed.look")),
+    ("end", Message("packed.end")),
+    ("serial", Message("packed.serial")),
+    ("cable", Message("packed.cable")),
+    ("forfeit", Message("packed.forfeit")),
+    ("back", Message("packed.back")),
+    ("front", Message("packed.front")),
+    (r"before\.dgt", Message("packed.before")),
+    (r"before\.times", Message("packed.times_before")),
+    (r"before-[0-9]+\.dgt", Message("packed.before_back")),
+    (r"before-[0-9]+\.times", Message("packed.times_before")),
+    (r"edited(?:-[0-9]+)?\.pgn", Message("packed.edited")),
+    (r"other(?:-[0-9]+)?\.times", Message("packed.other_times")),
+    ("dgt", Message("packed.capture")),
 )
 OTHER = re.compile(r"other(?:-[0-9]+)?\.times")  # with a capture of the same name they are those of another game
 UNFIT = re.compile(r'[\x00-\x1f\x7f"*/:<>?\\|\ud800-\udfff]')  # for a name in an archive, on one system or another
@@ -95,7 +96,7 @@ def pack(paths: Paths, version: str) -> Packed:
 def refuse_existing(path: str) -> None:
     """No file is replaced."""
     if os.path.lexists(path):
-        raise Refused(REFUSED, f"{path} is there already: move it away, or give it another name, and type it again")
+        raise Refused(REFUSED, Message("pack.exists", path=path))
 
 
 # What is packed.
@@ -125,14 +126,14 @@ def _parts(paths: Paths, opened: contextlib.ExitStack) -> Tuple[List[Part], List
             continue  # it was removed just now
         except OSError as error:
             if name == capture:
-                raise Refused(FAILED, f"{paths.capture} can't be read ({text_of(error)})") from None
-            left_out.append(f"{name} isn't in it ({text_of(error)})")
+                raise Refused(FAILED, Message("file.unreadable", path=paths.capture, why=text_of(error))) from None
+            left_out.append(Message("pack.left_out", name=name, why=text_of(error)))
             continue
         opened.callback(os.close, number)
         found = os.fstat(number)
         parts.append(Part(name, has, number, found.st_size, found.st_mtime))
     if not parts or parts[-1].name != capture:
-        raise Refused(REFUSED, f"there is no {paths.capture}")
+        raise Refused(REFUSED, Message("file.missing", path=paths.capture))
     return [parts[-1], *parts[:-1]], left_out
 
 
@@ -160,15 +161,15 @@ def read_me(paths: Paths, parts: Sequence[Part], left_out: Sequence[str], versio
     now = time.strftime("%Y-%m-%d %H:%M:%S %z")
     width = max(len(part.name) for part in parts)
     lines = [
-        f"The game {shown(os.path.basename(paths.name))}, recorded from a DGT board, and packed {now}.",
-        "It has the names of the players. It has nothing of other games, and not where it was shown to spectators.",
+        Message("pack.title", name=shown(os.path.basename(paths.name)), now=now),
+        Message("pack.has"),
         "",
-        *(f"{shown(part.name):{width}}  {part.size:>9} bytes  {part.has}" for part in parts),
+        *(Message("pack.file", name=f"{shown(part.name):{width}}", size=f"{part.size:>9}", has=part.has) for part in parts),
         "",
         *(shown(line) for line in left_out),
-        f"dgt_live and dgt_replay {version}, Python {sys.version.split()[0]}, {system()}",
+        Message("pack.versions", version=version, python=sys.version.split()[0], system=system()),
         "",
-        f"To see what the program made of it: dgt_replay follow < '{shown(parts[0].name)}'",
+        Message("pack.to_see", name=shown(parts[0].name)),
     ]
     return "".join(f"{line}\n" for line in lines)
 
@@ -213,7 +214,7 @@ def _begin(new: str) -> int:
         number = open_regular(new, os.O_RDONLY | os.O_NOFOLLOW)
         try:
             if not locked(number, 0):
-                raise Refused(REFUSED, f"another call is just writing {new}: wait for it")
+                raise Refused(REFUSED, Message("pack.busy", path=new))
         finally:
             os.close(number)
     number = open_new(new)

@@ -16,6 +16,7 @@ from live.game.options import FEN, Options
 from live.guard import Guard
 from live.loop import ENDING, Timer
 from live.refused import NO_PROGRAM, Refused
+from live.words.message import Message
 
 CHUNK = 65536  # bytes that are read or written at once
 FAILURES = 5  # failures of one child in a row, with no line in between
@@ -76,16 +77,16 @@ class Program:
             with _DeafChildren():
                 found = subprocess.run([finder], stdin=subprocess.DEVNULL, stdout=subprocess.PIPE)
             if found.returncode != 0:
-                raise Refused(NO_PROGRAM, f"there is no program to record with. Type {finder}: it says what to do")
+                raise Refused(NO_PROGRAM, Message("program.not_built", finder=finder))
             path = os.fsdecode(found.stdout.rstrip(b"\n"))
         if not os.access(path, os.X_OK):
-            raise Refused(NO_PROGRAM, f"there is no dgt_replay in {beside}: it belongs beside dgt_live")
+            raise Refused(NO_PROGRAM, Message("program.missing", folder=beside))
         held = _held(path)
         if held and _runs(path, held):
             return Program(path, held)
         if not _runs(path, path):
-            needed = f"Linux with glibc 2.34 or later, and the archive for this processor, which is {os.uname().machine}"
-            raise Refused(NO_PROGRAM, f"{path} doesn't run: it needs {needed}")
+            needed = Message("program.needs", machine=os.uname().machine)
+            raise Refused(NO_PROGRAM, Message("program.does_not_run", path=path, needed=needed))
         return Program(path)
 
     def version(self) -> str:
@@ -129,7 +130,7 @@ class Program:
             return sent
         answer = self.run("recover", *options.of_board(), given=sent)
         if answer.returncode != 0:
-            raise OSError(f"recover {ending_of(answer.returncode)}")
+            raise OSError(told_of_ending("recover", answer.returncode))
         return answer.stdout
 
     def start(self, words: Sequence[str], stdin: int, stdout: int, stderr: int) -> subprocess.Popen[bytes]:
@@ -168,7 +169,7 @@ class Child:
         try:
             child = self._program.start(self._words, subprocess.PIPE, subprocess.PIPE, subprocess.DEVNULL)
         except OSError as error:
-            self._fail(f"can't be started ({error.strerror})")
+            self._fail(Message("program.cannot_start", why=error.strerror))
             return
         self._child = child
         self._let_go = self._guard.opened(functools.partial(_end, child))
@@ -225,11 +226,11 @@ class Child:
         now = self._guard.now()
         self._failures = 1 if now - self._failed_at > FRESH else self._failures + 1
         self._failed_at = now
-        what = f"{self._words[0]} {how}"
+        what = Message("program.how", command=self._words[0], how=how)
         if self._failures > FAILURES:
             self._hears_child.broken(what)
         else:
-            self._hears_child.says(f"{what}; it is started again")
+            self._hears_child.says(Message("program.started_again", what=what))
             self._again = self._guard.after(0 if self._failures == 1 else 0.5, self.start)
 
     def restart(self) -> None:
@@ -286,7 +287,12 @@ def _let_go(child: subprocess.Popen[bytes]) -> None:
 
 def ending_of(status: int) -> str:
     """How a child ended that should have gone on."""
-    return "was killed" if status < 0 else f"ended with status {status}"
+    return Message("program.killed") if status < 0 else Message("program.ended", status=status)
+
+
+def told_of_ending(command: str, status: int) -> str:
+    """The same, with the name of its command."""
+    return Message("program.how", command=command, how=ending_of(status))
 
 
 def wake(child: subprocess.Popen[bytes]) -> None:

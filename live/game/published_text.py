@@ -9,6 +9,7 @@ from live.game.forfeits import told_to_readers
 from live.game.game import kept_options
 from live.game.tags import published
 from live.refused import FAILED, Refused
+from live.words.message import Message
 
 
 def publish_anew(paths: Paths) -> str:
@@ -20,4 +21,4 @@ def publish_anew(paths: Paths) -> str:
         files.put_in_place(paths.broadcast, published(text, dict(kept.tags) if kept else {}, says))
     except OSError as error:
         raise Refused(FAILED, files.not_written(paths.broadcast, error)) from None
-    return f"{paths.broadcast} has its tags"
+    return Message("text.has_its_tags", path=paths.broadcast)

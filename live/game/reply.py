@@ -7,15 +7,17 @@ from typing import Tuple
 
 from live import refused
 from live.refused import REFUSED
+from live.words.message import Complaint, Message, linked
 
 HELPS = ("help", "?", "undo")
 BACK, OK, REOPENS = "back", "ok", "*"  # what messages say is to be typed: takes plies off; acknowledges alarms; takes a result off
-NO_TEXT = "it is no text in UTF-8, so nothing of it counts. Type it again; a terminal in another encoding must be set to UTF-8"
+NO_TEXT = Message("typed.no_text")
+REFUSALS = ("refused.why", "refused.line", "refused.too_long")  # the keys of messages that something isn't done
 SHOWN = 60  # characters of a line that an answer shows
 Answer = Tuple[int, str]  # a status, and its message
 
 
-class Refused(Exception):
+class Refused(Complaint):
     """What was typed isn't done. The text says why, and what to type."""
 
 
@@ -35,16 +37,16 @@ def printable(text: str) -> str:
 def reason_of(error: Exception) -> str:
     """The message for an error."""
     if isinstance(error, OSError):
-        name = f"{os.fsdecode(error.filename)}: " if isinstance(error.filename, (str, bytes)) else ""
-        return name + (error.strerror or str(error))
+        why = error.strerror or str(error)
+        return linked("colon", (os.fsdecode(error.filename), why)) if isinstance(error.filename, (str, bytes)) else why
     if isinstance(error, refused.Refused):
         return error.lines[0]
-    return str(error) if isinstance(error, Refused) else f"{type(error).__name__}: {error}"
+    return error.message if isinstance(error, Refused) else f"{type(error).__name__}: {error}"
 
 
 def refusal(text: str, error: Exception) -> Answer:
     """The answer to what was typed, if that isn't done, or not yet."""
     if isinstance(error, (Asked, Helped)):
-        return REFUSED, str(error)
+        return REFUSED, error.message
     reason = reason_of(error)
-    return REFUSED, f"refused: {reason}" if text in reason else f"refused: {printable(text)}: {reason}"
+    return REFUSED, Message("refused.why", why=reason) if text in reason else Message("refused.line", line=printable(text), why=reason)

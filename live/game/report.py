@@ -7,6 +7,7 @@ from dataclasses import dataclass
 from typing import List, NamedTuple, Optional, Sequence, Tuple, Union
 
 from live.device import protocol
+from live.words.message import Message
 
 
 @dataclass(frozen=True)
@@ -38,7 +39,7 @@ class Move:
 def listed(plies: Sequence[Move], result: str) -> str:
     """The moves of a game in one line: `1. e4 e5 2. Nf3 *`."""
     words = [ply.short if at == 0 or not ply.number.endswith("...") else ply.san for at, ply in enumerate(plies)]
-    return " ".join([*words, result]) if words else "no move was made yet"
+    return " ".join([*words, result]) if words else Message("moves.none")
 
 
 @dataclass(frozen=True)

@@ -12,6 +12,7 @@ from dataclasses import dataclass, replace
 from typing import Callable, Dict, List, Mapping, Optional, Sequence, Tuple
 
 from live.refused import JOINERS
+from live.words.message import Complaint, Message, linked
 
 Tags = Mapping[str, str]
 
@@ -42,7 +43,7 @@ MOST_MINUTES, MOST_MINUTES_FOR_MOVES = 100, 150  # base times without a unit are
 LEAST_SECONDS = 300  # and in seconds from this
 
 
-class Malformed(Exception):
+class Malformed(Complaint):
     """A value that its tag can't have. The text says what to type; the name of the value goes before it."""
 
 
@@ -72,9 +73,9 @@ def value_of(name: str, text: str) -> str:
     """The published value of a tag; empty if there is none. Raises Malformed."""
     value = cleaned(text)
     if not is_seen(value):
-        raise Malformed("has a character that can't be seen: type it anew")
+        raise Malformed(Message("tag.unseen_character"))
     if len(value) > LONGEST:
-        raise Malformed(f"has {len(value)} characters: type at most {LONGEST}")
+        raise Malformed(Message("tag.long", count=len(value), most=LONGEST))
     checks = [check for ending, check in CHECKS.items() if name.endswith(ending)]
     return checks[0](value) if checks else value
 
@@ -83,7 +84,7 @@ def _rating(text: str) -> str:
     if text in NONE:
         return ""
     if not re.fullmatch("[0-9]{1,4}", text) or not 0 < int(text) <= HIGHEST_RATING:
-        raise Malformed(f"{text!r} is no rating: type up to four digits, as 2050, or nothing")
+        raise Malformed(Message("tag.no_rating", text=repr(text)))
     return str(int(text))
 
 
@@ -91,7 +92,7 @@ def _title(text: str) -> str:
     if text in NONE:
         return ""
     if text.upper() not in TITLES:
-        raise Malformed(f"{text!r} is no title: type one of {', '.join(TITLES[:8])}, or nothing")
+        raise Malformed(Message("tag.no_title", text=repr(text), titles=", ".join(TITLES[:8])))
     return text.upper()
 
 
@@ -99,7 +100,7 @@ def _fide_id(text: str) -> str:
     if text.strip("0-") == "":
         return ""
     if not re.fullmatch("[0-9]{3,10}", text):
-        raise Malformed(f"{text!r} is no FIDE id: type its digits alone, as 1503014, or nothing")
+        raise Malformed(Message("tag.no_fide_id", text=repr(text)))
     return text
 
 
@@ -110,16 +111,17 @@ def _time_control(text: str) -> str:
     periods = [Period.of(part) for part in re.split("[:,]", text)]
     found = [period for period in periods if period]
     if len(found) < len(periods) or not all(period.moves for period in found[:-1]):
-        how = "type 90+30 (minutes and seconds a move), 40/90+30:30+30, or as PGN has it, 40/5400+30:1800+30"
-        raise Malformed(f"{text!r} is no time control: {how}")
+        how = Message("tag.time_control_how")
+        raise Malformed(Message("tag.no_time_control", text=repr(text), how=how))
     known = _with_units(found)
     if not all(period.unit for period in known):
         ways = [":".join(period.typed(unit) for period in known) for unit in UNITS]
-        raise Malformed(f"{text!r} can be in minutes or seconds: type {' or '.join(ways)}")
+        raise Malformed(Message("tag.minutes_or_seconds", text=repr(text), minutes=ways[0], seconds=ways[1]))
     for given, period in zip(found, known):
         if period.moves > period.base and not given.unit:
             turned = replace(period, moves=period.base, base=period.moves, unit="").typed("")
-            raise Malformed(f"{text!r} has {period.moves} moves in {period.base}{period.unit}: type {turned}, or {period.typed(period.unit)}")
+            base, typed = f"{period.base}{period.unit}", period.typed(period.unit)
+            raise Malformed(Message("tag.moves_and_minutes", text=repr(text), moves=period.moves, base=base, turned=turned, typed=typed))
     return ":".join(period.in_seconds for period in known)
 
 
@@ -203,17 +205,17 @@ def pair_of(text: str) -> Tuple[str, str]:
     """The name and the value of `NAME=VALUE`, as somebody types a tag. Raises Malformed."""
     name, equals, value = text.partition("=")
     if not equals:
-        raise Malformed(f"{text!r} has no =: type NAME=VALUE, as WhiteElo=2050")
+        raise Malformed(Message("tag.no_equals", text=repr(text)))
     known = known_name(name)
     if known is None:
         if name.strip().lower() in [other.lower() for other in GAME_SAYS]:
-            raise Malformed(f"{name.strip()} is what the game says, and can't be given")
-        which = "type one that PGN knows, as WhiteElo, WhiteTitle, WhiteFideId, TimeControl"
-        raise Malformed(f"there is no tag {name.strip()!r}: {which}")
+            raise Malformed(Message("tag.of_the_game", name=name.strip()))
+        which = Message("tag.which")
+        raise Malformed(Message("tag.unknown", name=repr(name.strip()), which=which))
     try:
         return known, value_of(known, value)
     except Malformed as error:
-        raise Malformed(f"{known}: {error}") from None
+        raise Malformed(linked("colon", (known, error.message))) from None
 
 
 def in_order(tags: Tags) -> List[Tuple[str, str]]:

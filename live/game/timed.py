@@ -22,6 +22,7 @@ from live.game import times
 from live.game.began import Began, BeganFile, as_written, began_line, part_line, this_start
 from live.game.files import LARGEST, Capture, Paths, existing, open_regular, part_of, put_in_place, remove, sync_folder, text_of
 from live.loop import Away, Callback, Counting, Loop
+from live.words.message import Message
 
 TRIES_AGAIN = 1.0  # seconds after a write has failed
 MOST_WAIT = 1000  # events that wait for the first bytes of a capture
@@ -108,7 +109,7 @@ class Times:
         self._size, self._is_foreign, self._away = 0, False, None
         path = self._path
         if os.path.islink(path):
-            raise OSError(errno.ELOOP, f"{os.path.basename(path)} is a link")
+            raise OSError(errno.ELOOP, Message("file.is_link", path=os.path.basename(path)))
         self._come_back()
         content = existing(path)
         found = times.kept(content) if len(content) < LARGEST else None
@@ -118,10 +119,11 @@ class Times:
             self._told += times.told_of(found, path, len(content), self._capture.path, self._capture.size)
         elif content:
             self._is_foreign = True
-            why = "is of a newer program" if isinstance(found, times.Newer) else "is of another capture" if found else "isn't readable"
-            self._told.append(f"{path} {why}: it is kept as {self._beside()}, and another one is begun. {times.NOTHING}")
+            is_newer = isinstance(found, times.Newer)
+            why = Message("times.of_newer") if is_newer else Message("times.of_another") if found else Message("times.unreadable")
+            self._told.append(Message("times.set_aside", path=path, why=why, kept=self._beside(), nothing=times.NOTHING))
         elif self._capture.size and not self._is_new:
-            self._told.append(f"{path} is missing: when the game's first {self._capture.size} bytes came isn't known. {times.NOTHING}")
+            self._told.append(Message("times.missing", path=path, count=self._capture.size, nothing=times.NOTHING))
         self._is_read = True
 
     def _is_ours(self, found: times.Kept) -> bool:
@@ -333,7 +335,7 @@ class Times:
         heading = b"" if self._size else times.heading(self.generation, first)
         content = heading + times.lines(events, self._from)
         if self._size + len(content) > LARGEST:
-            raise OSError(errno.EFBIG, "it has 64 MiB")
+            raise OSError(errno.EFBIG, Message("times.full"))
         self._keep_begins(events, self._size + len(heading))
         if os.write(number, content) < len(content):
             raise OSError(errno.ENOSPC, os.strerror(errno.ENOSPC))
@@ -347,7 +349,7 @@ class Times:
         del self._events[: len(events)]
         self._from = max((at for at, what, _ in events if what == times.BEGIN), default=self._from)
         if self._is_lost:
-            self._told.append(f"{self._path} is written again")
+            self._told.append(Message("file.written_again", path=self._path))
         self._trouble, self._is_lost = "", False
 
     def _keep_begins(self, events: List[times.Happened], size: int) -> None:
@@ -396,7 +398,7 @@ class Times:
             self.unexpected = (*self.unexpected, f"{self._path}: {trouble}")
         if trouble != self._trouble:
             self._trouble = trouble
-            self._told.append(f"{self._path} can't be written ({self._trouble}): times are missing. {times.NOTHING}")
+            self._told.append(Message("times.unwritable", path=self._path, why=self._trouble, nothing=times.NOTHING))
         self._again = Loop.now() + TRIES_AGAIN
         self._lose()
 

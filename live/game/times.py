@@ -9,6 +9,8 @@ import re
 from dataclasses import dataclass
 from typing import Iterator, List, Optional, Sequence, Tuple, Union
 
+from live.words.message import Message
+
 VERSION = 1
 HEADED = 4096  # bytes of a capture that a new heading has the digest of, at most
 BEGIN, AWAY, OPENED, ANSWERED, GONE, CALLED = "begin", "away", "opened", "answered", "gone", "called"
@@ -18,7 +20,7 @@ OF_BYTES = (HEARD, BROUGHT, ADDED)  # the capture got so many bytes
 COUNTS = (BEGIN, AWAY, *OF_BYTES, STOPPED, ASKED, OVER, SUSPECT)  # words with a number
 ALONE = (OPENED, ANSWERED, GONE, CALLED, TOOK, LOOKED, BACK, REOPENED)
 TOO_LARGE = 2**64
-NOTHING = "Nothing is to be done"
+NOTHING = Message("times.nothing")
 FNV_START, FNV_TIMES = 14695981039346656037, 1099511628211  # of FNV-1a with 64 bits
 
 NUMBER = "(0|[1-9][0-9]{0,19})"
@@ -187,11 +189,11 @@ def moves_calls(before: bytes, after: bytes) -> bool:
 
 def told_of(found: Kept, path: str, size: int, capture: str, have: int) -> List[str]:
     """What is said of a file of this size, whose capture has so many bytes."""
-    told = []
+    told: List[str] = []
     if size > found.ends:
-        told.append(f"{path} was torn: its last {size - found.ends} bytes are dropped. {NOTHING}")
+        told.append(Message("times.torn", path=path, count=size - found.ends, nothing=NOTHING))
     if found.covered > have:
-        told.append(f"{path} tells of {found.covered - have} bytes more than {capture} has, as after a power cut. {NOTHING}")
+        told.append(Message("times.covers_more", path=path, count=found.covered - have, capture=capture, nothing=NOTHING))
     elif found.covered < have:
-        told.append(f"{path} has no times for the last {have - found.covered} bytes of {capture}. {NOTHING}")
+        told.append(Message("times.covers_less", path=path, count=have - found.covered, capture=capture, nothing=NOTHING))
     return told

@@ -8,16 +8,17 @@ from dataclasses import dataclass
 from typing import Union
 
 from live.game.reply import BACK, HELPS, NO_TEXT, OK, REOPENS, Helped, Refused
+from live.words.message import Message, linked
 
-WAYS = "Type 1-0, 0-1, 1/2-1/2, moves as Nf3 Nc6, back, *, ok or help"
-ALL_WAYS = "Type 1-0, 0-1, 1/2-1/2, moves (Nf3 Nc6), back (a ply off), back 14. Bxf6, * (no result) or ok"
+WAYS = Message("typed.ways")
+ALL_WAYS = Message("typed.all_ways")
 QUITS = (["q"], ["quit"])
 MOVES, MESSAGES = "moves", "messages"  # lists the moves of a game; what was said before
 NOUGHTS = "0-0"  # a result, or castling typed with noughts
-BOTH_LOSE = f"{NOUGHTS}: do both lose? PGN has no such result: leave the game without one, and note it. Castling is O-O"
-ABSENT = "+- (Black has not come; -+ White, -- both)"
-ONE_BOARD = (ABSENT, "name White=Anna (a name put right)", "moves (of the game so far), messages (of before)", "or q to end the recording")  # what can be typed there too
-WHICH_PLY = "which ply? Type it as the screen printed it, as back 14. Bxf6 or back 14... Qd7; or back alone, or back 0"
+BOTH_LOSE = Message("typed.noughts", noughts=NOUGHTS)
+ABSENT = Message("typed.absent")
+ONE_BOARD = (ABSENT, Message("typed.way_of_names"), Message("typed.way_of_lists"), Message("typed.way_of_q"))  # what can be typed there too
+WHICH_PLY = Message("back.which_ply")
 OF_A_PLY = re.compile(r"(\d{1,4})((?: ?\.)+) ?", re.ASCII)  # its number, and one full stop for White or more for Black
 
 
@@ -109,7 +110,12 @@ def with_a_hyphen(word: str) -> str:
     return word
 
 
-def with_more(ways: str, *more: str) -> str:
-    """A list of what can be typed, with more behind it."""
-    front, _, last = ways.rpartition(" or ")
-    return ", ".join((front, last, *more))
+def with_more(answer: str, *more: str) -> str:
+    """An answer in which more is behind the list of what can be typed, if it has that."""
+    if answer == WAYS:
+        return Message("typed.ways_and_more", more=linked("comma", more))
+    if answer == ALL_WAYS:
+        return Message("typed.all_ways_and_more", more=linked("comma", more))
+    if not isinstance(answer, Message):
+        return answer
+    return answer.with_places(lambda place: with_more(place, *more) if isinstance(place, str) else place)

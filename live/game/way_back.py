@@ -10,6 +10,7 @@ from live.game.answers import LONG, Said
 from live.game.reply import Refused
 from live.game.report import Move
 from live.game.typed import WHICH_PLY, numbered
+from live.words.message import Message, linked
 
 ALL = "*"  # all plies stay, and only a result goes
 PLIES, NEAREST, NO_PLY, MOVED, ENDED, SIGNED, BOARD, UNSEEN = "plies", "nearest", "none", "moved", "ended", "signed", "board", "unseen"
@@ -47,16 +48,16 @@ class Way:
     def question(self) -> str:
         """The question before so many plies go; empty if they may go at once."""
         many = len(self.gone) > WITHOUT_A_QUESTION
-        return f"takes off {len(self.gone)} plies, from {self.gone[0].short}: type it again" if many else ""
+        return Message("back.asks", count=len(self.gone), ply=self.gone[0].short) if many else ""
 
     @property
     def words(self) -> str:
         """What was done: `back to 14. Bxf6; taken off: 14... Qd7 15. Rd1`."""
-        parts = [f"back to {reached(self.plies[: self.stays])}"]
-        parts.append(f"taken off: {moves_of(self.gone)}" if self.gone else "no ply is taken off")
+        parts: List[str] = [Message("back.done", ply=reached(self.plies[: self.stays]))]
+        parts.append(Message("back.taken_off", plies=moves_of(self.gone)) if self.gone else Message("back.none_off"))
         if self.result != NO_RESULT:
-            parts.append(f"the result {self.result} is gone")
-        return "; ".join(parts)
+            parts.append(Message("back.result_gone", result=self.result))
+        return linked("semicolon", parts)
 
     @property
     def settled(self) -> List[str]:
@@ -64,7 +65,8 @@ class Way:
         gone = [ply.short for ply in self.gone]
         if not gone:
             return []
-        return [f"at {ply}" for ply in gone] + [f"since {ply}" for ply in (reached(self.plies[: self.stays]), *gone)]
+        since = (reached(self.plies[: self.stays]), *gone)
+        return [*(Message("look.at", ply=ply) for ply in gone), *(Message("look.since", ply=ply) for ply in since)]
 
 
 def way_of(said: Said, plies: Sequence[Move]) -> Optional[Way]:
@@ -83,29 +85,25 @@ def refuse(said: Said, to: str, plies: Sequence[Move]) -> Refused:
     if said.kind == NEAREST:
         near = " ".join(said.words)
         if near == reached(plies):
-            return Refused(f"{to} is no ply of the game, which ends with {near}. Type back alone to take that off")
-        return Refused(f"{to} is no ply of the game. The nearest is {near}: type back {near}")
+            return Refused(Message("back.no_ply_end", to=to, near=near))
+        return Refused(Message("back.no_ply_near", to=to, near=near))
     if said.kind == NO_PLY:
-        return Refused("the game has no ply that could be taken off" if to else "the game has no move")
+        return Refused(Message("back.none_left") if to else Message("moves.no_move"))
     if said.kind == ENDED:
-        return Refused(f"the game ends with {reached(kept)} on the board: that is its result")
+        return Refused(Message("back.ends_on_the_board", ply=reached(kept)))
     if said.kind == SIGNED:
-        return Refused(f"the board still shows the result {rest}. Put the kings where they belong, and type it again")
+        return Refused(Message("back.kings", result=rest))
     if said.kind == UNSEEN:
-        return Refused("the board has shown nothing yet. Type it again when it has")
+        return Refused(Message("back.unseen"))
     if said.kind == LONG:
-        return Refused("the new capture would be too long. Nothing was changed")
-    shows = f"the board still shows {rest}: it would come back at once" if said.kind == MOVED else "what the board shows would change the game"
-    return Refused(f"{shows}. {hint(kept)}")
+        return Refused(Message("back.capture_full"))
+    shows = Message("back.still_shown", moves=rest) if said.kind == MOVED else Message("typed.would_change")
+    return Refused(linked("stop", (shows, hint(kept))))
 
 
 def hint(kept: Sequence[Move]) -> str:
     """What to do so that the game can go back to these plies."""
-    place = f"as after {reached(kept)}" if kept else "at the start"
-    return (
-        "If other moves were played, lift a king, type it again, then these moves, and hold the king until all is typed. "
-        f"If the players go back, set the pieces {place}, and type it again"
-    )
+    return Message("back.hint", ply=reached(kept)) if kept else Message("back.hint_at_the_start")
 
 
 def asked_of(had: str, plies: int) -> str:
@@ -128,17 +126,19 @@ def taken_up(had: str, said: Said, is_there: bool) -> str:
 def nothing_goes(way: Way, to: str) -> Refused:
     """The message if there is nothing to take off in a game that goes on."""
     if to == ALL:
-        return Refused("the game has no result")
-    return Refused(f"the game ends with {reached(way.plies)} already" if way.plies else "the game has no move")
+        return Refused(Message("result.none"))
+    return Refused(Message("back.already", ply=reached(way.plies)) if way.plies else Message("moves.no_move"))
 
 
 def played_since(before: Sequence[Move], now: Sequence[Move]) -> str:
     """More of the message that a game goes on: how its last ply was corrected after its result, and the plies that were made since."""
-    told, last = "", len(before) - 1
+    told, last = [""], len(before) - 1
     if 0 <= last < len(now) and before[last].san != now[last].san:
-        told = f"; {before[last].short} was corrected to {now[last].short}"
+        told.append(Message("back.corrected", before=before[last].short, now=now[last].short))
     since = now[len(before) :]
-    return f"{told}; played since: {moves_of(since)}" if since else told
+    if since:
+        told.append(Message("back.played_since", plies=moves_of(since)))
+    return linked("semicolon", told)
 
 
 def moves_of(plies: Sequence[Move]) -> str:
@@ -151,4 +151,4 @@ def moves_of(plies: Sequence[Move]) -> str:
 
 def reached(plies: Sequence[Move]) -> str:
     """The ply with which a game ends, or its start."""
-    return plies[-1].short if plies else "the start"
+    return plies[-1].short if plies else Message("ply.the_start")

@@ -11,19 +11,20 @@ from typing import List, Optional, Sequence
 
 from live.refused import ARGUMENTS, REFUSED, Refused
 from live.round import dos_letters
+from live.words.message import Message
 
 ENCODING = "--encoding"  # the option
 WESTERN = "cp1252"
 UNDEFINED = "\ufffd"  # for a byte that an encoding gives nothing
 READINGS = (  # what is typed, Python's name, where it is used
-    ("windows-1252", WESTERN, "Western Europe"),
-    ("windows-1250", "cp1250", "Central Europe"),
-    ("windows-1251", "cp1251", "Cyrillic"),
-    ("cp437", "cp437", "DOS"),
-    ("cp850", "cp850", "DOS, Western Europe"),
-    ("cp852", "cp852", "DOS, Central Europe"),
+    ("windows-1252", WESTERN, Message("encoding.western_europe")),
+    ("windows-1250", "cp1250", Message("encoding.central_europe")),
+    ("windows-1251", "cp1251", Message("encoding.cyrillic")),
+    ("cp437", "cp437", Message("encoding.dos")),
+    ("cp850", "cp850", Message("encoding.dos_western_europe")),
+    ("cp852", "cp852", Message("encoding.dos_central_europe")),
 )
-NOT_SURE = "it isn't Unicode, and its names can be read in more than one way:"
+NOT_SURE = Message("encoding.not_sure")
 MOST_SHOWN = 3  # names
 LONGEST_NAME = 30  # characters of one
 VOWELS = frozenset("aeiouy" + "áâäéíîóôöúüýë")  # accented ones that are the same in both of Europe's encodings
@@ -88,7 +89,7 @@ def known_encoding(name: str) -> str:
             return codecs.lookup(name).name
     except (LookupError, UnicodeError, ValueError, AttributeError, TypeError):
         pass
-    raise Refused(ARGUMENTS, f"there is no encoding {name[:LONGEST_NAME]!r}: type one as {READINGS[1][0]}, iso-8859-2 or utf-8")
+    raise Refused(ARGUMENTS, Message("encoding.unknown", name=repr(name[:LONGEST_NAME]), example=READINGS[1][0]))
 
 
 def encoding_in(words: Sequence[str]) -> str:
@@ -106,7 +107,7 @@ def _decoded(content: bytes, encoding: str) -> str:
         return content.decode(encoding)
     except UnicodeDecodeError as error:
         line = content.count(b"\n", 0, error.start) + 1
-        raise Refused(REFUSED, f"line {line} isn't in the encoding {encoding}: give another one, or save it as UTF-8") from None
+        raise Refused(REFUSED, Message("encoding.wrong_line", line=line, encoding=encoding)) from None
 
 
 def is_question(lines: Sequence[str]) -> bool:
@@ -116,12 +117,13 @@ def is_question(lines: Sequence[str]) -> bool:
 
 def question(doubted: Sequence[bytes]) -> List[str]:
     """What to ask: these names in each way."""
-    ways = [f"{typed} ({place}): {', '.join(name.decode(codec, 'replace') for name in doubted)}" for typed, codec, place in READINGS]
+    names = [", ".join(name.decode(codec, "replace") for name in doubted) for _, codec, _ in READINGS]
+    ways = [Message("encoding.way", encoding=typed, place=place, names=read) for (typed, _, place), read in zip(READINGS, names)]
     return [
         NOT_SURE,
         *ways,
-        f"say which is right, as --encoding {READINGS[1][0]} (in tournament.txt: encoding = {READINGS[1][0]}),",
-        "or save it as UTF-8",
+        Message("encoding.say_which", example=READINGS[1][0]),
+        Message("encoding.or_save"),
     ]
 
 
@@ -154,8 +156,8 @@ def told_of_reading(content: bytes, encoding: str) -> str:
     if not page:
         return ""
     western, of_dos = (", ".join(word.encode("latin-1").decode(codec) for word in words[:MOST_SHOWN]) for codec in (WESTERN, page))
-    how = f"{ENCODING} {page} (in tournament.txt: encoding = {page})"
-    return f"it isn't Unicode, and {western} is read as {READINGS[0][0]} has it. If it is {of_dos}, say so: {how}"
+    how = Message("encoding.option_of", option=ENCODING, page=page)
+    return Message("encoding.read_as", western=western, encoding=READINGS[0][0], of_dos=of_dos, how=how)
 
 
 def look_of(word: str) -> Optional[Looks]:

@@ -6,7 +6,8 @@ import dataclasses
 from typing import Dict, List, Mapping, Sequence, Tuple
 
 from live.round.pairings import Pairing, Pairings, Wrong
-from live.round.table import boards_are
+from live.round.table import listed_numbers
+from live.words.message import Message, linked, plural
 
 
 def joined(hall: Pairings, hall_name: str, pairs: Pairings, pairs_name: str) -> Pairings:
@@ -19,11 +20,9 @@ def joined(hall: Pairings, hall_name: str, pairs: Pairings, pairs_name: str) -> 
     free = [place.board for place in hall.boards if place.board not in {pair.board for pair in pairs.boards}]
     remarks = [*named(pairs_name, pairs.remarks), *named(hall_name, hall.remarks)]
     if lacking:
-        is_one = len(lacking) == 1
-        has, are = ("has", "is") if is_one else ("have", "are")
-        remarks.append(f"{numbers(lacking)} {has} no device in {hall_name}, and {are}n't recorded")
+        remarks.append(plural("pairs.without_device", len(lacking), boards=numbers(lacking), hall=hall_name))
     if free:
-        remarks.append(f"{numbers(free)} {'has' if len(free) == 1 else 'have'} no game in {pairs_name}")
+        remarks.append(plural("pairs.without_game", len(free), boards=numbers(free), pairs=pairs_name))
     lines = (*of_file(pairs_name, pairs.wrong), *of_file(hall_name, hall.wrong))
     return Pairings(tuple(boards), lines, tuple(remarks), absent=tuple(absent))
 
@@ -42,7 +41,7 @@ def _at(place: Pairing, pair: Pairing) -> Pairing:
 
 def named(name: str, remarks: Sequence[str]) -> List[str]:
     """A message about a table, with the table's name."""
-    return [f"{name}: {remark}" for remark in remarks]
+    return [linked("colon", (name, remark)) for remark in remarks]
 
 
 def of_file(name: str, wrong: Sequence[Wrong]) -> Tuple[Wrong, ...]:
@@ -51,10 +50,8 @@ def of_file(name: str, wrong: Sequence[Wrong]) -> Tuple[Wrong, ...]:
 
 
 def numbers(boards: Sequence[int]) -> str:
-    """`board 9`, `boards 9 to 60`."""
-    if len(boards) == 1:
-        return f"board {boards[0]}"
-    return boards_are(sorted(boards)).replace("the boards are", "boards")
+    """`9`, `9 to 60`."""
+    return listed_numbers(sorted(boards))
 
 
 def serials_wanted(read: Pairings) -> List[str]:
@@ -64,7 +61,7 @@ def serials_wanted(read: Pairings) -> List[str]:
 
 def not_plugged_in(pairing: Pairing) -> Wrong:
     """The line of a pair whose board is missing."""
-    why = f"the board with the number {pairing.serial} isn't plugged in, or is switched off: put that right, and type r"
+    why = Message("pairs.not_plugged_in", number=pairing.serial)
     return Wrong(pairing.line, pairing.board, why)
 
 

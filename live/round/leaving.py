@@ -9,10 +9,10 @@ from typing import Callable, Optional
 from live.broadcast.leaving import LOOK, clock_in
 from live.broadcast.outputs import Outputs
 from live.loop import Turns
-from live.round.table import counted
+from live.words.message import Message, linked, plural
 
 PATIENCE = 60.0  # seconds for which an answer about games counts
-SEEN = "spectators have seen all moves: type q to end"
+SEEN = Message("leave.all_seen")
 
 
 @dataclass(frozen=True)
@@ -35,11 +35,11 @@ def question(games: int, hidden: bool, before: Optional[Question], now: float) -
 
 def told(asked: Question, when: str) -> str:
     """The question. `when` is the time of day at which spectators see the last moves."""
-    late = f"spectators see the last moves at {when}"
+    late = Message("delay.last_moves", time=when)
     if not asked.games:
-        return f"{late}: leave it running until then. To end it now, type q again"
-    plays = f"{counted(asked.games, 'game')} {'is' if asked.games == 1 else 'are'} still being played"
-    return f"{plays}{f', and {late}' if asked.hidden else ''}. To end the round all the same, type q again within a minute"
+        return Message("leave.leave_running", late=late)
+    plays = plural("leave.games", asked.games)
+    return Message("leave.end_all_the_same", games=linked("comma_and", (plays, late)) if asked.hidden else plays)
 
 
 class Leaving:

@@ -20,6 +20,7 @@ from live.game.typed import NOUGHTS
 from live.refused import REFUSED, Refused
 from live.round.headings import COLUMNS, PERHAPS, normal
 from live.round.sheets import NAMES, SEPARATORS, Sheet, fields_of, read_sheet, told_of_above
+from live.words.message import Message
 
 YES = ("yes", "y", "1", "x", "true", "rotated", "ja", "oui", "si")
 NO = ("", "no", "n", "0", "-", "false", "nein", "non")
@@ -28,8 +29,8 @@ RESULTS = {
     "1-0": "1-0", "0-1": "0-1", DRAW: DRAW, "1/2": DRAW, "½": DRAW, "½-½": DRAW, "0.5-0.5": DRAW, ".5-.5": DRAW, "=-=": DRAW,
 }  # fmt: skip
 FORFEITS = {"+/-": FORFEIT_OF_BLACK, "-/+": FORFEIT_OF_WHITE, "-/-": BOTH_ABSENT}
-STILL_TO_COME = "result is '--', which some programs write before a game: type 0-0 FF if neither player came"
-WRITTEN = "1-0, 0-1, 1/2-1/2, +-, -+ or --"  # what may be in the column result
+STILL_TO_COME = Message("pairs.still_to_come")
+WRITTEN = Message("pairs.results")  # what may be in the column result
 NOT_YET = ("", "*", "-", "--", "---")
 BYES = (  # what pairing programs write instead of an opponent, as `normal` makes it
     *("", "bye", "pairingallocatedbye", "notpaired", "unpaired", "absent", "spielfrei", "freilos", "nichtausgelost", "abwesend"),
@@ -42,7 +43,7 @@ MOST_UNKNOWN = 5  # columns that are reported one by one
 SERIAL = re.compile(f"[!-~]{{{SERIAL_LENGTH}}}")
 NAME = re.compile(r"[\w][\w .+-]*")
 EXAMPLE = "1,/dev/ttyUSB0,Anna,Ben"
-NO_DEVICE = f"it names no device: type /dev/ttyUSB0, or what {DGT_LIVE} --devices lists"
+NO_DEVICE = Message("pairs.no_device", dgt_live=DGT_LIVE)
 
 
 @dataclass(frozen=True)
@@ -148,16 +149,16 @@ class Taken:
     def _twice(self, read: Pairing) -> Optional[Wrong]:
         if read.board in self.boards:
             line = self.boards[read.board].line
-            return Wrong(read.line, read.board, f"board {read.board} is in line {line} already: type another")
+            return Wrong(read.line, read.board, Message("pairs.board_twice", board=read.board, line=line))
         if read.device in self.devices:
             return device_twice(read, self.devices[read.device])
         if read.serial in self.serials:
             other = self.serials[read.serial]
-            why = f"{read.serial} is the serial number of board {other.board}: type another"
+            why = Message("pairs.serial_twice", serial=read.serial, board=other.board)
             return Wrong(read.line, read.board, why)
         if read.file_name in self.names:
             other = self.names[read.file_name]
-            why = f"{read.file_name} is the name of the game of board {other.board}: type another"
+            why = Message("pairs.name_twice", name=read.file_name, board=other.board)
             return Wrong(read.line, read.board, why)
         return None
 
@@ -190,31 +191,31 @@ def _read(number: int, line: str, sheet: Sheet) -> Union[Pairing, Wrong, LeftOut
     roles, has_devices = sheet.heading.roles, sheet.heading.has_devices
     otherwise, board = divided_otherwise(line, sheet)
     if otherwise:
-        return Wrong(number, board, f"it is divided by {otherwise}, and the headings by {NAMES[sheet.separator]}: divide it as they are")
+        return Wrong(number, board, Message("pairs.divided_otherwise", otherwise=otherwise, separator=NAMES[sheet.separator]))
     fields = fields_of(line, sheet.separator)
     if fields is None:
         board = _number(line.partition(sheet.separator)[0])
-        return Wrong(number, board, "a quotation mark isn't closed, or is inside a field")
+        return Wrong(number, board, Message("pairs.open_quote"))
     values = dict.fromkeys(COLUMNS, "")
     values.update((role, cleaned(field)) for role, field in zip(roles, fields) if role)
     board = _number(values["board"])
     if board is None:
         if not has_devices and not (values["white"] and values["black"]):
-            return LeftOut(f"line {number} has no board's number, and isn't used: {shown(' '.join(filter(None, fields)))}")
-        return Wrong(number, None, f"{shown(values['board'] or 'nothing')} is no number of a board: type 1 to {HIGHEST}")
+            return LeftOut(Message("pairs.no_number", line=number, text=shown(" ".join(filter(None, fields)))))
+        return Wrong(number, None, Message("pairs.no_board_number", value=shown(values["board"] or Message("pairs.nothing")), highest=HIGHEST))
     if any(fields[len(roles) :]):
-        return Wrong(number, board, f"it has {len(fields)} fields, and the first line has {len(roles)}")
+        return Wrong(number, board, Message("pairs.too_many_fields", count=len(fields), most=len(roles)))
     result, why_none = result_of(values["result"], has_devices)
     if not has_devices:
         no_game = without_a_game(board, values["white"], values["black"])
         if no_game:
-            return LeftOut(f"line {number}: {no_game}")
+            return LeftOut(Message("pairs.of_line", line=number, why=no_game))
     why = _trouble({name: values[name] for name in COLUMNS})
     if why:
         return Wrong(number, board, why)
     tags, remarks = _tags(number, values)
     if why_none:
-        remarks = (*remarks, f"line {number}, column result: {why_none}; it isn't used")
+        remarks = (*remarks, Message("pairs.result_not_used", line=number, why=why_none))
     pairing = Pairing(
         number,
         board,
@@ -253,8 +254,8 @@ def refuse_divided_otherwise(sheet: Sheet) -> None:
     found = [(number, divided_otherwise(line, sheet)[0]) for number, line in sheet.lines]
     if found and all(otherwise for _, otherwise in found):
         number, otherwise = found[0]
-        why = f"its headings are divided by {NAMES[sheet.separator]}, and line {number} by {otherwise}"
-        raise Refused(REFUSED, f"{why}: divide all lines by the same sign")
+        why = Message("pairs.headings_otherwise", separator=NAMES[sheet.separator], line=number, otherwise=otherwise)
+        raise Refused(REFUSED, Message("pairs.divide_alike", why=why))
 
 
 def result_of(text: str, is_by_hand: bool = True) -> Tuple[str, str]:
@@ -268,15 +269,16 @@ def result_of(text: str, is_by_hand: bool = True) -> Tuple[str, str]:
     found = RESULTS.get(result) or FORFEITS.get(result) or in_a_table(text)
     if found:
         return found, ""
-    hint = f"{BOTH_ABSENT} if neither player came, or leave it empty" if result == NOUGHTS else WRITTEN
-    return "", f"result is {shown(text)}: type {hint}"
+    hint = Message("pairs.neither_came", both=BOTH_ABSENT) if result == NOUGHTS else WRITTEN
+    return "", Message("pairs.result_is", value=shown(text), hint=hint)
 
 
 def without_a_game(board: int, white: str, black: str) -> str:
     """Why a pairing program's line has no game, and who has none; empty if it has one."""
     for player, other in ((white, black), (black, white)):
         if normal(other) in BYES:
-            return f"board {board}: {player or 'nobody'} has no opponent ({other or 'nobody'}), and no game is recorded"
+            nobody = Message("pairs.nobody")
+            return Message("pairs.no_opponent", board=board, player=player or nobody, other=other or nobody)
     return ""
 
 
@@ -298,8 +300,15 @@ def _tags(line: int, values: Dict[str, str]) -> Tuple[Tuple[Tuple[str, str], ...
             tags[name] = value_of(name, text)
         except Malformed as error:
             if not column.endswith(PERHAPS):
-                remarks.append(f"line {line}, column {name}: {error}; the board is recorded without it")
+                remarks.append(Message("pairs.tag_not_used", line=line, column=name, why=error.message))
     return tuple(sorted((name, value) for name, value in tags.items() if value)), tuple(remarks)
+
+
+def told_of_wrong(wrong: Wrong, file: str, why: str) -> str:
+    """The message about a wrong line of a file, which is named if there is more than one."""
+    if file:
+        return Message("round.wrong_line", line=wrong.line, file=file, why=why)
+    return Message("round.wrong_line_of_it", line=wrong.line, why=why)
 
 
 def serial_number(text: str) -> str:
@@ -320,50 +329,50 @@ def _number(text: str) -> Optional[int]:
 def _trouble(values: Dict[str, str]) -> str:
     """What is wrong with the values of a line, if anything."""
     if is_network(values["device"]) and read_address(values["device"]) is None:
-        return f"device is {shown(values['device'])}: {HOW}"
+        return Message("pairs.device_is", value=shown(values["device"]), how=HOW)
     odd = next((name for name, value in values.items() if not is_seen(value)), "")
     if odd:
-        return f"{odd} has a character that can't be seen: type it anew"
+        return Message("pairs.unseen_character", column=odd)
     long = next((name for name, value in values.items() if len(value) > LONGEST), "")
     if long:
-        return f"{long} has more than {LONGEST} characters: type it anew"
+        return Message("pairs.too_long", column=long, most=LONGEST)
     for name in ("rotated", "recover"):
         if values[name].lower() not in YES + NO:
-            return f"{name} is {shown(values[name])}: type yes or no"
+            return Message("pairs.yes_or_no", column=name, value=shown(values[name]))
     if values["first"].lower() not in ("", "white", "black"):
-        return f"first is {shown(values['first'])}: type white or black"
+        return Message("pairs.first_is", value=shown(values["first"]))
     if values["name"].lower() in OF_A_ROUND:
-        return f"name is {shown(values['name'])}: the files of the round itself are called so: type another"
+        return Message("pairs.name_of_the_round", value=shown(values["name"]))
     if OF_A_GAME.search(values["name"]):
         game = OF_A_GAME.sub("", values["name"])
-        return f"name is {shown(values['name'])}: a file of the game {game} may be called so: type another"
+        return Message("pairs.name_of_a_game", value=shown(values["name"]), game=game)
     if values["serial"] and not SERIAL.fullmatch(serial_number(values["serial"])):
-        return f"serial is {shown(values['serial'])}: type its {SERIAL_LENGTH} characters, as {DGT_LIVE} --devices lists them"
+        return Message("pairs.serial_is", value=shown(values["serial"]), count=SERIAL_LENGTH, dgt_live=DGT_LIVE)
     if values["name"] and not NAME.fullmatch(values["name"]):
-        return f"name is {shown(values['name'])}: type letters, digits, blanks, . - +"
+        return Message("pairs.name_is", value=shown(values["name"]))
     return ""
 
 
 def unknown(columns: Sequence[str]) -> List[str]:
     """The message about unknown columns."""
-    told = [f"the column {shown(name)} isn't known, and isn't used" for name in columns[:MOST_UNKNOWN]]
+    told: List[str] = [Message("pairs.unknown_column", name=shown(name)) for name in columns[:MOST_UNKNOWN]]
     more = len(columns) - len(told)
-    return [*told, f"{more} more columns aren't known, and aren't used"] if more > 0 else told
+    return [*told, Message("pairs.more_unknown_columns", count=more)] if more > 0 else told
 
 
 def more_lines(number: int) -> List[str]:
     """The message about this many lines that aren't reported one by one."""
-    return [f"{number} more lines aren't used"] if number > 0 else []
+    return [Message("pairs.more_lines", count=number)] if number > 0 else []
 
 
 def device_twice(read: Pairing, other: Pairing) -> Wrong:
     """A line whose device is on another line too."""
-    why = f"{read.device} is the device of board {other.board}, line {other.line}: each has its own"
+    why = Message("pairs.device_twice", device=read.device, board=other.board, line=other.line)
     return Wrong(read.line, read.board, why, pairing=read)
 
 
 def nameless(boards: Sequence[Pairing]) -> List[str]:
     """The message about lines that name only one player."""
     lacks = [(one, "white" if one.black else "black") for one in boards if bool(one.white) != bool(one.black)]
-    write = "type the name, save the table, and type r"
-    return [f"line {one.line}: board {one.board} has no {side}: {write}" for one, side in lacks]
+    write = Message("pairs.type_the_name")
+    return [Message("pairs.nameless", line=one.line, board=one.board, side=side, write=write) for one, side in lacks]

@@ -12,13 +12,14 @@ from live.game.file_names import ROUND
 from live.game.files import Paths
 from live.refused import ARGUMENTS, Refused
 from live.round.tournament import TABLES
+from live.words.message import Message
 
 
 def refuse_exchanged(file: str, folder: str) -> None:
     """Refuses the folder in front of the table."""
     table = pathlib.Path(folder)
     if folder and not pathlib.Path(file).is_file() and (table.is_file() or table.suffix.lower() in TABLES):
-        raise Refused(ARGUMENTS, f"{folder} is the table: type it first, as {DGT_ROUND} {shlex.join([folder, file])}")
+        raise Refused(ARGUMENTS, Message("place.exchanged", folder=folder, dgt_round=DGT_ROUND, words=shlex.join([folder, file])))
 
 
 def chosen_folder(file: pathlib.Path, games: Iterable[str]) -> Tuple[pathlib.Path, str]:
@@ -28,8 +29,8 @@ def chosen_folder(file: pathlib.Path, games: Iterable[str]) -> Tuple[pathlib.Pat
     names = list(games)
     is_beside = _has_begun(file.parent, names) and not _has_begun(named, names)
     folder = file.parent if is_beside else named
-    where = f"{os.path.abspath(folder)}{', beside the table, as before' if is_beside else ''}"
-    return folder, f"the games are kept in {where}; for another place type a FOLDER behind the table"
+    where = os.path.abspath(folder)
+    return folder, Message("place.games_beside", folder=where) if is_beside else Message("place.games", folder=where)
 
 
 def _has_begun(folder: pathlib.Path, games: Iterable[str]) -> bool:

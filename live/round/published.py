@@ -9,6 +9,7 @@ from live.board.state import trouble_of
 from live.game.files import AnyPath, put_in_place
 from live.game.making_pgn import Made
 from live.loop import Timer, Turns
+from live.words.message import Message
 
 AGAIN = 1.0  # seconds after a failed try
 GATHERED = 0.02  # seconds in which changes go into one text
@@ -62,11 +63,11 @@ class Published:
         if not made.trouble:
             is_news, self._written = text != self._written, text
             if self._made.trouble:
-                self._says(f"{self.path} is written again")
+                self._says(Message("file.written_again", path=self.path))
             if is_news:
                 self.on_written()
         elif not self._made.trouble:
-            self._says(f"{trouble_of(made.full)}: {self.path} can't be written ({made.trouble}); it is tried again each second")
+            self._says(Message("published.unwritten", trouble=trouble_of(made.full), path=self.path, why=made.trouble))
         self._made = made
 
     @property

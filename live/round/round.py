@@ -39,15 +39,16 @@ from live.round.display import Display
 from live.round.encodings import is_question
 from live.round.joining import not_plugged_in, with_some
 from live.round.leaving import Leaving
-from live.round.pairings import EXAMPLE, Pairing, Pairings, Wrong
+from live.round.pairings import EXAMPLE, Pairing, Pairings, Wrong, told_of_wrong
 from live.round.published import Published
 from live.round.row import Earlier, Hall, Row, earlier_game, was_forfeited
 from live.round.sources import Source, without_twice
-from live.round.table import NOT_RECORDED, RowView, boards_are, counted, lines_are_wrong
+from live.round.table import NOT_RECORDED, RowView, boards_are, boards_counted, lines_are_wrong
 from live.round.tournament_files import FORFEIT, Result
 from live.round.ways import all_ways, is_command, said_of, told_of_answer, ways
 from live.terminal.terminal import Typed
 from live.web.view import round_pgn
+from live.words.message import Message, linked
 
 OPENS = 5.0  # seconds that all games may take to be opened
 SHOWN = 1.0  # seconds after which a board that is heard again has shown how it stands
@@ -65,17 +66,15 @@ def first_pairings(source: Source) -> Pairings:
             source.found(source.look())
             read = source.read()
     except FileNotFoundError:
-        raise Refused(FAILED, f"there is no {file}: save the table there as CSV, and see {DGT_ROUND} --help") from None
+        raise Refused(FAILED, Message("round.no_file", file=file, dgt_round=DGT_ROUND)) from None
     except OSError as error:
-        why = f"{file} can't be read ({text_of(error)}): type the FILE of the table first, and then the FOLDER"
-        raise Refused(FAILED, why) from None
+        raise Refused(FAILED, Message("round.unreadable", file=file, why=text_of(error))) from None
     except Refused as refused:
-        raise Refused(REFUSED, f"{file}: {refused.lines[0]}", *refused.lines[1:]) from None
+        raise Refused(REFUSED, linked("colon", (str(file), refused.lines[0])), *refused.lines[1:]) from None
     if read.absent and not read.boards and not read.wrong:
-        why = f"none of its boards has a device in {source.boards}: write a line for each there"
-        raise Refused(REFUSED, f"{file}: {why}, with the columns board and device")
+        raise Refused(REFUSED, Message("round.no_device_in", file=file, boards=source.boards))
     if not read.boards and not read.wrong:
-        raise Refused(REFUSED, f"{file} names no board: each line after the first is one, as {EXAMPLE}")
+        raise Refused(REFUSED, Message("round.no_board_in", file=file, example=EXAMPLE))
     return read
 
 
@@ -103,8 +102,8 @@ def refuse_another_round(source: Source, read: Pairings, hall: Hall) -> Dict[int
         number, game = next(iter(others.items()))
         raise Refused(
             REFUSED,
-            f"{hall.folder}/{lines[number].file_name} {game.of_others}: for another round {other_round(source, hall.folder)}",
-            "To put names right all the same, start with the old table, change it, and type r",
+            Message("round.another", game=f"{hall.folder}/{lines[number].file_name}", is_so=game.of_others, how=other_round(source, hall.folder)),
+            Message("round.old_table"),
         )
     return others
 
@@ -112,11 +111,11 @@ def refuse_another_round(source: Source, read: Pairings, hall: Hall) -> Dict[int
 def other_round(source: Source, folder: str) -> str:
     """What to do for another round."""
     if source.in_tournament:
-        return f"save its table under its own number, in {source.file.parent}"
+        return Message("round.under_its_number", folder=source.file.parent)
     folder = another_folder(folder)
     while os.path.lexists(folder):
         folder = another_folder(folder)
-    return f"take another folder, as {DGT_ROUND} {shlex.join([str(source.file), folder])}"
+    return Message("round.another_folder", dgt_round=DGT_ROUND, words=shlex.join([str(source.file), folder]))
 
 
 class Round:
@@ -167,23 +166,24 @@ class Round:
         try:
             read = self._source.read()
         except OSError as error:
-            return self.say_of_table(f"refused: {self._file} can't be read ({text_of(error)}): nothing is changed")
+            return self.say_of_table(Message("round.refused_unreadable", file=self._file, why=text_of(error)))
         except Refused as refused:
             return self._refuses_file(refused.lines)
         if not read.boards:
-            return self.say_of_table(f"refused: {self._file} has no line that is right: nothing is changed")
+            return self.say_of_table(Message("round.refused_no_line", file=self._file))
         self._take(read)
         self._look_for_boards()
-        return self.say_of_table(f"{self._file} is read again: {counted(len(self._right), 'board')}{lines_are_wrong(len(self._wrong))}")
+        found = linked("comma", filter(None, (boards_counted(len(self._right)), lines_are_wrong(len(self._wrong)))))
+        return self.say_of_table(Message("round.read_again", file=self._file, found=found))
 
     def _refuses_file(self, lines: Sequence[str]) -> None:
         """Says why the file isn't taken; a question has a line for each answer."""
         if not is_question(lines):
-            return self.say_of_table(f"refused: {self._file}: {' '.join(lines)}: nothing is changed")
-        for line in (f"refused: {self._file}: {lines[0]}", *lines[1:]):
+            return self.say_of_table(Message("round.refused_file", file=self._file, why=linked("space", lines)))
+        for line in (Message("refused.line", line=self._file, why=lines[0]), *lines[1:]):
             self.say_of_table(line)
-        how = "tournament.txt is read again at r" if self._source.in_tournament else "for the option end with q, and start again"
-        self.say(f"nothing is changed; {how}")
+        how = Message("round.again_at_r") if self._source.in_tournament else Message("round.end_and_start")
+        self.say(Message("round.unchanged", how=how))
 
     def _look_for_boards(self) -> None:
         """Finds out which boards are plugged in, if some that are named only by serial number weren't found. This takes a while,
@@ -218,15 +218,15 @@ class Round:
         self._absent = {pairing.board: pairing for pairing in read.absent}
         self._right = {pairing.board for pairing in boards}
         for wrong in self._wrong:
-            self.say_of_table(f"line {wrong.line} of {wrong.file or self._file.name} is wrong: {self._why(wrong)}")
+            self.say_of_table(told_of_wrong(wrong, wrong.file or self._file.name, self._why(wrong)))
         named = {pairing.board for pairing in boards} | {wrong.board for wrong in self._wrong}
         for number in sorted(set(self.rows) - {number for number in named if number}):
             # A line whose number can't be read may be this board's.
             if None in named:
-                self.say_of_table(f"{number}: no line names it, but one line has no board number: it goes on")
+                self.say_of_table(Message("round.unnamed_goes_on", number=number))
             else:
                 pgn = self.rows[number].board.paths.pgn
-                self.say_of_table(f"{number}: no line names it any more: it ends, and its game stays in {pgn}")
+                self.say_of_table(Message("round.unnamed_ends", number=number, pgn=pgn))
                 self.rows.pop(number).end(self.changed)
         for pairing in boards:
             if pairing.board in self.rows:
@@ -257,8 +257,7 @@ class Round:
         """The rows, then the lines that belong to none."""
         rows = [self._view(row) for row in self.boards()]
         for wrong in self._wrong:
-            state = f"line {wrong.line}{wrong.file and ' of '}{wrong.file} is wrong: {self._why(wrong)}"
-            rows.append(RowView(wrong.board, state=state, alarm=True, is_board=False))
+            rows.append(RowView(wrong.board, state=told_of_wrong(wrong, wrong.file, self._why(wrong)), alarm=True, is_board=False))
         return rows + [RowView(None, state=why, alarm=True, is_of_all=True) for why in self.outputs.alarms]
 
     def _view(self, row: Row) -> RowView:
@@ -272,7 +271,7 @@ class Round:
     def _why(self, wrong: Wrong) -> str:
         """What is wrong with a line, and what happens to its board."""
         goes_on = wrong.board in self.rows and wrong.board not in self._right
-        return f"{wrong.why}; board {wrong.board} goes on as it was begun" if goes_on else wrong.why
+        return Message("round.goes_on_as_begun", why=wrong.why, board=wrong.board) if goes_on else wrong.why
 
     def changed(self, number: Optional[int] = None) -> None:
         """The row of this board has changed; without a number, what is shown of the round."""
@@ -288,7 +287,7 @@ class Round:
         boards = [row.board for row in self.rows.values()]
         before, self._is_over = self._is_over, bool(boards) and not self._wrong and all(board.is_over for board in boards)
         if self._is_over and not before:
-            self.say("all games are over: type q to end")
+            self.say(Message("round.all_over"))
 
     @property
     def _is_opened(self) -> bool:
@@ -362,7 +361,7 @@ class Round:
         elif words == [MESSAGES]:
             self._display.list_messages()
         elif words[0].lower() in HELPS:
-            self.say(all_ways(sorted(self.rows)).replace("type", "Type", 1))
+            self.say(Message("join.capital", text=all_ways(sorted(self.rows))))
         elif words[0].isascii() and words[0].isdigit() and not SCORE.fullmatch(text.strip()):
             self._of_board(words[0], words[1:])
         else:
@@ -385,18 +384,18 @@ class Round:
         if row is None and absent and typed_forfeit(" ".join(words)):
             self._forfeit(absent, " ".join(words))
         elif row is None:
-            self.say(f"refused: there is no board {printable(number)}: {boards_are(sorted(self.rows))}")
+            self.say(Message("round.no_board", number=printable(number), boards=boards_are(sorted(self.rows))))
         elif words == [MOVES]:
-            self._display.show_long(f"{row.number}: {listed(row.board.plies, row.board.result)}")
+            self._display.show_long(linked("colon", (str(row.number), listed(row.board.plies, row.board.result))))
         elif words:
             row.add(" ".join(words), functools.partial(self._answered, row))
         else:
             board = row.board
             places = ", ".join(filter(None, (row.pairing.device, row.serial, str(board.paths.capture))))
             parts = [row.whole_standing(), *board.recovered, places]
-            self.say(f"{row.number}: {'; '.join(parts)}")
+            self.say(linked("colon", (str(row.number), linked("semicolon", parts))))
             if row.advice:
-                self.say(f"{row.number}: {row.advice}")
+                self.say(linked("colon", (str(row.number), row.advice)))
 
     def _forfeit(self, pairing: Pairing, text: str) -> None:
         """A pair whose board isn't found isn't played, so it needs none."""
@@ -415,7 +414,7 @@ class Round:
         loop."""
 
         def says(said: Said) -> None:
-            self.say(f"refused: {printable(text)}: {ways(text, sorted(self.rows), said)}")
+            self.say(Message("refused.line", line=printable(text), why=ways(text, sorted(self.rows), said)))
 
         try:
             refuse_no_text(text)
@@ -483,17 +482,17 @@ class Round:
         self._typed.close()
         if self._asker:
             self._asker.close()
-        complaints = [f"board {row.number}: {row.board.trouble}" for row in self.boards() if row.board.trouble]
+        complaints = [linked("colon", (row.board.called, row.board.trouble)) for row in self.boards() if row.board.trouble]
         unwritten = self._published.close()
         complaints += filter(None, [unwritten])
         left = self.outputs.hidden_for
         if left is not None:
-            self.say(f"spectators haven't seen all moves. Start it again to show them, the last ones at {clock_in(left)}")
+            self.say(Message("delay.unseen", time=clock_in(left)))
         complaints += self.outputs.close()
-        last = f"what was written is in {self._hall.folder}" if unwritten else f"what was played is in {self._published.path}"
-        self._display.close(f"dgt_round: {last}")
+        last = Message("round.written_in", folder=self._hall.folder) if unwritten else Message("board.played_is_in", pgn=self._published.path)
+        self._display.close(linked("colon", ("dgt_round", last)))
         try:
             self._log.close()
         except Exception as error:
-            complaints.append(f"round.log couldn't be written ({type(error).__name__}: {error})")
+            complaints.append(Message("round.log_unwritten", error=type(error).__name__, why=error))
         return (FAILED if complaints else DONE), complaints

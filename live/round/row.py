@@ -36,15 +36,16 @@ from live.round.pairings import Pairing
 from live.round.table import NOT_RECORDED, RowView
 from live.terminal.screen import Screen
 from live.terminal.terminal import Terminal
+from live.words.message import Message, has, is_of, linked
 
-ANSWERED = ("added by hand", "acknowledged: ")  # the answer to a typed line says it in other words
-A_RESULT = "result "
-UNSAID = ("records ", " has the cable ", *ANSWERED)  # not below a table: its rows and the answers show it
-BEGUN_ANEW = "is begun anew"  # if its line has changed
-OTHER_FILES = "if another pair plays here, write another name of its files into the column name, then type r"
-OTHER_PLAYER = f"to put a name right, type r; {OTHER_FILES}"
-OTHER_PAIR = f"{OTHER_FILES}; to put both names right, change one in the table, type r, then the other"
-TURNED, OTHER = "turned round?", "other board?"  # in a row, for a hint that has no room there
+ANSWERED = ("typed.added_by_hand", "typed.added_by_hand_to", "look.acknowledged")  # the answer to a typed line says it in other words
+A_RESULT = "result "  # a line of the program's report
+UNSAID = ("board.records", "cable.waits_for", *ANSWERED)  # not below a table: its rows and the answers show it
+BEGUN_ANEW = Message("row.begun_anew")  # if its line has changed
+OTHER_FILES = Message("row.other_files")
+OTHER_PLAYER = Message("row.other_player", other_files=OTHER_FILES)
+OTHER_PAIR = Message("row.other_pair", other_files=OTHER_FILES)
+TURNED, OTHER = Message("row.turned"), Message("row.other_board")  # in a row, for a hint that has no room there
 
 
 @dataclass(frozen=True)
@@ -114,8 +115,8 @@ class RowScreen(Screen):
     def _shows(self, text: str, *more: str) -> None:
         """Shows this in a line of a pipe, or below the table."""
         self.show(text, *more)
-        if self._has_table and not any(part in text for part in UNSAID):
-            self._hears.say(f"{self._number}: {' '.join([text, *more])}")
+        if self._has_table and not any(has(text, key) for key in UNSAID):
+            self._hears.say(linked("colon", (str(self._number), linked("space", [text, *more]))))
 
     def obeys(self, of_table: bool) -> None:
         """A line that was typed, or is of the table, is obeyed from now on: what is said meanwhile is held back."""
@@ -125,7 +126,7 @@ class RowScreen(Screen):
         """It is answered. Of what was said meanwhile, only what the answer doesn't have is shown."""
         held, self._held, self._of_table = self._held, None, False
         for text, *more in held or ():
-            if text in answer[1] or text.startswith(ANSWERED):
+            if text in answer[1] or any(is_of(text, key) for key in ANSWERED):
                 continue
             if text.startswith(A_RESULT):
                 self.show(text)
@@ -153,7 +154,7 @@ class RowScreen(Screen):
         return text
 
     def turn(self, rotated: bool) -> str:
-        return f"Write {'no' if rotated else 'yes'} in its column rotated, save the table, and type r; or turn the board"
+        return Message("row.write_rotated", answer=Message("table.no") if rotated else Message("table.yes"))
 
     def typed(self, line: str) -> str:
         return typed_for(self._number, line)
@@ -165,16 +166,16 @@ class RowScreen(Screen):
         return f"{self._number} 1-0"
 
     def goes_on(self, name: str, in_series: bool) -> str:
-        return f"type {self.reopens()}"
+        return Message("row.type", line=self.reopens())
 
     def other_device(self) -> str:
-        return "Write it in its column device, save the table, and type r"
+        return Message("row.write_device")
 
     other_address = other_device
 
     def hint(self, text: str) -> None:
         if self._has_table:
-            self._hears.say(f"{self._number}: {text}")
+            self._hears.say(linked("colon", (str(self._number), text)))
 
 
 def typed_for(number: int, line: str) -> str:
@@ -229,10 +230,10 @@ def earlier_game(hall: Hall, pairing: Pairing) -> Optional[Earlier]:
             return Earlier(kept, is_same=all(kept.tag(option) == given.tag(option) != UNKNOWN for option in PLAYERS))
         result = result_in(paths)
         if end_mark(paths) is not None or result != "*":
-            is_so = "is over" if end_mark(paths) is not None else f"has the result {result}"
-            return Earlier(kept, f"{is_so}, and was played by {kept.players}", are_others=others == len(PLAYERS))
+            is_so = Message("row.is_over") if end_mark(paths) is not None else Message("row.has_result", result=result)
+            return Earlier(kept, Message("row.played_by", is_so=is_so, players=kept.players), are_others=others == len(PLAYERS))
         has_moves = others == len(PLAYERS) and game_of(hall.program, kept, files.existing(paths.capture)).plies
-        return Earlier(kept, f"has moves of {kept.players}" if has_moves else "", are_others=bool(has_moves))
+        return Earlier(kept, Message("row.has_moves", players=kept.players) if has_moves else "", are_others=bool(has_moves))
     except Exception:
         return None  # its row will say it
 
@@ -256,7 +257,7 @@ class Row:
         self._screen = RowScreen(pairing.board, hall.terminal, hears)
         self._screen.needs_board = self._is_played
         self.board = Board(loop, hall.program, self._screen, paths, self)
-        self.board.called = f"board {pairing.board}"
+        self.board.called = Message("round.board", board=pairing.board)
         self._screen.is_settled = lambda: bool(self.board.forfeit) or self.board.result == self.pairing.result
         self._device = ""  # the line's device when the recording began
         self._of_line: Tuple[Optional[Pairing], Options] = (None, Options())  # a line, and its options
@@ -305,7 +306,7 @@ class Row:
 
         def prepares() -> Chooses:
             if self.held:
-                raise Refused(REFUSED, f"its game {self.held.of_others}: {self.held.advice}")
+                raise Refused(REFUSED, Message("row.game_of_others", of_others=self.held.of_others, advice=self.held.advice))
             given = checked(hall.program, typed_options(hall, pairing))
             check(device, may_wait=True)
             return of_a_line(given, name)
@@ -354,7 +355,7 @@ class Row:
             self.held = None
         self._wants_result = True
         if before.result == self.board.forfeit != "" and not pairing.result:
-            self._hears.say_of_table(f"{self.number}: its line has no forfeit any more: if it is played, type {self.number} {REOPENS}")
+            self._hears.say_of_table(Message("row.no_forfeit", number=self.number, reopens=REOPENS))
         if same_but_for_result(before, pairing):
             self._loop.after(0, self._apply_result)
             if not self.board.is_recorded and not self.board.is_over:
@@ -377,8 +378,8 @@ class Row:
         wanted = self.pairing.result
         if wanted and wanted not in (self.board.forfeit, self.board.result):
             if self.board.result != "*":
-                stays = f"its line has {wanted}, and the game ended {self.board.result}: it stays so"
-                self._hears.say_of_table(f"{self.number}: {stays}. To change it, type {self.number} {wanted}")
+                stays = Message("row.result_stays", wanted=wanted, result=self.board.result)
+                self._hears.say_of_table(Message("row.to_change", number=self.number, stays=stays, wanted=wanted))
             else:
                 self._gets_result = True
                 self.add(wanted, self._has_result, of_table=True)
@@ -386,7 +387,7 @@ class Row:
     def _has_result(self, answer: Answer) -> None:
         """What its line says was added, or refused."""
         self._gets_result = False
-        self._hears.say(f"{self.number}: {answer[1]}")
+        self._hears.say(linked("colon", (str(self.number), answer[1])))
 
     def _is_played(self) -> bool:
         """Whether its game is played: it isn't forfeited, and its line doesn't say so of a game without moves."""
@@ -453,19 +454,20 @@ class Row:
         """The same, with the words in two parts: before and after how long it has lasted."""
         board = self.board
         if board.trouble:
-            return NOT_RECORDED, f": {board.trouble}", None, True
+            return NOT_RECORDED, linked("colon", ("", board.trouble)), None, True
         if board.forfeit:
             return self._over(Forfeit(board.forfeit).words, False)
         if state is None:
             if not board.is_over:
                 return BEGUN_ANEW, "", None, False
             has_result = board.result != "*"
-            return self._over(f"over {board.result}" if has_result else "over, no result", not has_result)
+            over = Message("state.over_with", result=board.result) if has_result else Message("state.over_no_result")
+            return self._over(over, not has_result)
         return (*state.parts(), None if state.kind is Kind.WAITS else state.since, state.is_alarm)
 
     def _over(self, over: str, alarm: bool) -> Tuple[str, str, Optional[float], bool]:
         look = self.board.looks.short
-        return look or over, f"; {over}" if look else "", None, alarm or bool(look)
+        return look or over, linked("semicolon", ("", over)) if look else "", None, alarm or bool(look)
 
     def view(self) -> RowView:
         """What its row shows. A hint was shown in full when it came, and is two words here."""

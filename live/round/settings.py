@@ -13,6 +13,7 @@ from live.round.headings import normal
 from live.round.pairings import NO, YES, shown
 from live.round.encodings import known_encoding, loose_text, text_of
 from live.round.sheets import LARGEST
+from live.words.message import Message
 
 PLACE = {"site": "place"}  # as the template has it: a site is also a folder of files
 ALSO = {"place": "site", "tournament": "event", "dates": "date"}  # other names that arbiters use for some
@@ -46,7 +47,7 @@ def words_of(content: bytes, round_number: int, options: Sequence[str], encoding
     """The settings of a round as words of a command line that has these options with a value. Refused if a line isn't a setting: a
     delay that isn't understood must not be ignored. If they aren't Unicode, they are in this encoding, or in the one that they set."""
     if len(content) > LARGEST:
-        raise Refused(REFUSED, f"it has more than {LARGEST // 1024} kB")
+        raise Refused(REFUSED, Message("file.too_large", largest=LARGEST // 1024))
     known = {normal(option): option for option in options if option != TAG}
     for_all: Dict[str, str] = {}
     for_this: Dict[str, str] = {}
@@ -57,7 +58,7 @@ def words_of(content: bytes, round_number: int, options: Sequence[str], encoding
             continue
         name, equals, value = (part.strip() for part in line.partition("="))
         if not equals:
-            raise Refused(REFUSED, f"line {number} is {shown(line.strip())}: type NAME = VALUE, as event = Club cup")
+            raise Refused(REFUSED, Message("settings.no_equals", line=number, text=shown(line.strip())))
         named = NAMED.fullmatch(name) if normal(OPTION) in known else None
         of_round = named or FOR_A_ROUND.fullmatch(name)
         word = normal(of_round.group(1) or "" if of_round else name)
@@ -68,21 +69,21 @@ def words_of(content: bytes, round_number: int, options: Sequence[str], encoding
             word, typed = _output(number, named.group(1) or "", value)
             other = outputs.setdefault((word, its_round), number)
             if other != number:
-                raise Refused(REFUSED, f"line {number}: there is {word} in line {other} already: give it another name")
+                raise Refused(REFUSED, Message("settings.output_twice", line=number, output=word, other=other))
         elif word == normal(RECOVER):
             if value.lower() not in YES + NO:
-                raise Refused(REFUSED, f"line {number}, {name}: {shown(value)}: type yes or no")
+                raise Refused(REFUSED, Message("settings.yes_or_no", line=number, name=name, value=shown(value)))
             typed, value = (RECOVER if value.lower() in YES else STRICT), value and "yes"
         elif word == "site" and PATH.match(value):
-            raise Refused(REFUSED, f"line {number}, {name}: {shown(value)} is a folder, not a place: for a site of files type web = FOLDER")
+            raise Refused(REFUSED, Message("settings.folder", line=number, name=name, value=shown(value)))
         elif word in known and known[word] != "--round":
             typed = f"{known[word]}={value}"
         elif tag and normal(tag) not in ("round", "board", "white", "black"):
             typed = f"{TAG}={tag}={value}"
         else:
             names = [option[2:].replace("-", " ") for option in known.values() if option != "--round"]
-            there = f"there are {', '.join(sorted(PLACE.get(name, name) for name in names))}, recover, and tags as time control"
-            raise Refused(REFUSED, f"line {number}: there is no setting {shown(name)}: {there}")
+            there = Message("settings.there_are", names=", ".join(sorted(PLACE.get(name, name) for name in names)))
+            raise Refused(REFUSED, Message("settings.unknown", line=number, name=shown(name), there=there))
         if value and its_round and int(its_round) == round_number:
             for_this[word] = typed
         elif value and not its_round:
@@ -106,5 +107,5 @@ def _output(line: int, name: str, value: str) -> Tuple[str, str]:
         if value:
             read_output(f"{name}={value}")
     except Refused as refused:
-        raise Refused(REFUSED, f"line {line}: {refused.lines[0]}") from None
+        raise Refused(REFUSED, Message("pairs.of_line", line=line, why=refused.lines[0])) from None
     return f"output {name}", f"{OPTION}={name}={value}"

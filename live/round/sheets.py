@@ -10,8 +10,9 @@ from typing import List, Optional, Sequence, Tuple
 from live.refused import REFUSED, Refused
 from live.round.encodings import text_of
 from live.round.headings import Heading, heading_of
+from live.words.message import Message, plural
 
-NAMES = {",": "commas", ";": "semicolons", "\t": "tabs"}  # of what divides the fields of a line
+NAMES = {",": Message("sheet.commas"), ";": Message("sheet.semicolons"), "\t": Message("sheet.tabs")}  # of what divides the fields of a line
 SEPARATORS = tuple(NAMES)
 LARGEST = 256 * 1024  # bytes
 MOST_LINES = 1000  # the first one, and one for each possible board
@@ -33,9 +34,9 @@ class Sheet:
 def refuse_others(content: bytes) -> None:
     """Refused if it is too large, or not text."""
     if len(content) > LARGEST:
-        raise Refused(REFUSED, f"it has more than {LARGEST // 1024} kB, and a table has a line for each board: save it as CSV")
+        raise Refused(REFUSED, Message("sheet.too_large", largest=LARGEST // 1024))
     if content.startswith(BINARY):
-        raise Refused(REFUSED, "it is no text: let the spreadsheet save the table as CSV")
+        raise Refused(REFUSED, Message("sheet.no_text"))
 
 
 def lines_of(content: bytes, encoding: str = "") -> List[Tuple[int, str]]:
@@ -52,23 +53,23 @@ def read_sheet(content: bytes, encoding: str = "") -> Sheet:
     if lines and re.fullmatch("sep=.?", lines[0][1].strip().lower()):  # a line for spreadsheets alone
         lines.pop(0)
     if not lines:
-        raise Refused(REFUSED, f"it is empty: its first line is {HEADER}")
+        raise Refused(REFUSED, Message("sheet.empty", header=HEADER))
     if len(lines) > MOST_LINES:
-        raise Refused(REFUSED, f"it has {len(lines)} lines, and may have {MOST_LINES}: take out those that are no board's")
+        raise Refused(REFUSED, Message("sheet.too_many_lines", count=len(lines), most=MOST_LINES))
     for at, (_, line) in enumerate(lines[: MOST_ABOVE + 1]):
         for separator in SEPARATORS:
             heading = heading_of(fields_of(line, separator) or [])
             if heading:
                 if heading.twice:
-                    raise Refused(REFUSED, f"its {which(at)} has the column {heading.twice} twice: take one out")
+                    raise Refused(REFUSED, Message("sheet.column_twice", which=which(at), column=heading.twice))
                 above = tuple(number for number, _ in lines[:at])
                 return Sheet(heading, separator, tuple(lines[at + 1 :]), above)
-    raise Refused(REFUSED, f"its first line names no board and device: it is to be {HEADER}")
+    raise Refused(REFUSED, Message("sheet.no_board_and_device", header=HEADER))
 
 
 def which(at: int) -> str:
     """The line with the headings."""
-    return "first line" if at == 0 else "line with the headings"
+    return Message("sheet.first_line") if at == 0 else Message("sheet.line_with_headings")
 
 
 def fields_of(line: str, separator: str) -> Optional[List[str]]:
@@ -83,5 +84,4 @@ def told_of_above(above: Sequence[int]) -> List[str]:
     """The message about lines above the headings."""
     if not above:
         return []
-    return [f"line {above[0]} is above the headings, and isn't used" if len(above) == 1 else
-            f"lines {above[0]} to {above[-1]} are above the headings, and aren't used"]  # fmt: skip
+    return [plural("sheet.above", len(above), first=above[0], last=above[-1])]

@@ -27,6 +27,7 @@ from live.refused import REFUSED, Refused
 from live.web.doors import Title
 from live.web.page import FOLDER, PIECES, SPECTATORS
 from live.web.view import RoundView, json_text, pgn_path, round_pgn, round_text
+from live.words.message import Message
 
 LOOK = 1.0  # seconds between two checks
 AGAIN = 5.0  # seconds until it is tried again after an error
@@ -51,7 +52,8 @@ def round_page() -> bytes:
     """The spectators' page, with paths that lead out of a round's folder, which asks for files."""
     text = (FOLDER / SPECTATORS.index).read_bytes().replace(PIECES, (FOLDER / "pieces.svg").read_bytes()).decode("utf-8")
     text = re.sub(r'(href|src)="/(?!round\.pgn)', r'\1="../', text).replace('"/round.pgn"', '"round.pgn"')
-    text = text.replace("<nav>", '<nav><a href="../index.html">All rounds</a>').replace('<html lang="en">', '<html lang="en" data-files="">')
+    text = text.replace("<nav>", f'<nav><a href="../index.html">{_text(Message("site.all_rounds"))}</a>')
+    text = text.replace('<html lang="en">', '<html lang="en" data-files="">')
     return text.replace('<meta charset="utf-8">', f'<meta charset="utf-8">\n  {_policy()}', 1).encode("utf-8")
 
 
@@ -88,9 +90,9 @@ def list_page(event: str, rounds: Mapping[str, Mapping[str, object]]) -> bytes:
     """All rounds with their results, from what each has in its JSON."""
     parts: List[str] = []
     for folder, state in sorted(rounds.items(), key=lambda one: _number(one[0])):
-        name = f"Round {state['round']}" if state.get("round") else "The round"
+        name = Message("site.round", number=state["round"]) if state.get("round") else Message("site.the_round")
         parts.append(f'<section><h2><a href="{folder}/index.html">{_text(name)}</a></h2>\n<table>{_rows(state, folder)}</table>'
-                     f'<p><a href="{folder}/round.pgn" download>PGN of all games</a></p></section>')  # fmt: skip
+                     f'<p><a href="{folder}/round.pgn" download>{_text(Message("site.pgn_of_all"))}</a></p></section>')  # fmt: skip
     head = f'<meta charset="utf-8">\n{_policy()}\n<meta name="viewport" content="width=device-width, initial-scale=1">\n{REFRESH}'
     links = '<link rel="icon" href="icon.svg">\n<link rel="stylesheet" href="page.css">\n<link rel="stylesheet" href="site.css">'
     title, body = _text(event), '<body class="alone">' if len(rounds) == 1 else "<body>"
@@ -113,7 +115,7 @@ def _rows(state: Mapping[str, object], folder: str) -> str:
     parts: List[str] = []
     for match in _objects_of(state, "matches"):
         (one, other), points = map(_text, match["teams"]), "–".join(map(printed, match["points"] or ())) or "–"
-        why = f" <small>no score: {_text(match['why'])}</small>" if match.get("why") else ""
+        why = f" <small>{_text(Message('site.no_score', why=match['why']))}</small>" if match.get("why") else ""
         heading = f'<th colspan="4" scope="rowgroup"><bdi>{one}</bdi> <b>{points}</b> <bdi>{other}</bdi>{why}</th>'
         parts.append(f'<tbody><tr class="match">{heading}</tr>\n{"".join(rows.pop(number, "") for number in match["boards"])}</tbody>')
     return "".join([*parts, *rows.values()])
@@ -121,7 +123,7 @@ def _rows(state: Mapping[str, object], folder: str) -> str:
 
 def _row(board: Mapping[str, object], folder: str) -> str:
     forfeit, result = str(board.get("forfeit", "")), str(board.get("result", "*"))
-    score = f"{forfeit} forfeit" if forfeit else "" if result == "*" else result
+    score = Message("site.forfeit", score=forfeit) if forfeit else "" if result == "*" else result
     number = int(str(board.get("number", 0)))
     names = [f"<td><bdi>{_text(board.get(side, ''))}</bdi>{_whence(board, index)}</td>" for index, side in enumerate(("white", "black"))]
     link = f'<th scope="row"><a href="{folder}/index.html#{number}">{number}</a></th>'
@@ -147,9 +149,9 @@ def why_no_site(folder: pathlib.Path) -> str:
         return ""
     games = sorted([*folder.glob("*.dgt"), *folder.glob("*/*.dgt")])
     if games:
-        return f"it has games that are recorded, as {games[0]}"
+        return Message("site.has_games", game=games[0])
     names = {path.name for path in folder.iterdir()} - {new_of(MARK)}
-    return f"it has other files, as {folder / min(names)}, and no {MARK}" if names and MARK not in names else ""
+    return Message("site.has_files", file=folder / min(names), mark=MARK) if names and MARK not in names else ""
 
 
 def refuse_no_site(option: str, folder: pathlib.Path) -> None:
@@ -157,7 +159,7 @@ def refuse_no_site(option: str, folder: pathlib.Path) -> None:
     with contextlib.suppress(OSError):
         why = why_no_site(folder)
         if why:
-            raise Refused(REFUSED, f"{option}: {folder}: {why}: give the site a new folder, or an empty one")
+            raise Refused(REFUSED, Message("site.refused", option=option, folder=folder, why=why))
 
 
 def kept_rounds(folder: pathlib.Path) -> Dict[str, Mapping[str, object]]:
@@ -242,12 +244,12 @@ class SiteFiles:
     def _take(self, texts: Texts, made: Made, now: float) -> None:
         if made.trouble:
             if not self._told:
-                self._says(f"{trouble_of(made.full)}: the site in {self._folder} can't be written ({made.trouble}); it is tried again")
+                self._says(Message("site.unwritten_again", trouble=trouble_of(made.full), folder=self._folder, why=made.trouble))
         else:
             self._written.update(texts)
             self._renewed_at = now
             if self._told:
-                self._says(f"the site in {self._folder} is written again")
+                self._says(Message("site.written_again", folder=self._folder))
             self.written()
         self._told = made.trouble
 
@@ -266,7 +268,7 @@ class SiteFiles:
     def close(self) -> List[str]:
         """Writes it a last time, unless that is done. Returns what can't be written."""
         self.finish()
-        return [f"the site in {self._folder} can't be written ({self._told})"] if self._told else []
+        return [Message("site.unwritten", folder=self._folder, why=self._told)] if self._told else []
 
 
 def written(folder: pathlib.Path, event: str, this_round: str, texts: Texts, games: FrozenSet[str]) -> Made:

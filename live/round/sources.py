@@ -19,6 +19,7 @@ from live.round.joining import joined, placed, serials_wanted
 from live.round.pairings import Pairing, Pairings, Wrong, device_twice, read_pairings
 from live.round.sheets import LARGEST
 from live.round.trf import is_report, read_report
+from live.words.message import Message
 
 BOARDS = "boards.csv"
 
@@ -91,12 +92,12 @@ class Source:
         try:
             hall = read_pairings(files.beginning(self.boards, LARGEST + 1), self._encoding)
         except FileNotFoundError:
-            why = f"it doesn't say where its boards are plugged in: write {self.boards}, with the columns board and device"
+            why = Message("sources.no_boards", boards=self.boards)
             raise Refused(REFUSED, why) from None
         except Refused as refused:
-            raise Refused(REFUSED, f"its boards can't be read: {self.boards}: {refused.lines[0]}", *refused.lines[1:]) from None
+            raise Refused(REFUSED, Message("sources.unreadable", boards=self.boards, why=refused.lines[0]), *refused.lines[1:]) from None
         if not hall.has_devices:
-            raise Refused(REFUSED, f"its boards can't be read: {self.boards} has neither a column device nor a column serial")
+            raise Refused(REFUSED, Message("sources.no_column", boards=self.boards))
         return hall
 
     def look(self) -> Dict[str, str]:

@@ -7,6 +7,7 @@ from dataclasses import dataclass
 from typing import List, Optional, Sequence, Tuple
 
 from live.terminal.columns import CUT, fitted, folded, seen, split_at, width_of
+from live.words.message import Message, linked, plural
 
 WIDTH = 80  # columns of a usual terminal
 NARROW = 72  # columns below which there are no clocks
@@ -18,7 +19,7 @@ MESSAGES = 3  # lines that messages always have
 MOST_MESSAGES = 20  # lines that they have if there is room: in a tall window no message of the start is pushed out
 MOST_LISTED = 8  # boards, or ranges of boards, whose numbers are listed
 LONGEST_ROW = 3  # lines of a row that explains a trouble
-NOT_RECORDED = "NOT RECORDED"
+NOT_RECORDED = Message("table.not_recorded")
 
 
 @dataclass(frozen=True)
@@ -70,10 +71,10 @@ class Columns:
         games = [view for view in rows if not view.replaces_game]
         white = widest("White", [view.white for view in games])
         black = widest("Black", [view.black for view in games])
-        last = widest("Last move", [view.last for view in games])
+        last = widest(Message("table.last_move"), [view.last for view in games])
         clocks = width >= NARROW and any(any(view.clocks) for view in games)
         room = width - 1 - NUMBER - 2 - last - (2 * (CLOCK + 1) if clocks else 0) - GAP
-        state = widest("State and since", [view.told_state(now) for view in games])
+        state = widest(Message("table.state_and_since"), [view.told_state(now) for view in games])
         # In steps, so that columns don't move each time that a second is added.
         least = next(columns for begin, columns in LEAST if width >= begin) + max(0, width - WIDTH) // 4
         names = max(room - STEP * math.ceil(state / STEP), 2 * least)
@@ -112,10 +113,10 @@ def wrapped(text: str, width: int, indent: str, most: int) -> List[str]:
 
 def head(columns: Columns) -> str:
     """The line above the rows."""
-    parts = [fitted("White", columns.white), fitted("Black", columns.black), fitted("Last move", columns.last)]
+    parts = [fitted("White", columns.white), fitted("Black", columns.black), fitted(Message("table.last_move"), columns.last)]
     if columns.clocks:
         parts += ["White".rjust(CLOCK), "Black".rjust(CLOCK)]
-    return fitted(f"  No {' '.join(parts)}  State and since", columns.whole).rstrip()
+    return fitted(f"  {Message('table.number')} {' '.join(parts)}  {Message('table.state_and_since')}", columns.whole).rstrip()
 
 
 def row(view: RowView, now: float, columns: Columns) -> List[str]:
@@ -133,20 +134,30 @@ def row(view: RowView, now: float, columns: Columns) -> List[str]:
     return [(line + states[0]).rstrip(), *(" " * columns.front + more for more in states[1:])]
 
 
-def counted(number: int, what: str) -> str:
+def boards_counted(number: int) -> str:
+    """`no board`, `1 board`, `2 boards`."""
+    return plural("table.boards", number) if number else Message("table.no_board")
+
+
+def alarms_counted(number: int) -> str:
     """`no alarm`, `1 alarm`, `2 alarms`."""
-    return f"{number or 'no'} {what}{'' if number < 2 else 's'}"
+    return plural("table.alarms", number) if number else Message("table.no_alarm")
 
 
 def lines_are_wrong(number: int) -> str:
-    """The note on wrong lines of the file."""
-    return "" if number == 0 else ", 1 line is wrong" if number == 1 else f", {number} lines are wrong"
+    """The note on wrong lines of the file; empty if there are none."""
+    return plural("table.wrong_lines", number) if number else ""
 
 
 def boards_are(numbers: Sequence[int]) -> str:
     """Which boards there are, from their numbers in order: `the boards are 1 to 8`."""
     if len(numbers) < 2:
-        return f"the only board is {numbers[0]}" if numbers else "no line of the table is right"
+        return Message("table.only_board", board=numbers[0]) if numbers else Message("table.no_right_line")
+    return Message("table.boards_are", boards=listed_numbers(numbers))
+
+
+def listed_numbers(numbers: Sequence[int]) -> str:
+    """`1 to 4, 7 and 9`; of many only some."""
     runs: List[List[int]] = []
     for number in numbers:
         if runs and runs[-1][-1] + 1 == number:
@@ -155,18 +166,18 @@ def boards_are(numbers: Sequence[int]) -> str:
             runs.append([number])
     parts: List[str] = []
     for run in runs:
-        parts += [f"{run[0]} to {run[-1]}"] if len(run) > 2 else [str(number) for number in run]
+        parts += [Message("table.from_to", first=run[0], last=run[-1])] if len(run) > 2 else [str(number) for number in run]
     if len(parts) > MOST_LISTED:
         parts = [*parts[: MOST_LISTED - 2], "..", parts[-1]]
-    return "the boards are " + (" and ".join([", ".join(parts[:-1]), parts[-1]]) if len(parts) > 1 else parts[0])
+    return linked("and", filter(None, (linked("comma", parts[:-1]), parts[-1])))
 
 
 def title_line(title: str, rows: Sequence[RowView], width: int) -> str:
     """What is recorded, and how many boards, alarms and wrong lines of the file there are."""
     boards = [view for view in rows if view.is_board and not view.is_of_all]
     lines = sum(not view.is_board for view in rows)
-    alarms = counted(sum(view.alarm for view in rows if view.is_board), "alarm")
-    tail = f"{counted(len(boards), 'board')}, {alarms}{lines_are_wrong(lines)}"
+    alarms = alarms_counted(sum(view.alarm for view in rows if view.is_board))
+    tail = linked("comma", filter(None, (boards_counted(len(boards)), alarms, lines_are_wrong(lines))))
     return f"{fitted(title, max(0, width - 2 - len(tail)))} {tail}"
 
 
@@ -196,7 +207,8 @@ def screen(
         shown = [lines for _, lines in sorted(zip(rows, shown), key=lambda one: not one[0].alarm)]
         while shown and sum(map(len, shown)) > max(1, room - 1):
             shown.pop()
-        more = [f"     {len(rows) - len(shown)} more: make the window higher"][: room - sum(map(len, shown))]
+        told: str = Message("table.more_rows", count=len(rows) - len(shown))
+        more = [told][: room - sum(map(len, shown))]
     table = [line for lines in shown for line in lines] + more
     below = last_messages(messages, width - 1, whole - len(above) - 1 - len(table))
     return above + table + [""] + below + [""] * (whole - len(above) - 1 - len(table) - len(below))
@@ -206,4 +218,4 @@ def listing(title: str, rows: Sequence[RowView], messages: Sequence[str], height
     """The last of these messages, over the whole screen. Above them it says how many alarms the boards have meanwhile."""
     room = max(1, height - 4)
     below = last_messages(messages, width - 1, room)
-    return [title_line(title, rows, width), *below, *[""] * (room - len(below)), "Enter shows the boards again"]
+    return [title_line(title, rows, width), *below, *[""] * (room - len(below)), Message("table.enter")]

@@ -22,6 +22,7 @@ from live.round.encodings import encoding_in, loose_text
 from live.round.sheets import LARGEST
 from live.round.sources import BOARDS
 from live.round.trf import head_of, is_report
+from live.words.message import Message, linked
 
 SETTINGS = "tournament.txt"
 TABLES = (".csv", ".txt", ".tsv")
@@ -92,16 +93,16 @@ class Tournament:
         except FileNotFoundError:
             return []
         except OSError as error:
-            raise Refused(FAILED, f"{path} can't be read ({text_of(error)})") from None
+            raise Refused(FAILED, Message("file.unreadable", path=path, why=text_of(error))) from None
         except Refused as refused:
-            raise Refused(REFUSED, f"{path}: {refused.lines[0]}", *refused.lines[1:]) from None
+            raise Refused(REFUSED, linked("colon", (str(path), refused.lines[0])), *refused.lines[1:]) from None
 
     def table(self) -> pathlib.Path:
         """The table of the round, or the report that has it. Refused if there is none, or more than one."""
         try:
             names = sorted(path for path in self.folder.iterdir() if path.is_file())
         except OSError as error:
-            raise Refused(FAILED, f"{self.folder} can't be read ({text_of(error)})") from None
+            raise Refused(FAILED, Message("file.unreadable", path=self.folder, why=text_of(error))) from None
         tables = [path for path in names if path.suffix.lower() in TABLES and self._is_named(path) and not _is_report(path)]
         reports = [path for path in names if path.suffix.lower() in REPORTS and _is_report(path)]
         pairs = [path for path in tables if not _is_empty(path)]
@@ -110,17 +111,17 @@ class Tournament:
             return found[0]
         if found:
             listed = ", ".join(path.name for path in found[:MOST_LISTED])
-            raise Refused(REFUSED, f"{self.folder} has more than one table of round {self.number}: {listed}: leave one there")
+            raise Refused(REFUSED, Message("tournament.two_tables", folder=self.folder, round=self.number, files=listed))
         if tables:
             raise Refused(
                 REFUSED,
-                f"{tables[0]} has no pairs yet: fill it in, save the pairing program's table over it,",
-                "or its report of the tournament (TRF16) beside it, as NAME.trf",
+                Message("tournament.no_pairs", file=tables[0]),
+                Message("tournament.or_report"),
             )
         raise Refused(
             REFUSED,
-            f"{self.folder} has no table of round {self.number}: save it there as round{self.number}.csv,",
-            "as the pairing program writes it, or its report of the tournament (TRF16) as NAME.trf",
+            Message("tournament.no_table", folder=self.folder, round=self.number),
+            Message("tournament.as_program"),
         )
 
     def _is_named(self, path: pathlib.Path) -> bool:
@@ -159,13 +160,13 @@ def tournament_of(file: str, folder: str) -> Optional[Tournament]:
     """The tournament in `dgt_round cup 3`; None if a table is named. Refused if there is none yet."""
     path = pathlib.Path(file)
     if path.is_dir() and (not folder or not NUMBER.fullmatch(folder) and (path / SETTINGS).exists()):
-        raise Refused(REFUSED, f"{file} is a folder: say which round of its tournament is played, as {DGT_ROUND} {file} 1")
+        raise Refused(REFUSED, Message("tournament.which_round", file=file, dgt_round=DGT_ROUND))
     if not NUMBER.fullmatch(folder) or path.is_file() or path.suffix.lower() in TABLES:
         return None
     if not path.is_dir():
-        raise Refused(REFUSED, f"there is no folder {file}: {DGT_ROUND} --new {file} makes it, with the files to fill in")
+        raise Refused(REFUSED, Message("tournament.no_folder", folder=file, dgt_round=DGT_ROUND))
     if int(folder) == 0:
-        raise Refused(REFUSED, "the first round is 1")
+        raise Refused(REFUSED, Message("tournament.first_round"))
     return Tournament(path, int(folder))
 
 
@@ -178,15 +179,18 @@ def made(folder: pathlib.Path, find: Callable[[], Program]) -> List[str]:
         for name in new:
             files.put_in_place(folder / name, contents[name].encode("utf-8"))
     except OSError as error:
-        raise Refused(FAILED, f"{folder} can't be made ({text_of(error)}): choose another folder") from None
-    plugged = ": those that are plugged in are there" if contents[BOARDS].count("\n") > 1 else ""
+        raise Refused(FAILED, Message("tournament.not_made", folder=folder, why=text_of(error))) from None
+    boards = Message("tournament.has_boards_plugged") if contents[BOARDS].count("\n") > 1 else Message("tournament.has_boards")
+    has = (
+        (SETTINGS, Message("tournament.has_settings")),
+        (BOARDS, boards),
+        ("round1.csv", Message("tournament.has_pairs")),
+        ("", Message("tournament.has_report")),
+    )
     return [
-        f"{folder} {'now has' if new else 'has'} these files. Fill them in, with a spreadsheet or an editor:",
-        f"  {SETTINGS:<15} event, place, dates, time control, page, delay",
-        f"  {BOARDS:<15} a line for each board of the hall, with its device{plugged}",
-        f"  {'round1.csv':<15} the pairs of round 1. Or save the pairing program's own table there, as round1.csv,",
-        f"  {'':<15} or its report of the tournament (TRF16), as NAME.trf",
-        f"Then type: {DGT_ROUND} {folder} 1",
+        Message("tournament.now_has", folder=folder) if new else Message("tournament.has", folder=folder),
+        *(f"  {name:<15} {what}" for name, what in has),
+        Message("tournament.then_type", dgt_round=DGT_ROUND, folder=folder),
     ]
 
 

@@ -19,11 +19,12 @@ from live.refused import ARGUMENTS, REFUSED, Refused
 from live.round.pairings import MOST_UNKNOWN, NO, YES, Pairing, Pairings, Wrong, more_lines, shown
 from live.round.encodings import loose_text, text_of
 from live.round.sheets import LARGEST
+from live.words.message import Message, linked
 
 PLAYER, TEAM, EVENT, SITE, TIME_CONTROL, DATES = "001", "013", "012", "022", "122", "132"
 TEAM_OF_2026 = "310"  # a team's line in the later edition, TRF26
 MATCHES = "--matches"  # the option that answers whether teams play matches
-SAVE_A_TABLE = "save the pairs of the round as a table, with the columns board, white and black"
+SAVE_A_TABLE = Message("report.save_a_table")
 NOT_NEEDED = ("032", "042", "052", "062", "072", "082", "092", "102", "112")
 EXTENSION = re.compile(r"XX[A-Z]|BB[A-Z]|\d{3}")  # of programs, or of a later edition
 FIRST_ROUND, ROUND_WIDTH = 91, 10
@@ -31,7 +32,11 @@ MOST_NAMED = 5  # players without an opponent
 # Half points for the code after a game: played, not rated, forfeited, and without an opponent.
 HALF_POINTS = {"1": 2, "W": 2, "+": 2, "F": 2, "U": 2, "=": 1, "D": 1, "H": 1}
 OUTCOMES = {"1": "1-0", "W": "1-0", "0": "0-1", "L": "0-1", "=": "1/2-1/2", "D": "1/2-1/2"}  # of White
-WITHOUT = {"F": "a full point", "H": "half a point", "U": "the bye"}  # an opponent
+WITHOUT: Dict[str, str] = {  # an opponent
+    "F": Message("report.full_point"),
+    "H": Message("report.half_point"),
+    "U": Message("report.the_bye"),
+}
 
 
 @dataclass(frozen=True)
@@ -70,9 +75,9 @@ def is_report(content: bytes) -> bool:
 def read_report(content: bytes, round_number: Optional[int], encoding: str = "", no_matches: bool = False) -> Pairings:
     """The pairs of a round. Refused if there is no such round, and if it has a team, unless it is given that teams play no matches."""
     if len(content) > LARGEST:
-        raise Refused(REFUSED, f"it has more than {LARGEST // 1024} kB")
+        raise Refused(REFUSED, Message("file.too_large", largest=LARGEST // 1024))
     if round_number is None:
-        raise Refused(REFUSED, "it is the report of a tournament: say which round is played, as --round 3")
+        raise Refused(REFUSED, Message("report.which_round"))
     players: Dict[int, Player] = {}
     teams: Dict[int, str] = {}
     wrong: List[Wrong] = []
@@ -83,10 +88,11 @@ def read_report(content: bytes, round_number: Optional[int], encoding: str = "",
         if code == PLAYER:
             player = player_of(number, line)
             if player is None or player.number in players:
-                why = "is no player's"
+                text = shown(line[:40].strip())
+                why = Message("report.no_player", text=text)
                 if player:
-                    why = f"has the number {player.number} of line {players[player.number].line}"
-                wrong.append(Wrong(number, None, f"it {why}: {shown(line[:40].strip())}"))
+                    why = Message("report.number_twice", number=player.number, line=players[player.number].line, text=text)
+                wrong.append(Wrong(number, None, why))
             else:
                 players[player.number] = player
         elif code == TIME_CONTROL:
@@ -98,10 +104,10 @@ def read_report(content: bytes, round_number: Optional[int], encoding: str = "",
         elif code == TEAM:
             teams.update(dict.fromkeys(map(int, re.findall(r"\d+", line[36:])), cleaned(line[4:36])))
         elif line.strip() and code not in (EVENT, SITE, DATES, *NOT_NEEDED) and not EXTENSION.fullmatch(code):
-            unknown.append(f"line {number} isn't known, and isn't used: {shown(line.strip())}")
+            unknown.append(Message("report.unknown_line", line=number, text=shown(line.strip())))
     rounds = max((len(player.games) for player in players.values()), default=0)
     if not 0 < round_number <= rounds:
-        raise Refused(REFUSED, f"it has no pairs of round {round_number}: {told_of_rounds(rounds)}")
+        raise Refused(REFUSED, Message("report.no_pairs_of", round=round_number, rounds=told_of_rounds(rounds)))
     told = [*told_of_control[:1], *unknown[:MOST_UNKNOWN], *more_lines(len(unknown) - MOST_UNKNOWN)]
     return _pairs(players, teams, round_number, wrong, told)
 
@@ -111,13 +117,13 @@ def no_time_control(number: int, line: str) -> List[str]:
     try:
         value_of("TimeControl", cleaned(line[4:]))
     except Malformed as error:
-        return [f"line {number}, time control: {error}; it isn't used"]
+        return [Message("report.time_control", line=number, why=error.message)]
     return []
 
 
 def of_matches(line: int) -> Tuple[str, str]:
     """The message that teams play matches: FIDE's order of boards is for players alone."""
-    why = f"it is the report of a team tournament (line {line} has a team), and doesn't say at which board a pair plays:"
+    why = Message("report.of_teams", line=line)
     return why, SAVE_A_TABLE
 
 
@@ -125,9 +131,9 @@ def question(line: int) -> Tuple[str, str, str]:
     """What to ask about a report with a team: its lines of teams may be incomplete, so that they don't show whether teams play
     matches."""
     return (
-        f"line {line} has a team, and a report doesn't say at which board of a match a pair plays:",
-        f"if teams play matches, {SAVE_A_TABLE};",
-        f"if players are paired one by one, type {MATCHES} no (in tournament.txt: matches = no)",
+        Message("report.asks", line=line),
+        Message("report.asks_matches", save=SAVE_A_TABLE),
+        Message("report.asks_no_matches", option=MATCHES),
     )
 
 
@@ -135,13 +141,13 @@ def read_matches(text: str) -> bool:
     """Whether it is given that teams play no matches; empty if nothing is given. Refused if it is neither yes nor no."""
     word = text.strip().lower()
     if word not in YES + NO:
-        raise Refused(ARGUMENTS, f"{MATCHES} {shown(text)}: type no if players are paired one by one, or yes if teams play matches")
+        raise Refused(ARGUMENTS, Message("report.matches", option=MATCHES, value=shown(text)))
     return bool(word) and word in NO
 
 
 def told_of_rounds(rounds: int) -> str:
     """The message with the rounds that there are."""
-    return "it has no round at all" if not rounds else f"it has rounds 1 to {rounds}" if rounds > 1 else "it has round 1 alone"
+    return Message("report.no_round") if not rounds else Message("report.rounds", count=rounds) if rounds > 1 else Message("report.one_round")
 
 
 def _pairs(players: Dict[int, Player], teams: Dict[int, str], of: int, wrong: List[Wrong], told: List[str]) -> Pairings:
@@ -154,8 +160,8 @@ def _pairs(players: Dict[int, Player], teams: Dict[int, str], of: int, wrong: Li
             continue
         back = opponent.game(of) if opponent else Game()
         if opponent is None or back.opponent != player.number or {game.colour, back.colour} != {"w", "b"}:
-            differs = "and that one has another opponent or colour"
-            wrong.append(Wrong(player.line, None, f"{player.name} has {game.opponent} in round {of}, {differs}"))
+            differs = Message("report.differs")
+            wrong.append(Wrong(player.line, None, Message("report.no_pair", player=player.name, opponent=game.opponent, round=of, differs=differs)))
         elif game.colour == "w":
             pairs.append((player, opponent))
 
@@ -173,7 +179,7 @@ def _pairs(players: Dict[int, Player], teams: Dict[int, str], of: int, wrong: Li
         )
     byes = told_of_byes(players, of)
     if not boards and not wrong:
-        raise Refused(REFUSED, f"it has no pair of round {of}: save it again when the round is paired", *byes)
+        raise Refused(REFUSED, Message("report.unpaired", round=of), *byes)
     return Pairings(tuple(boards), tuple(wrong), (*told, *byes), False)
 
 
@@ -188,15 +194,17 @@ def outcome_of(white: str, black: str) -> str:
 
 def told_of_byes(players: Dict[int, Player], of: int) -> List[str]:
     """The message about players without an opponent in a round."""
-    names = []
+    names: List[str] = []
     for player in players.values():
         game = player.game(of)
         if not game.opponent:
-            names.append(f"{player.name} ({WITHOUT.get(game.result, 'absent')})")
+            names.append(Message("report.without", name=player.name, has=WITHOUT.get(game.result, Message("report.absent"))))
     if not names:
         return []
-    more = f" and {len(names) - MOST_NAMED} more" if len(names) > MOST_NAMED else ""
-    return [f"no opponent in round {of}: {', '.join(names[:MOST_NAMED])}{more}"]
+    listed = linked("comma", names[:MOST_NAMED])
+    if len(names) > MOST_NAMED:
+        listed = Message("report.and_more", names=listed, count=len(names) - MOST_NAMED)
+    return [Message("report.no_opponent", round=of, names=listed)]
 
 
 def tags_of(white: Player, black: Player, teams: Dict[int, str]) -> Tuple[Tuple[Tuple[str, str], ...], Tuple[str, ...]]:
@@ -208,7 +216,7 @@ def tags_of(white: Player, black: Player, teams: Dict[int, str]) -> Tuple[Tuple[
             try:
                 tags[side + name] = value_of(side + name, text)
             except Malformed as error:
-                remarks.append(f"line {player.line}, {side}{name}: {error}; the board is recorded without it")
+                remarks.append(Message("report.tag_not_used", line=player.line, tag=f"{side}{name}", why=error.message))
     return tuple(sorted((name, value) for name, value in tags.items() if value)), tuple(remarks)
 
 

@@ -2,33 +2,31 @@
 
 from __future__ import annotations
 
-import re
 from typing import Sequence
 
 from live.game import answers
-from live.game.answers import A_RESULT, ILLEGAL, MEANT, MOVES, OK_NUMBERED, RESULT, UNKNOWN, Said, moves_in
+from live.game.answers import ILLEGAL, MEANT, MOVES, OK_NUMBERED, RESULT, UNKNOWN, Said, moves_in
 from live.game.forfeits import typed_forfeit
 from live.game.naming import IN_A_TABLE, is_naming
 from live.game.options import Options
 from live.game.program import Program
-from live.game.reply import OK, REOPENS, Answer
+from live.game.reply import OK, REFUSALS, REOPENS, Answer
 from live.game.reply import Refused as NotDone
-from live.game.typed import ABSENT, ALL_WAYS, Acknowledged, Back, Reopened, read_words, with_more
+from live.game.typed import ABSENT, ALL_WAYS, Acknowledged, Back, Reopened, read_words
 from live.refused import DONE
-
-ADDED_A_RESULT = re.compile(f": {A_RESULT}\\S+ (after|before) [^;]*$")
+from live.words.message import Message, has, is_of, linked
 
 
 def told_of_answer(number: int, given: Answer) -> str:
     """The answer to what was typed for a board, with the board's number. A result may have been meant for another one."""
     status, answer = given
     if answer == ALL_WAYS:
-        everything = with_more(ALL_WAYS, f"or {ABSENT}")
-        return f"{number}: behind the number, {everything.replace('Type', 'type', 1)}"
-    if answer.startswith("refused"):
-        return f"{number} {answer}"
-    is_result = status == DONE and ADDED_A_RESULT.search(answer)
-    return f"{number}: {answer}" + (f". If another board was meant, type {number} {REOPENS}" if is_result else "")
+        return Message("round.behind_the_number", number=number, absent=ABSENT)
+    if any(is_of(answer, key) for key in REFUSALS):
+        return linked("space", (str(number), answer))
+    told = linked("colon", (str(number), answer))
+    is_result = status == DONE and has(answer, "result.added") and not has(answer, "join.semicolon")
+    return Message("round.another_board", told=told, number=number, reopens=REOPENS) if is_result else told
 
 
 def example(numbers: Sequence[int]) -> int:
@@ -40,7 +38,7 @@ def all_ways(numbers: Sequence[int]) -> str:
     """What can be typed."""
     number = example(numbers)
     here = ", ".join(f"{number} {what}" for what in ("1-0", "+-", "*", "Nf3 Nc6", "back", "ok", "moves", "help"))
-    return f"type {here}, {number} (the state of board {number}), messages (of before), r (read the table again) or q (end)"
+    return Message("round.all_ways", here=here, number=number)
 
 
 def ways(text: str, numbers: Sequence[int], said: Said = Said(UNKNOWN)) -> str:
@@ -49,7 +47,7 @@ def ways(text: str, numbers: Sequence[int], said: Said = Said(UNKNOWN)) -> str:
         return IN_A_TABLE
     ok = OK_NUMBERED.fullmatch(text.strip())
     if ok:
-        return f"type the board's number first, as {ok[1]} {OK}"
+        return Message("round.number_first", number=ok[1], ok=OK)
     number = example(numbers)
     line = " ".join(text.split())
     if said.kind == RESULT:
@@ -58,7 +56,7 @@ def ways(text: str, numbers: Sequence[int], said: Said = Said(UNKNOWN)) -> str:
         line = moves_in(text)[0]
     elif not is_command(text):
         return all_ways(numbers)
-    return f"of which board? Type its number first, as {number} {line}"
+    return Message("round.which_board", number=number, line=line)
 
 
 def is_command(text: str) -> bool:

@@ -15,6 +15,7 @@ from live.game.looks import Look
 from live.game.reply import REOPENS
 from live.refused import printable
 from live.terminal.terminal import INDENT, Terminal
+from live.words.message import Message, linked
 
 NO_TIME = "--:--:--"
 PROMPT = "  > "
@@ -91,16 +92,20 @@ class Screen:
 
     def anew(self, pgn: str, text: str) -> str:
         """The message that the text of a game was made anew and has changed."""
-        return f"{pgn} is made anew: {text}"
+        return Message("text.made_anew", pgn=pgn, text=text)
 
     def turn(self, rotated: bool) -> str:
         """What to do if the board lies the other way round than the option says. The last line has no room for more."""
-        return f"Ctrl-C, start again with {NOT_ROTATED if rotated else ROTATED}"
+        return Message("screen.turn", option=NOT_ROTATED if rotated else ROTATED)
 
     def look(self, look: Look, moves: Moves) -> None:
         """Shows what somebody must look at in a game that has these moves, and what to do."""
         ok, otherwise = closing(look, self.typed), if_not(look, self.typed, moves)
-        self.say(f"{look.text}. {ok}{';' if otherwise else ''}", *filter(None, [otherwise]))
+        told = linked("stop", (look.text, ok))
+        if otherwise:
+            self.say(Message("look.and_advice", look=told), otherwise)
+        else:
+            self.say(told)
 
     def typed(self, line: str) -> str:
         """How a line is typed for this board."""
@@ -112,23 +117,24 @@ class Screen:
 
     def mistyped(self) -> str:
         """What to do if the result that was just given was typed by mistake."""
-        return f"; if the result was typed by mistake, type {self.reopens()}"
+        return Message("screen.mistyped", reopens=self.reopens())
 
     def result_of(self, name: str, in_series: bool) -> str:
         """What to type for the result of a game that is over without one."""
-        return f"1-0 {name}" if in_series else f"{DGT_LIVE} --add 1-0 {name}"
+        return f"1-0 {name}" if in_series else f"{DGT_LIVE} --add 1-0 {name}"  # what is typed
 
     def goes_on(self, name: str, in_series: bool) -> str:
         """What to do if a game goes on that is over without a result."""
-        return f'{"Ctrl-C, and then " if in_series else ""}{DGT_LIVE} --add "{REOPENS}" {name}'
+        add = f'{DGT_LIVE} --add "{REOPENS}" {name}'
+        return Message("screen.ctrl_c_and", command=add) if in_series else add
 
     def other_device(self) -> str:
         """What to do if the device that isn't there is the wrong one."""
-        return f"Ctrl-C, and see {DGT_LIVE} --devices"
+        return Message("screen.other_device", dgt_live=DGT_LIVE)
 
     def other_address(self) -> str:
         """The same for the address of a serial server."""
-        return "Ctrl-C, and type that one"
+        return Message("screen.other_address")
 
     def hint(self, text: str) -> None:
         """Shows a new hint, in addition to the state, which has it too."""

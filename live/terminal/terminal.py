@@ -15,6 +15,7 @@ from live.loop import Loop
 from live.refused import REFUSED, Refused, printable
 from live.terminal import columns as columns_of
 from live.terminal import editing
+from live.words.message import Message
 
 WAITING = 64 * 1024  # bytes that may wait to be printed; later lines are dropped
 WIDEST = 79  # columns of the last line
@@ -145,7 +146,7 @@ class Terminal:
 
     def _tell_dropped(self) -> None:
         if self._dropped:
-            self.line(f"          {self._dropped} lines were dropped here: the terminal was stopped; the log has them")
+            self.line(Message("screen.dropped", count=self._dropped))
             self._dropped = 0
 
     def clear(self) -> None:
@@ -351,7 +352,7 @@ class Typed:
 
         def hears() -> None:
             if len(line) > LONGEST:
-                raise Refused(REFUSED, f"a line has at most {LONGEST:,} bytes. Nothing of it counts")
+                raise Refused(REFUSED, Message("screen.line_too_long", most=format(LONGEST, ",")))
             self._heard(text)
 
         self._guarded(text, hears)

@@ -9,6 +9,7 @@ from dataclasses import dataclass
 from typing import Callable, FrozenSet, Iterable, NamedTuple, Optional, Sequence, Tuple
 
 from live.refused import ARGUMENTS, Refused
+from live.words.message import Message, linked
 
 HERE = "127.0.0.1"
 SHAPE = re.compile(r"(?:(?:\[(?P<bracketed>[^\[\]]*)\]|(?P<plain>[^\[\]]*)):)?(?P<port>[^:\[\]]*)")
@@ -77,8 +78,8 @@ def read_names(texts: Iterable[str]) -> Names:
     given = [name.strip().lower().rstrip(".") for text in texts for name in text.split(",")]
     for name in given:
         if len(name) > LONGEST_NAME or not NAME.fullmatch(name):
-            reason = "write the name as the browser shows it, without http:// and a port, as chess.example.org"
-            raise Refused(ARGUMENTS, f"--page-host {name!r}: {reason}")
+            reason = Message("page.host_how")
+            raise Refused(ARGUMENTS, Message("page.host", name=repr(name), why=reason))
     return names_of(socket.gethostname(), given)
 
 
@@ -95,12 +96,12 @@ def read_address(text: str, option: str = "--page") -> Address:
     address. Refused, with what to type, if it is none of them."""
     match = SHAPE.fullmatch(text)
     if not match:
-        raise _refused(option, text, "it is [ADDRESS:]PORT, as 8000 or 192.168.1.5:8000")
+        raise _refused(option, text, Message("page.address_how"))
     bracketed, plain, port = match.group("bracketed", "plain", "port")
     if bracketed is None and plain and ":" in plain:
-        raise _refused(option, text, "put an address with colons in brackets, as [::1]:8000")
+        raise _refused(option, text, Message("page.brackets"))
     if not (port.isascii() and port.isdigit() and len(port) <= 5 and 1 <= int(port) <= HIGHEST_PORT):
-        raise _refused(option, text, f"the port is a number from 1 to {HIGHEST_PORT}, as 8000")
+        raise _refused(option, text, Message("page.port", most=HIGHEST_PORT))
     return Address(HERE if bracketed is None and plain is None else _host(option, text, (bracketed, plain)), int(port))
 
 
@@ -111,12 +112,12 @@ def _host(option: str, text: str, host: Tuple[str, str]) -> str:
     try:
         return str(ipaddress.IPv4Address(plain) if bracketed is None else ipaddress.IPv6Address(bracketed))
     except ValueError:
-        kind = "four numbers, as 192.168.1.5:8000" if bracketed is None else "an IPv6 address in brackets, as [::1]:8000"
-        raise _refused(option, text, f"before the port comes {kind}, or nothing") from None
+        kind = Message("page.four_numbers") if bracketed is None else Message("page.in_brackets")
+        raise _refused(option, text, Message("page.before_the_port", kind=kind)) from None
 
 
 def _refused(option: str, text: str, reason: str) -> Refused:
-    return Refused(ARGUMENTS, f"{option} {text!r}: {reason}")
+    return Refused(ARGUMENTS, linked("colon", (f"{option} {text!r}", reason)))
 
 
 @dataclass(frozen=True)
@@ -141,7 +142,7 @@ def read_site(text: str) -> str:
     site = text.strip().lower().rstrip("/")
     found = SITE.fullmatch(site)
     if not found or not (NAME.fullmatch(found["name"]) or _is_address(ipaddress.IPv4Address, found["name"])):
-        raise Refused(ARGUMENTS, f"--embed {text!r}: it is the site whose pages show this one, as https://chess.example.org")
+        raise Refused(ARGUMENTS, Message("option.embed_site", site=repr(text)))
     return site
 
 

@@ -15,10 +15,11 @@ from live.web.address import HERE, HIGHEST_PORT, Address, Door, Names, Pages
 from live.web.page import ARBITER, SPECTATORS, Site
 from live.web.round_page import ArbiterView, RoundPage
 from live.web.view import RoundView
+from live.words.message import Message
 
 ANY_PORT = 0
-AS_BEFORE = "it is shown as before; --page no ends that"
-NOT_AS_BEFORE = "it is recorded all the same. Put that right, and start again"
+AS_BEFORE = Message("page.as_before")
+NOT_AS_BEFORE = Message("page.not_as_before")
 THIS_COMPUTER = Names(frozenset({"localhost"}))  # who leads another name here could read a page without a password
 LETTERS = "abcdefghjkmnpqrstuvwxyz23456789"  # none looks like another one
 PARTS, PART = 4, 4  # of a password: 79 bits
@@ -101,9 +102,9 @@ class TwoPages:
 
     def told(self, what: str) -> List[str]:
         """Lines that say where they are served, and why one isn't."""
-        lines = [f"{what} is shown at {self._spectators.url}"] if self._spectators else []
+        lines: List[str] = [Message("page.shown_at", what=what, url=self._spectators.url)] if self._spectators else []
         if self._arbiter and not self._password:
-            lines.append(f"the arbiter's page is at {self._arbiter.url}, on this computer alone")
+            lines.append(Message("page.arbiters", url=self._arbiter.url))
         if self._left_out:
             lines += [*self._left_out, NOT_AS_BEFORE]
         elif self._are_kept and self._all:
@@ -115,7 +116,7 @@ class TwoPages:
         """The line that says where the arbiter's page is, if it has a password: no file gets it."""
         if not (self._arbiter and self._password):
             return ""
-        return f"the arbiter's page is at {self._arbiter.url}, with any name and the password {self._password}"
+        return Message("page.arbiters_with_password", url=self._arbiter.url, password=self._password)
 
     def close(self) -> None:
         for page in self._all:

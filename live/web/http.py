@@ -12,6 +12,8 @@ import re
 from dataclasses import dataclass, field
 from typing import Dict, Mapping, Optional, Tuple
 
+from live.words.message import Message
+
 LONGEST_LINE = 2048  # bytes of a request line
 LONGEST_HEAD = 8192  # bytes of a request line and its header fields
 MOST_FIELDS = 64
@@ -31,11 +33,11 @@ REASONS = {
     503: "Service Unavailable",
     505: "HTTP Version Not Supported",
 }
-REALM = 'Basic realm="The arbiter\'s page", charset="UTF-8"'
+REALM = f'Basic realm="{Message("page.realm")}", charset="UTF-8"'
 MORE = {
-    401: "The recorder's screen has the password",
-    421: "Type the address of the recorder's computer in numbers, or start the recorder with --page-host NAME",
-    503: "As many readers as there is room for are here already: this page asks again each five seconds",
+    401: Message("page.screen_has_password"),
+    421: Message("page.in_numbers"),
+    503: Message("page.full"),
 }
 POLICY = "Content-Security-Policy"
 ALLOWED = "default-src 'self'; img-src 'self' data:; base-uri 'none'; form-action 'none'; frame-ancestors "

@@ -10,9 +10,10 @@ from typing import Dict, List, Optional, Tuple
 from live.game.files import NO_SUCH_FILE, Paths, beginning, not_written, put_in_place, text_of
 from live.refused import FAILED, REFUSED, Refused
 from live.web.address import Pages, read_pages
+from live.words.message import Message
 
 LONGEST = 65536  # bytes of the file that keeps it
-GIVE_ONE = "give --page, or remove it"
+GIVE_ONE = Message("page.give_one")
 
 
 def pages_of(paths: Paths, given: Optional[Pages]) -> Tuple[Pages, bool]:
@@ -30,7 +31,7 @@ def _kept(paths: Paths) -> Optional[Pages]:
     except OSError as error:
         if error.errno in NO_SUCH_FILE:
             return None
-        raise Refused(FAILED, f"{paths.pages} can't be read ({text_of(error)}): {GIVE_ONE}") from None
+        raise Refused(FAILED, Message("page.unreadable", path=paths.pages, why=text_of(error), give_one=GIVE_ONE)) from None
     values: Dict[str, str] = {}
     hosts: List[str] = []
     for line in text.splitlines():
@@ -42,7 +43,7 @@ def _kept(paths: Paths) -> Optional[Pages]:
     try:
         return read_pages(values.get("--page"), values.get("--arbiter-page"), hosts, values.get("--embed"))
     except Refused as refused:
-        raise Refused(REFUSED, f"{paths.pages} can't be read ({refused.lines[0]}): {GIVE_ONE}") from None
+        raise Refused(REFUSED, Message("page.unreadable", path=paths.pages, why=refused.lines[0], give_one=GIVE_ONE)) from None
 
 
 def keep_pages(paths: Paths, pages: Pages) -> None:

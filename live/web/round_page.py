@@ -4,6 +4,7 @@ from __future__ import annotations
 
 from typing import Callable, Dict, Iterable, Optional, Protocol, Sequence, Tuple
 
+from live.board.advice import wants_a_line
 from live.board.board import Board
 from live.broadcast.games import written_name
 from live.game.course import clocks_of
@@ -14,12 +15,13 @@ from live.loop import Loop, Timer
 from live.web.address import Door
 from live.web.page import Page, Site
 from live.web.view import BoardView, Ply, RoundView
+from live.words.message import Message, linked
 
 GATHERED = 0.05  # seconds in which changes are shown at once
 AGAIN = 1.0  # seconds until a page is started again after an error
-NOT_RECORDED = "NOT RECORDED: the recorder's screen says why"  # the reason may contain a folder's path, or a user's name
-IN_THE_TERMINAL = "Lines are typed in the recorder's terminal."
-NOT_PUBLISHED = "NOT PUBLISHED: the recorder's screen says why"
+NOT_RECORDED = Message("page.not_recorded")  # the reason may contain a folder's path, or a user's name
+IN_THE_TERMINAL = Message("page.in_the_terminal")
+NOT_PUBLISHED = Message("page.not_published")
 
 
 class RoundPage:
@@ -156,7 +158,7 @@ def view_of(game: Game) -> BoardView:
         state=NOT_RECORDED if board.trouble else words,
         since=since,
         alarm=alarm,
-        mend=f"{game.advice}. {IN_THE_TERMINAL}" if "type " in game.advice else game.advice,
+        mend=linked("stop", (game.advice, IN_THE_TERMINAL)) if wants_a_line(game.advice) else game.advice,
         differing=board.differing,
         clocks=clocks_of(plies),
         moves=plies_view(plies),

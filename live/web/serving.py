@@ -22,6 +22,7 @@ from live.loop import Turns
 from live.refused import FAILED, Refused
 from live.web import http
 from live.web.address import Address, Door
+from live.words.message import Message
 
 MOST_READERS = 256
 PART = 64 * 1024  # bytes that are written in a turn, or read after the last request
@@ -445,9 +446,9 @@ def _listening(address: Address) -> socket.socket:
         if line is not None:
             line.close()
         reasons = {
-            errno.EADDRINUSE: f"another program has port {address.port}: give another one, or end that program",
-            errno.EADDRNOTAVAIL: f"this computer has no address {address.host}: 0.0.0.0 means all that it has",
-            errno.EACCES: f"port {address.port} is kept for the system: give one from 1024 on",
+            errno.EADDRINUSE: Message("page.port_taken", port=address.port),
+            errno.EADDRNOTAVAIL: Message("page.no_address", host=address.host),
+            errno.EACCES: Message("page.port_kept", port=address.port),
         }
         reason = reasons.get(error.errno or 0, error.strerror or str(error))
-        raise Refused(FAILED, f"no page can be served at {address.text}: {reason}") from None
+        raise Refused(FAILED, Message("page.not_served", address=address.text, why=reason)) from None

@@ -40,14 +40,15 @@ def files_below(folder: pathlib.Path) -> "set[pathlib.Path]":
 
 
 def is_whole(package: pathlib.Path, root: pathlib.Path) -> None:
-    """The package has the commands, their pages, all of live/ and the sample."""
+    """The package has the commands, their pages, all of live/ and shared/, and the sample."""
     subprocess.run(["dpkg-deb", "--extract", package, root], check=True)
     for command in ("dgt_live", "dgt_round", "dgt_replay"):
         assert os.access(root / "usr" / "bin" / command, os.X_OK), command
         assert (root / "usr" / "share" / "man" / "man1" / f"{command}.1.gz").exists(), command
         completion = root / "usr" / "share" / "bash-completion" / "completions" / command
         same(completion.read_bytes(), (TOP / "bin" / "completion.bash").read_bytes())
-    same(files_below(root / "usr" / "lib" / "dgt_replay" / "live"), files_below(TOP / "live"))
+    for folder in ("live", "shared"):
+        same(files_below(root / "usr" / "lib" / "dgt_replay" / folder), files_below(TOP / folder))
     sample = root / "usr" / "share" / "doc" / "dgt-replay" / "examples" / "short-game.dgt"
     same(sample.read_bytes(), SAMPLE.with_suffix(".dgt").read_bytes())
     assert os.access(sample.with_name("play_board.py"), os.X_OK)

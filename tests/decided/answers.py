@@ -7,8 +7,9 @@ from typing import Any, Dict
 
 from live.game.answers import Said, meaning, place_of, read_answer, refuse
 from live.game.reply import NO_TEXT, Asked, Helped, Refused, refusal
-from live.game.typed import ALL_WAYS, BOTH_LOSE, WHICH_PLY, Back, Typed, read_words, with_more
+from live.game.typed import ALL_WAYS, BOTH_LOSE, WAYS, WHICH_PLY, Back, Typed, read_words, with_more
 from live.refused import REFUSED
+from live.words.message import Message
 
 from decided.cases import cases
 from decided.table import refused, same
@@ -50,7 +51,10 @@ def helps() -> None:
         same(text, [part in said for part in ON_HELP], [True] * len(ON_HELP))
         same(f"{text} in one line", len(said) < 100, True)
         same(f"{text} is no mistake", refusal(text, Helped(said)), (REFUSED, said))
-    same("with more", with_more("Type 1, 2 or 3", "4", "or 5"), "Type 1, 2, 3, 4, or 5")
+    same("with more", with_more(WAYS, "q", "or x"), "Type 1-0, 0-1, 1/2-1/2, moves as Nf3 Nc6, back, *, ok, help, q, or x")
+    neither = Message("typed.neither", word="Nx", ways=WAYS)
+    same("inside an answer", with_more(neither, "q"), "Nx: neither a move nor a result. " + with_more(WAYS, "q"))
+    same("in no answer", with_more("e4", "q"), "e4")
     same("all of them", with_more(ALL_WAYS, "q").endswith("* (no result), ok, q"), True)
 
 

@@ -3,11 +3,15 @@
 from typing import List, Optional, Tuple
 
 from live.broadcast.leaving import stays_for, until_clock_in
+from live.game.answers import RESULT, Said, meaning
 from live.game.reply import Answer
+from live.game.reply import Refused as NotDone
+from live.game.reply import refusal
 from live.game.typed import ALL_WAYS
 from live.refused import DONE, REFUSED
 from live.round.leaving import Question, question, told
 from live.round.ways import told_of_answer
+from live.words.message import Message, linked
 
 from decided.table import same
 
@@ -38,14 +42,21 @@ TOLD = [
      "To end the round all the same, type q again within a minute"),
     (Question(0.0, hidden=True), "spectators see the last moves at 15:20: leave it running until then. To end it now, type q again"),
 ]
+
+
+def added(what: str) -> Answer:
+    """The answer to what was added."""
+    return DONE, Message("typed.added_to", name="round/02", what=what)
+
+
 ANSWERS: List[Tuple[Answer, str]] = [
-    ((DONE, "added to round/02: the result 1-0 after 1. e4, 1 ply"),
+    (added(meaning(Said(RESULT, ("1-0",)), "1-0", ["1. e4"])),
      "2: added to round/02: the result 1-0 after 1. e4, 1 ply. If another board was meant, type 2 *"),
-    ((DONE, "added to round/02: the result 1/2-1/2 before the first move"),
+    (added(meaning(Said(RESULT, ("1/2-1/2",)), "1/2", [])),
      "2: added to round/02: the result 1/2-1/2 before the first move. If another board was meant, type 2 *"),
-    ((DONE, "added to round/02: Nf3 Nc6"), "2: added to round/02: Nf3 Nc6"),
-    ((DONE, "added to round/02: Nf3; the result 1-0 is gone: add it again"), "2: added to round/02: Nf3; the result 1-0 is gone: add it again"),
-    ((REFUSED, "refused: 2-0: neither a move nor a result"), "2 refused: 2-0: neither a move nor a result"),
+    (added("Nf3 Nc6"), "2: added to round/02: Nf3 Nc6"),
+    (added(linked("semicolon", ("Nf3", Message("result.gone", result="1-0")))), "2: added to round/02: Nf3; the result 1-0 is gone: add it again"),
+    (refusal("2-0", NotDone("neither a move nor a result")), "2 refused: 2-0: neither a move nor a result"),
     ((REFUSED, ALL_WAYS), "2: behind the number, type 1-0, 0-1, 1/2-1/2, moves (Nf3 Nc6), back (a ply off), back 14. Bxf6, "
      "* (no result), ok, or +- (Black has not come; -+ White, -- both)"),
 ]  # fmt: skip

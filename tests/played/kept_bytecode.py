@@ -17,6 +17,7 @@ DAMAGES = (0, 3, 20, 3000)  # bytes that are left of a file
 def clone(place: pathlib.Path) -> pathlib.Path:
     """A folder as a clone has it, and its dgt_live."""
     shutil.copytree(TOP / "live", place / "live", ignore=shutil.ignore_patterns("__pycache__"))
+    shutil.copytree(TOP / "shared", place / "shared")
     (place / "bin" / "lib").mkdir(parents=True)
     shutil.copy(TOP / "bin" / "dgt_live", place / "bin")
     shutil.copy(program(), place / "bin" / "lib" / "dgt_replay")

@@ -21,6 +21,7 @@ def copied(place: pathlib.Path, command: str) -> pathlib.Path:
     """The command in a folder of its own, with all that it needs."""
     (place / "lib").mkdir(parents=True)
     shutil.copytree(TOP / "live", place / "live", ignore=shutil.ignore_patterns("__pycache__"))
+    shutil.copytree(TOP / "shared", place / "shared")
     shutil.copy(TOP / "bin" / command, place)
     shutil.copy(program(), place / "lib" / "dgt_replay")
     return place / command
