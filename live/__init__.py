@@ -7,6 +7,7 @@ the capture (`game/files.py`) before anything else is done. What the board is as
 the board's state, and `game/making_pgn.py` makes NAME.pgn anew. `board/board.py` guards all of that. `round/published.py`
 writes `round.pgn`.
 
+`words/`: what people read, by keys of `shared/words.en.json`. It imports nothing of the folders below.
 `device/`: a board's line; a board that is unplugged and comes back.
 `game/`: a game: its files, its options, the calls of the proved program, what an arbiter adds or takes off, where it ended.
 `board/`: one board and its games, whatever goes wrong there; its state.

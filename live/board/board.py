@@ -40,7 +40,7 @@ from live.loop import Timer, Turns
 from live.refused import DONE, FAILED, Refused
 from live.steps import Steps, beside
 from live.terminal.screen import Screen
-from live.words.message import Message
+from live.words.message import Message, linked
 
 PAUSES = (2.0, 5.0, 10.0, 20.0, 40.0, 60.0)  # seconds between tries to record a board
 ENDED = Message("board.ended")
@@ -165,7 +165,7 @@ class Board:
             self._screen.say(line)
         anew = (*opened.read_anew, *opened.results)
         if anew:
-            self._screen.say(self._screen.anew(str(self._paths.pgn), "; ".join(anew)))
+            self._screen.say(self._screen.anew(str(self._paths.pgn), linked("semicolon", anew)))
         self.is_over = opened.is_over or opened.is_full
         if plan.shows or (plan.board and opened.is_full):  # nothing more comes to it
             self._release(None)

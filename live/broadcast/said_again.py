@@ -23,7 +23,7 @@ from live.game.files import Opened, Paths, existing, open_regular, part_of
 from live.game.forfeiting import forfeit_of, forfeited_after
 from live.game.game import end_mark, kept_options
 from live.game.options import Options
-from live.game.program import CHUNK, Program, ending_of
+from live.game.program import CHUNK, Program, told_of_ending
 from live.game.reading import PIECE, new_course, wanted
 from live.game.report import Clock, Move, Recovered, Result, line_of
 from live.game.times import HEADED
@@ -256,4 +256,4 @@ def _answers(program: Program, words: Tuple[str, ...], told: int) -> Iterator[An
         status = child.wait()
         late.cancel()
     if status != 0:
-        raise OSError(f"{words[0]} {ending_of(status)}")
+        raise OSError(told_of_ending(words[0], status))

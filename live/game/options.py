@@ -167,7 +167,7 @@ class Options:
     @property
     def said(self) -> str:
         """All of them in one line."""
-        return " ".join(as_typed(self.words())) or "none"
+        return " ".join(as_typed(self.words())) or Message("options.none")
 
     # What a game goes on with.
 

@@ -114,7 +114,7 @@ class Program:
         """The lines that it writes after it has read everything. Raises OSError if it fails."""
         answer = self.run(*words, given=given)
         if answer.returncode != 0:
-            raise OSError(f"{words[0]} {ending_of(answer.returncode)}")
+            raise OSError(told_of_ending(words[0], answer.returncode))
         return lines_of(answer.stdout)
 
     def positions(self, fen: Optional[str], moves: Sequence[str]) -> Tuple[List[str], str]:

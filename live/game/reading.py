@@ -17,7 +17,7 @@ from live.game.files import Opened
 from live.game.game import Game
 from live.game.making_pgn import source_of
 from live.game.options import Options
-from live.game.program import CHUNK, Program, ending_of
+from live.game.program import CHUNK, Program, told_of_ending
 from live.game.report import Agrees, Clock, Differs, Picture, event_of, line_of
 
 ONE_MOVE = 4  # squares that a move changes, at most
@@ -120,7 +120,7 @@ def take_all(course: Course, program: Program, words: Sequence[str], source: int
         os.close(into)
         status = child.wait()
     if status != 0:
-        raise OSError(f"{words[0]} {ending_of(status)}")
+        raise OSError(told_of_ending(words[0], status))
     return count
 
 

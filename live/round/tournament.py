@@ -68,7 +68,7 @@ class Tournament:
         except OSError:
             return ""
         except Refused as refused:
-            raise Refused(REFUSED, f"{self.settings}: {refused.lines[0]}") from None
+            raise Refused(REFUSED, linked("colon", (str(self.settings), refused.lines[0]))) from None
 
     def _reported(self, table: pathlib.Path, encoding: str) -> List[str]:
         """What the tournament's report says about the round, if the pairs are read from one."""
@@ -81,7 +81,7 @@ class Tournament:
         try:
             head = head_of(content, self.number, encoding)
         except Refused as refused:
-            raise Refused(REFUSED, f"{table}: {refused.lines[0]}", *refused.lines[1:]) from None
+            raise Refused(REFUSED, linked("colon", (str(table), refused.lines[0])), *refused.lines[1:]) from None
         said = (("--event", head.event), ("--site", head.site), ("--date", head.date))
         words = [f"{option}={value}" for option, value in said if value]
         return [*words, f"{TAG}=TimeControl={head.time_control}"] if head.time_control else words
