@@ -124,7 +124,6 @@ def of_no_result(typed: Typed) -> str:
     return Message("advice.no_result", result=typed("1-0"), reopens=typed(REOPENS))
 
 
-
 def all_of(state: Optional[State], looks: Sequence[Look], over_without_result: bool, typed: Typed, moves: Moves) -> str:
     """All that is to be done about a board; empty if nothing is."""
     told = [linked("stop", (look.text, of_look(look, typed, moves))) for look in looks]

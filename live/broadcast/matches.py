@@ -7,7 +7,6 @@ from typing import Dict, FrozenSet, List, Optional, Sequence, Set, Tuple
 
 from live.words.message import Message, linked, plural
 
-
 HALF_POINTS = {"1-0": (2, 0), "0-1": (0, 2), "1/2-1/2": (1, 1), "0-0": (0, 0), "*": (0, 0)}  # a game that goes on has none yet
 UNKNOWN = ""  # the score of a board that isn't recorded, if the table has no result for it
 IN_THE_TABLE = Message("match.in_the_table")

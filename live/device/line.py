@@ -12,7 +12,6 @@ from live.device.serial_line import Busy, SerialLine
 from live.refused import FAILED, Refused, recorded_elsewhere
 from live.words.message import Message
 
-
 Line = Union[SerialLine, "NetworkLine"]
 
 

@@ -25,7 +25,6 @@ MARKED = re.compile(r"([01])F?-([01])(?:F|FF|K|FORFEIT)|([01])F-([01])F", re.IGN
 BOTH_LOSE = Message("forfeit.both_lose")
 
 
-
 @dataclass(frozen=True)
 class Forfeit:
     """The game isn't played."""

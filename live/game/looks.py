@@ -7,7 +7,6 @@ from typing import Container, Iterable, List, Tuple
 
 from live.words.message import Message, linked
 
-
 AFTER_RESULT = Message("look.after_result")
 AT_THE_GAME = Message("look.at_the_game")
 OVER = "over"  # what an alarm about moves after a result is about

@@ -12,7 +12,6 @@ from typing import Dict, List, Match, Optional
 
 from live.words.message import Complaint, Message
 
-
 LONGEST = 100  # characters of a tag's value
 
 # What passports write for the letters that aren't a basic letter with a mark (the tables for Latin letters of ICAO Doc 9303),
