@@ -146,7 +146,7 @@ class Single:
             self._opened()
         elif self.is_open and (self._is_faulty or isinstance(why, Broken) or not isinstance(why, Refused)):
             self._is_faulty = True
-            self._screen.state("NOT RECORDED", why)
+            self._screen.state(Message("state.not_recorded"), why)
             return True
         self.refused = why if isinstance(why, Refused) or why is None else Refused(FAILED, reason_of(why))
         self.over()
@@ -204,7 +204,7 @@ class Single:
         """The board's state in words, since when, and whether it is an alarm."""
         state, now = self.board.state, self._loop.now()
         if self.board.trouble:
-            return Message("state.not_recorded", why=self.board.trouble), None, True
+            return Message("state.not_recorded_why", why=self.board.trouble), None, True
         if state is None:
             look = self.board.looks.short
             return linked("semicolon", filter(None, (look, Message("state.over")))), None, bool(look)

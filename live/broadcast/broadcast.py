@@ -38,7 +38,7 @@ FOR_A_FILE = 0.5  # the same if they only go to a file
 TICK = 1.0  # seconds between two looks at the clocks
 AGAIN = 1.0  # seconds after which it begins again if an error has ended it, and the program is asked again
 TRIES = 4  # of the program to say again what was hidden of a game
-NOT_PUBLISHED = "NOT PUBLISHED"
+NOT_PUBLISHED = Message("broadcast.not_published")
 SIDES = ("White", "Black")
 Due = Tuple[Tuple[SpectatorBoard, ...], Tuple[Paired, ...]]  # the boards, and those of the table that aren't recorded
 

@@ -19,7 +19,7 @@ MESSAGES = 3  # lines that messages always have
 MOST_MESSAGES = 20  # lines that they have if there is room: in a tall window no message of the start is pushed out
 MOST_LISTED = 8  # boards, or ranges of boards, whose numbers are listed
 LONGEST_ROW = 3  # lines of a row that explains a trouble
-NOT_RECORDED = Message("table.not_recorded")
+NOT_RECORDED = Message("state.not_recorded")
 
 
 @dataclass(frozen=True)

@@ -15,7 +15,7 @@ from decided.table import refused, same
 TOP = pathlib.Path(__file__).resolve().parents[2]
 LIVE = TOP / "live"
 WORDS = LIVE / "words"
-WORD = re.compile(r"""(?:^|(?<=[\s("'>]))[A-Za-z][a-z']*(?=$|[\s.,:;?!)"'<])""")
+WORD = re.compile(r"""(?:^|(?<=[\s("'>]))[A-Za-z][A-Za-z']*(?=$|[\s.,:;?!)"'<])""")
 FEW = 3  # words that make a sentence
 # What reads as a sentence and is none, by the file in which it stands: how each begins.
 NO_SENTENCES: Dict[str, Tuple[str, ...]] = {
@@ -29,8 +29,8 @@ NO_SENTENCES: Dict[str, Tuple[str, ...]] = {
     "round/site.py": ("default-src", "<link"),  # HTML
     "round/tournament.py": ("board;white;",),  # the headings of a table
     "terminal/editing.py": ("to the end", "to the start"),
-    "web/http.py": ("Method Not", "Content Too", "Request Header", "HTTP Version", "default-src"),  # as HTTP has them
-    "words/catalogue.py": ("{} can't be read", "{} is no object", "{} is no key", "{} has {}"),  # where there is no catalogue
+    "web/http.py": ("Method Not", "Content Too", "URI Too", "Request Header", "HTTP Version", "default-src"),  # as HTTP has them
+    "words/catalogue.py": ("{} can't be read", "{} is no JSON", "{} is no object", "{} is no key", "{} has {}"),  # where there is no catalogue
     "words/message.py": ("the catalogue has no {}",),
 }
 
