@@ -189,7 +189,8 @@ def another_language() -> None:
         path.unlink()
         lacks = refused("no file", NoCatalogue, read, str(path))
         same("no file says", lacks, f"{path} can't be read (No such file or directory): install all of dgt_replay anew")
-    same("the number of one may be left out", faults({"a.one": "a thing", "a.many": "{count} things"}, {"a.one": "{count} thing", "a.many": "{count} t"}), [])
+    english = {"a.one": "{count} thing", "a.many": "{count} things"}
+    same("the number of one may be left out", faults({"a.one": "one", "a.many": "{count}"}, english), [])
 
 
 def messages() -> None:
@@ -209,7 +210,8 @@ def messages() -> None:
     same("with other things in it", illegal.with_places(lambda place: "x"), "x is no legal move: x. x")
     same("of a key", (is_of(illegal, "typed.illegal"), is_of(illegal, "typed.neither")), (True, False))
     same("of a key, read from a file", (is_of(str(illegal), "typed.illegal"), is_of(str(illegal), "typed.misnumbered")), (True, False))
-    same("has one inside", (has(illegal, "typed.white_to_move"), has(illegal, "typed.black_to_move"), has("Anna", "side.white")), (True, False, False))
+    same("has one inside", (has(illegal, "typed.white_to_move"), has(illegal, "typed.black_to_move")), (True, False))
+    same("what is no message has none", has("Anna", "side.white"), False)
     refused("no such key", LookupError, Message, "typed.nobody_has_this")
     refused("no such place", KeyError, Message, "typed.illegal")
     same("what it says", refused("no key in another language", LookupError, written, {}, "side.white", {}), "the catalogue has no side.white")
