@@ -69,4 +69,17 @@ def of_a_clone(folder: pathlib.Path) -> None:
         same((says(command), board.read_bytes()), (changed, whole))
 
 
-CASES = [of_a_clone]
+def without_sentences(folder: pathlib.Path) -> None:
+    """Where the file with all sentences lacks, or is cut off, the command says so in a line."""
+    command, words = clone(folder), folder.resolve() / "shared" / "words.en.json"
+    os.truncate(words, 100)
+    answer = subprocess.run([command, "--help"], capture_output=True)
+    begins = f"dgt_live: {words} is no JSON (".encode()
+    same((answer.returncode, answer.stdout, answer.stderr.startswith(begins), answer.stderr.count(b"\n")), (1, b"", True, 1))
+    words.unlink()
+    answer = subprocess.run([command, "--help"], capture_output=True)
+    told = f"dgt_live: {words} can't be read (No such file or directory): install all of dgt_replay anew\n".encode()
+    same((answer.returncode, answer.stdout, answer.stderr), (1, b"", told))
+
+
+CASES = [of_a_clone, without_sentences]
