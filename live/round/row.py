@@ -432,7 +432,7 @@ class Row:
     def standing(self) -> Tuple[str, Optional[float], bool]:
         """Its state in words, since when, and whether somebody must look at it."""
         front, rest, since, alarm = self._standing(self.board.state)
-        return front + rest, since, alarm
+        return linked("nothing", (front, rest)), since, alarm
 
     @property
     def advice(self) -> str:
