@@ -13,6 +13,7 @@ from live.broadcast.running import Clocks
 from live.broadcast.view import Player, SpectatorBoard, said_of_matches
 from live.web.round_page import IN_THE_TERMINAL, Game, view_of
 from live.web.view import BoardView, Ply, board_text, round_text
+from live.words.message import Message
 
 TOP = pathlib.Path(__file__).resolve().parents[2]
 
@@ -48,7 +49,8 @@ def nothing_private() -> None:
 
 def what_to_do() -> None:
     """The page says what the terminal says, and where lines are typed."""
-    for advice, expected in (("Plug it in", "Plug it in"), ("", ""), ("Look at it, and type 5 ok", f"Look at it, and type 5 ok. {IN_THE_TERMINAL}")):
+    look = Message("advice.look", ok="5 ok")
+    for advice, expected in (("Plug it in", "Plug it in"), ("", ""), (look, f"{look}. {IN_THE_TERMINAL}")):
         same(advice, view_of(cast(Game, Stand("", "WRONG: e2", advice))).mend, expected)
 
 
