@@ -39,7 +39,7 @@ class Began:
 
 @dataclass
 class Kept:
-    """What stands in the file, as far as it is as it was written: when calls began; and of each generation the parts of its times."""
+    """What the file says, as far as nobody has changed it: when calls began, and of each generation the parts of its times."""
 
     calls: Dict[Begin, Began] = field(default_factory=dict)
     parts: Dict[int, Set[Part]] = field(default_factory=dict)
@@ -78,7 +78,7 @@ def summed(lines: List[bytes], before: int) -> bytes:
 
 
 def read_began(content: bytes) -> Kept:
-    """What stands in the file. What can't be read, or has another sum, is left out."""
+    """What the file says. Lines that can't be read, or have another sum, are left out."""
     kept, total = Kept(), 0
     for line in content[: content.rfind(b"\n") + 1].splitlines(keepends=True):
         words, sum_ = line[: -SUM - 1], line[-SUM - 1 : -1]

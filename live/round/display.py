@@ -42,7 +42,7 @@ class Display:
         self._told = ""  # the last reported reason why the table couldn't be drawn
         self._painter = None if terminal else Painter(loop)
         self._messages: List[str] = []
-        self._listed: List[str] = []  # in the place of the table, until a line is typed
+        self._listed: List[str] = []  # shown instead of the table, until a line is typed
         self._draws: Optional[Timer] = None
         self._tick = loop.after(TICK, self._each_second)
 
@@ -63,7 +63,7 @@ class Display:
                 self._terminal.line(line)
 
     def show_long(self, text: str) -> None:
-        """Shows a long text, on a terminal in the place of the table."""
+        """Shows a long text, on a terminal instead of the table."""
         self.say(text)
         if self._painter:
             self._listed = [self._messages[-1]]
