@@ -24,7 +24,8 @@ AT_THE_CABLE = Message("advice.at_the_cable")
 PLUG_IN = Message("advice.plug_in")
 AT_THE_SERVER = Message("advice.at_the_server")
 HOLD_A_KING = Message("advice.hold_a_king")
-GO_BACK: Dict[str, int] = {WHY["TAKEN-BACK"]: 4, WHY["UNPRESSED"]: 5}  # plies that go, if the players took them back, or only tried them
+# plies that go, if the players took them back or changed them, or only tried them
+GO_BACK: Dict[str, int] = {WHY["TAKEN-BACK"]: 4, WHY["MOVED-ON"]: 4, WHY["UNPRESSED"]: 5}
 
 WITH_A_LINE = (
     *("advice.missing", "advice.wrong", "advice.no_start", "advice.cables", "advice.look", "advice.no_result"),
@@ -102,7 +103,7 @@ def if_not(look: Look, typed: Typed, moves: Moves) -> str:
         return Message("advice.this_one_is_right", reopens=typed(REOPENS))
     if look.about.startswith(ABOUT_CLOCK):
         return Message("advice.take_off", hold=HOLD_A_KING, back=typed(f"{BACK} {(NO_PLIES if ply == THE_START else ply)}"))
-    if look.why == WHY["OTHER-TIME"] or look.about == WHERE:
+    if look.why in (WHY["OTHER-TIME"], WHY["RETURNED"]) or look.about == WHERE:
         return ""
     count = GO_BACK.get(look.why, 1)
     last = ply if where == "after" else moves.before(ply, count)

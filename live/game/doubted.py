@@ -16,6 +16,8 @@ WHY = {
     "AFTER-GAP": Message("doubt.after_gap"),
     "TAKEN-BACK": Message("doubt.taken_back"),
     "UNPRESSED": Message("doubt.unpressed"),
+    "MOVED-ON": Message("doubt.moved_on"),
+    "RETURNED": Message("doubt.returned"),
     "OTHER-TIME": Message("doubt.other_time"),
 }
 ABOUT_CLOCK = "clock"

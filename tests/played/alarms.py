@@ -140,7 +140,7 @@ REPORTS_LATE = """
 import subprocess, sys, time
 with subprocess.Popen(sys.argv[1:], stdout=subprocess.PIPE) as watch:
     for line in watch.stdout:
-        time.sleep(0.2)
+        time.sleep(0.1)
         sys.stdout.buffer.write(line)
         sys.stdout.buffer.flush()
 """

@@ -10,6 +10,7 @@ from played.recorder import Live
 from played.stage import a_board, begun, bytes_of, ended, movetext, rest, same, stop, until, until_dumped, until_game, until_line
 
 UNHURRIED = 2.0  # seconds a ply
+PAUSE = 2.5  # seconds until players take plies back
 KNIGHTS = ["e2e4", "e7e5", "g1f3", "b8c6"]
 BACK = ["f3g1", "c6b8"]
 SPANISH = ["e2e4", "e7e5", "g1f3", "b8c6", "f1b5", "a7a6", "b5a4", "g8f6"]
@@ -26,6 +27,7 @@ class Clocked:
         self.live = Live(self.board.device, folder / "game", *options, typed=True)
         begun(self.live)
         self._has_clock, self._lever, self._times = has_clock, False, [TIME, TIME]
+        self._runs = 0  # whose time runs: White's
         self._shown(0)
 
     def _shown(self, passes: int, side: int = 0) -> None:
@@ -35,16 +37,20 @@ class Clocked:
             self.board.clock(white, black, runs=True, lever=self._lever)
 
     def play(self, moves: List[str], presses: bool = True, pace: Optional[float] = UNHURRIED, counts: int = 0) -> None:
-        """Both sides by turns. While one thinks its own time goes down, or with `counts` 1 the other one's."""
-        for number, move in enumerate(moves):
+        """Both sides by turns. After a press the other side's time goes down; with `counts` 1 the sides are exchanged."""
+        for move in moves:
             if pace:
-                rest(pace)
-                self._shown(int(pace), (number + counts) % 2)
+                self.waits(pace, counts)
             self.board.play(move)
             if presses:
-                self._lever = not self._lever
+                self._lever, self._runs = not self._lever, 1 - self._runs
                 self._shown(0)
         until_dumped(self.board, self.live.name)
+
+    def waits(self, seconds: float, counts: int = 0) -> None:
+        """Time passes, and the clock says so."""
+        rest(seconds)
+        self._shown(int(seconds), (self._runs + counts) % 2)
 
 
 def taken_back_by_agreement(folder: pathlib.Path) -> None:
@@ -52,8 +58,9 @@ def taken_back_by_agreement(folder: pathlib.Path) -> None:
     arbiter is told. He takes them off."""
     game = Clocked(folder)
     game.play(KNIGHTS)
-    rest(UNHURRIED)
+    rest(PAUSE)
     game.play(BACK, presses=False, pace=None)
+    game.waits(1.0)
     until_line(game.live, TAKEN_BACK)
     game.live.type("back 1... e5")
     until_line(game.live, "type it again")
@@ -86,7 +93,7 @@ def analysed_beside_the_clock(folder: pathlib.Path) -> None:
     """Six plies without a press, while the clock runs: the game may be over."""
     game = Clocked(folder)
     game.play(SPANISH[:2])
-    game.play(SPANISH[2:], presses=False, pace=1.0)
+    game.play(SPANISH[2:], presses=False, pace=1.5)
     until_line(game.live, "LOOK at 4... Nf6: six moves were made and nobody pressed the clock")
     same(stop(game.live), 0)
 

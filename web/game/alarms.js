@@ -11,6 +11,8 @@ const WHY = {
   'AFTER-GAP': "the board wasn't heard for a time, so moves may be missing: compare with the score sheets",
   'TAKEN-BACK': 'both players went straight back: if they took their moves back, take them off here too',
   UNPRESSED: 'six moves were made and nobody pressed the clock: if the game is over, take them off here',
+  'MOVED-ON': 'both players moved the same pieces again, and nobody pressed the clock: if they changed their moves, change them here too',
+  RETURNED: 'the position was there before, and nobody pressed the clock: if the players took moves back, take them off here too',
   'OTHER-TIME': "players think while the other side's time runs: the clock may lie the other way round",
 };
 const UNKNOWN = 'moves may be missing: compare with the score sheets'; // for another word

@@ -1,5 +1,5 @@
 -- The line that says what became of a typed line: `add: `, a kind, and what a sentence about it needs.
-use Rattle.std.specs.Prelude.{ℕ, List, ◌++◌, codes, decimal, length}
+use Rattle.std.specs.Prelude.{ℕ, ◌==◌, ◌||◌, nat_lt, List, ◌++◌, codes, decimal, length, map, if◌then◌else◌}
 use Rattle.settle_core.specs.declared.plies.Outcome.{Outcome}
 use Rattle.settle_core.specs.declared.plies.Outcome.TheVariants.{WhiteWins, BlackWins, Drawn}
 use Rattle.typed_lines.specs.declared.reading.Typed.{Typed}
@@ -13,9 +13,13 @@ outcome_text WhiteWins = codes "1-0\n"
 outcome_text BlackWins = codes "0-1\n"
 outcome_text Drawn = codes "1/2-1/2\n"
 
+-- a byte as it is printed: a control character, which would change a terminal, as a question mark
+abbrev pub printed : ℕ → ℕ
+printed byte = if nat_lt byte 32 || byte == 127 then 63 else byte
+
 -- a word, behind how many moves of the line stand before it
 abbrev pub word_text : ℕ → List ℕ → List ℕ
-word_text number word = decimal number ++ (codes " " ++ word)
+word_text number word = decimal number ++ (codes " " ++ map printed word)
 
 -- what a line says: how many moves, or which result; or why nothing can be added
 abbrev pub said_line : Typed → List ℕ

@@ -1,6 +1,6 @@
 //! The line that says what became of a typed line.
-ghost use Rattle.std.specs.Prelude.{◌≡◌, ◌++◌, IfOk, codes, decimal};
-ghost use Rattle.adding.specs.Lines.{answer_line, outcome_text, said_line as said_line_of, word_text as word_text_of};
+ghost use Rattle.std.specs.Prelude.{◌≡◌, ◌++◌, IfOk, codes, decimal, map};
+ghost use Rattle.adding.specs.Lines.{answer_line, outcome_text, printed as printed_of, said_line as said_line_of, word_text as word_text_of};
 
 use crate::adding::{Answer, Reason};
 use itoa::Buffer;
@@ -41,12 +41,31 @@ fn moves_line(alloc: Global, number: usize) -> Result<Vec<u8>, AllocError>
     )
 }
 
+/// A byte as it is printed: a control character as a question mark.
+fn printed(byte: u8) -> u8
+    ensures { result ≡ printed_of byte }
+{
+    if byte < 32 || byte == 127 { b'?' } else { byte }
+}
+
+fn printed_word(alloc: Global, word: &[u8]) -> Result<Vec<u8>, AllocError>
+    ensures { IfOk result (λ text. text.items ≡ map printed_of word.now) }
+{
+    word.iter().copied().map(|b| printed(b)).collect(alloc)
+}
+
 /// A word, behind how many moves of the line stand before it.
 fn word_text(alloc: Global, number: usize, word: &[u8]) -> Result<Vec<u8>, AllocError>
     ensures { IfOk result (λ text. text.items ≡ word_text_of number word.now) }
 {
     let mut buffer = Buffer::new();
-    joined(alloc, buffer.format(number).as_bytes(), b" ", word)
+    let word = printed_word(alloc, word)?;
+    joined(
+        alloc,
+        buffer.format(number).as_bytes(),
+        b" ",
+        word.as_slice(),
+    )
 }
 
 fn meant_line(alloc: Global, number: usize, word: &[u8], san: &[u8]) -> Result<Vec<u8>, AllocError>

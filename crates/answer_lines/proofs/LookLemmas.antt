@@ -10,7 +10,7 @@ use Rattle.board_doubts.specs.declared.heard.Doubt.{Doubt}
 use Rattle.board_doubts.specs.declared.heard.Place.{Place}
 use Rattle.board_doubts.specs.declared.heard.Place.TheVariants.{AtLast, AfterLast}
 use Rattle.board_doubts.specs.declared.heard.Why.{Why}
-use Rattle.board_doubts.specs.declared.heard.Why.TheVariants.{Late, Elsewhere, BothElsewhere, AfterGap, TakenBack, Unpressed, OtherTime}
+use Rattle.board_doubts.specs.declared.heard.Why.TheVariants.{Late, Elsewhere, BothElsewhere, AfterGap, TakenBack, Unpressed, OtherTime, MovedOn, Returned}
 use Rattle.board_looks.specs.declared.look.Look.{Look}
 use Rattle.board_looks.specs.declared.look.Look.TheVariants.{Doubtful, Stopped, Suspected}
 use Rattle.board_standing.specs.declared.state.State.{State}
@@ -77,7 +77,9 @@ why_by c =
     else (if c == 65 then AfterGap
     else (if c == 84 then TakenBack
     else (if c == 85 then Unpressed
-    else OtherTime)))))
+    else (if c == 79 then OtherTime
+    else (if c == 77 then MovedOn
+    else Returned)))))))
 
 why_back : (why : Why) → why_by (first_of (why_word why)) ≡ why
 why_back Late = refl
@@ -87,6 +89,8 @@ why_back AfterGap = refl
 why_back TakenBack = refl
 why_back Unpressed = refl
 why_back OtherTime = refl
+why_back MovedOn = refl
+why_back Returned = refl
 
 same_why : (one other : Why) → why_word one ≡ why_word other → one ≡ other
 same_why one other e = sym (why_back one) ∙ ap (λ (t : List ℕ). why_by (first_of t)) e ∙ why_back other
@@ -150,6 +154,8 @@ why_lacks_feed AfterGap = refl
 why_lacks_feed TakenBack = refl
 why_lacks_feed Unpressed = refl
 why_lacks_feed OtherTime = refl
+why_lacks_feed MovedOn = refl
+why_lacks_feed Returned = refl
 
 place_lacks_feed : (place : Place) → lacks 10 (place_word place) ≡ true
 place_lacks_feed AtLast = refl

@@ -3,7 +3,7 @@ use Rattle.std.specs.Prelude.{◌≡◌, ◌<◌, ◌^◌, ℕ, List, [], ◌∷
 use Rattle.board_doubts.specs.declared.heard.Place.{Place}
 use Rattle.board_doubts.specs.declared.heard.Place.TheVariants.{AtLast, AfterLast}
 use Rattle.board_doubts.specs.declared.heard.Why.{Why}
-use Rattle.board_doubts.specs.declared.heard.Why.TheVariants.{Late, Elsewhere, BothElsewhere, AfterGap, TakenBack, Unpressed, OtherTime}
+use Rattle.board_doubts.specs.declared.heard.Why.TheVariants.{Late, Elsewhere, BothElsewhere, AfterGap, TakenBack, Unpressed, OtherTime, MovedOn, Returned}
 use Rattle.board_looks.specs.declared.look.Look.{Look}
 use Rattle.board_looks.specs.declared.look.Look.TheVariants.{Doubtful, Stopped, Suspected}
 use Rattle.answer_lines.specs.declared.said.Said.{Said}
@@ -23,6 +23,8 @@ why_word AfterGap = codes "AFTER-GAP"
 why_word TakenBack = codes "TAKEN-BACK"
 why_word Unpressed = codes "UNPRESSED"
 why_word OtherTime = codes "OTHER-TIME"
+why_word MovedOn = codes "MOVED-ON"
+why_word Returned = codes "RETURNED"
 
 -- where somebody must look, by how many plies the game has there, and why; after which ply so many moves were made while the clock was
 -- stopped; or the number of what is suspected

@@ -28,6 +28,8 @@ fn why_word(why: Why) -> &'static [u8]
         Why::TakenBack => b"TAKEN-BACK",
         Why::Unpressed => b"UNPRESSED",
         Why::OtherTime => b"OTHER-TIME",
+        Why::MovedOn => b"MOVED-ON",
+        Why::Returned => b"RETURNED",
     }
 }
 

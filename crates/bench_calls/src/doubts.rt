@@ -182,6 +182,8 @@ fn reason(why: Why) -> &'static str {
         Why::TakenBack => "taken-back",
         Why::Unpressed => "unpressed",
         Why::OtherTime => "other-time",
+        Why::MovedOn => "moved-on",
+        Why::Returned => "returned",
     }
 }
 

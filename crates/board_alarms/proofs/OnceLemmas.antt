@@ -21,6 +21,7 @@ use Rattle.board_doubts.specs.Elsewhere.{Sees}
 use Rattle.board_looks.specs.declared.look.Told.{Told}
 use Rattle.board_looks.specs.Looks.{alarms}
 use Rattle.square_runs.specs.Squares.{Marks}
+use Rattle.board_alarms.specs.declared.chunk.Chunk.{Chunk}
 use Rattle.board_alarms.specs.Hearing.{Again, Another, EventHeard, HasResult, HearsEvent, HearsPicture, HearsResult, IsShown, Nothing, Shown, agrees, stands, with_event, with_news}
 use Rattle.board_alarms.specs.Items.{Item, Noted, Sent, events_of}
 use Rattle.board_alarms.specs.Laws.{LookingEndsAll, OpensOnce, TellsOnce}
@@ -144,9 +145,9 @@ same_heard a b away shows news ply ended counts presses clock =
     ∙ ap (λ (x : Option Heard). heard_with b.away b.shows b.news b.ply b.ended b.counts x a.clock) presses
     ∙ ap (λ (x : Option Heard). heard_with b.away b.shows b.news b.ply b.ended b.counts b.presses x) clock
 
-heard_once : (setting : Setting) (items : List Item) (at : ℕ) (added : Bool) (event : Event) (old new : Score) (a b : EventHeard)
-    → HearsEvent setting items at added event old new a → HearsEvent setting items at added event old new b → a ≡ b
-heard_once setting items at added event old new a b g h =
+heard_once : (setting : Setting) (items : List Item) (chunk : Chunk) (event : Event) (old new : Score) (a b : EventHeard)
+    → HearsEvent setting items chunk event old new a → HearsEvent setting items chunk event old new b → a ≡ b
+heard_once setting items chunk event old new a b g h =
     let shown = shown_once setting (events_of items) event g.shown h.shown g.is_shown h.is_shown in
     let before = result_once setting old old g.old_result h.old_result refl g.old_result_is h.old_result_is in
     let after = result_once setting new new g.new_result h.new_result refl g.new_result_is h.new_result_is in
@@ -159,23 +160,23 @@ heard_once setting items at added event old new a b g h =
     (ended_once h.old_result h.new_result a.ended b.ended (subst S after (subst R before g.ended)) h.ended)
     (g.counts ∙ sym h.counts) (g.presses ∙ sym h.presses) (g.clock ∙ sym h.clock)
 
-abbrev heard_in : Setting → List Item → ℕ → Bool → Event → EventHeard → Score → Score → Type 0
-heard_in setting items at added event heard old new = HearsEvent setting items at added event old new heard
+abbrev heard_in : Setting → List Item → Chunk → Event → EventHeard → Score → Score → Type 0
+heard_in setting items chunk event heard old new = HearsEvent setting items chunk event old new heard
 
 pub tells_once : TellsOnce
 tells_once setting [] a b valid g h = g ∙ sym h
-tells_once setting (Sent at added event ∷ items) a b valid g h =
+tells_once setting (Sent chunk event ∷ items) a b valid g h =
     let earlier = tells_once setting items g.0 h.0 valid g.4 h.4 in
     let x = g.5 in let y = h.5 in
     let old = folds_once setting.start (deduplicated (entries_in setting (events_of items))) g.1 h.1 valid x.old_folds y.old_folds in
     let new = folds_once setting.start (deduplicated (entries_in setting (event ∷ events_of items))) g.2 h.2 valid x.new_folds y.new_folds in
-    let P : Score → Type 0 = λ s. heard_in setting items at added event g.3 s g.2 in
-    let Q : Score → Type 0 = λ s. heard_in setting items at added event g.3 h.1 s in
-    let heard = heard_once setting items at added event h.1 h.2 g.3 h.3 (subst Q new (subst P old x)) y in
-    g.6 ∙ ap (λ (t : List Told). with_event at added (length g.1.plies) (length g.2.plies) g.3 t) earlier
-    ∙ ap (λ (s : Score). with_event at added (length s.plies) (length g.2.plies) g.3 h.0) old
-    ∙ ap (λ (s : Score). with_event at added (length h.1.plies) (length s.plies) g.3 h.0) new
-    ∙ ap (λ (e : EventHeard). with_event at added (length h.1.plies) (length h.2.plies) e h.0) heard ∙ sym h.6
+    let P : Score → Type 0 = λ s. heard_in setting items chunk event g.3 s g.2 in
+    let Q : Score → Type 0 = λ s. heard_in setting items chunk event g.3 h.1 s in
+    let heard = heard_once setting items chunk event h.1 h.2 g.3 h.3 (subst Q new (subst P old x)) y in
+    g.6 ∙ ap (λ (t : List Told). with_event chunk.when.at chunk.when.is_added (length g.1.plies) (length g.2.plies) g.3 t) earlier
+    ∙ ap (λ (s : Score). with_event chunk.when.at chunk.when.is_added (length s.plies) (length g.2.plies) g.3 h.0) old
+    ∙ ap (λ (s : Score). with_event chunk.when.at chunk.when.is_added (length h.1.plies) (length s.plies) g.3 h.0) new
+    ∙ ap (λ (e : EventHeard). with_event chunk.when.at chunk.when.is_added (length h.1.plies) (length h.2.plies) e h.0) heard ∙ sym h.6
 tells_once setting (Noted at news ∷ items) a b valid g h =
     let earlier = tells_once setting items g.0 h.0 valid g.2 h.2 in
     let score = folds_once setting.start (deduplicated (entries_in setting (events_of items))) g.1 h.1 valid g.3 h.3 in

@@ -8,6 +8,8 @@ use Rattle.dgt_frame.specs.declared.events.Message.TheVariants.{Dump, Update, Ti
 use Rattle.board_doubts.specs.declared.heard.Heard.{Heard}
 use Rattle.board_doubts.specs.declared.heard.Heard.TheVariants.{Clock as ClockSays, Presses, Counts}
 use Rattle.board_doubts.specs.Clock.{running}
+use Rattle.board_alarms.specs.declared.chunk.Chunk.{Chunk}
+use Rattle.board_alarms.specs.Items.{Item, Sent, Noted, is_sent}
 
 abbrev pub seconds_of : Clock → ℕ
 seconds_of time = 3600 * time.hours + (60 * time.minutes + time.seconds)
@@ -29,29 +31,40 @@ abbrev pub lever_of : List ℕ → Option Bool
 lever_of bytes = if is_some (running bytes) then Some (slice_index bytes 6 / 2 % 2 == 1) else None
 
 -- what a message says of the lever
-abbrev pub lever_said : Event → Option Bool
-lever_said (MessageEvent (Time bytes)) = lever_of bytes
-lever_said (MessageEvent (Dump codes)) = None
-lever_said (MessageEvent (Update field code)) = None
-lever_said (MessageEvent (Other id size)) = None
-lever_said (Fault kind) = None
+abbrev pub lever_in : Event → Option Bool
+lever_in (MessageEvent (Time bytes)) = lever_of bytes
+lever_in (MessageEvent (Dump codes)) = None
+lever_in (MessageEvent (Update field code)) = None
+lever_in (MessageEvent (Other id size)) = None
+lever_in (Fault kind) = None
 
 -- and whether the clock runs
-abbrev pub runs_said : Event → Option Bool
-runs_said (MessageEvent (Time bytes)) = running bytes
-runs_said (MessageEvent (Dump codes)) = None
-runs_said (MessageEvent (Update field code)) = None
-runs_said (MessageEvent (Other id size)) = None
-runs_said (Fault kind) = None
+abbrev pub running_in : Event → Option Bool
+running_in (MessageEvent (Time bytes)) = running bytes
+running_in (MessageEvent (Dump codes)) = None
+running_in (MessageEvent (Update field code)) = None
+running_in (MessageEvent (Other id size)) = None
+running_in (Fault kind) = None
+
+-- Only what the board has sent says something of the clock. A time that is added or put in goes with a ply, and nothing else.
+abbrev pub lever_said : Chunk → Event → Option Bool
+lever_said chunk event = if is_sent chunk then lever_in event else None
+
+abbrev pub runs_said : Chunk → Event → Option Bool
+runs_said chunk event = if is_sent chunk then running_in event else None
+
+abbrev pub counts_said : Chunk → Option Reading → Option Reading → Option Heard
+counts_said chunk old new = if is_sent chunk then counts_of old new else None
 
 abbrev pub later : Option Bool → Option Bool → Option Bool
 later None before = before
 later (Some now) before = Some now
 
 -- where the lever was said to be last
-abbrev pub lever_at : List Event → Option Bool
+abbrev pub lever_at : List Item → Option Bool
 lever_at [] = None
-lever_at (event ∷ past) = later (lever_said event) (lever_at past)
+lever_at (Sent chunk event ∷ items) = later (lever_said chunk event) (lever_at items)
+lever_at (Noted at news ∷ items) = lever_at items
 
 -- Somebody has pressed the clock if its lever was elsewhere before.
 abbrev pub presses_of : Option Bool → Option Bool → Option Heard

@@ -14,7 +14,7 @@ use Rattle.board_events.specs.History.{picture_of, reading_at}
 use Rattle.board_events.specs.Session.{entries_in}
 use Rattle.board_events.specs.Settings.{Setting}
 use Rattle.board_doubts.specs.declared.heard.Heard.{Heard}
-use Rattle.board_doubts.specs.declared.heard.Heard.TheVariants.{Shows, Ends, Reopens, PutsBack as MustPutBack, Away, Looked as HasLooked}
+use Rattle.board_doubts.specs.declared.heard.Heard.TheVariants.{Shows, Ends, Reopens, PutsIn as PutsPairIn, PutsBack as MustPutBack, Away, Looked as HasLooked}
 use Rattle.board_doubts.specs.declared.heard.Gap.{Gap}
 use Rattle.board_doubts.specs.declared.heard.Seen.{Seen}
 use Rattle.board_doubts.specs.Elsewhere.{Sees}
@@ -22,11 +22,12 @@ use Rattle.board_looks.specs.declared.look.Look.{Look}
 use Rattle.board_looks.specs.declared.look.Told.{Told}
 use Rattle.board_looks.specs.declared.look.Told.TheVariants.{Hears, Suspects as IsSuspected}
 use Rattle.board_looks.specs.Looks.{alarms}
+use Rattle.board_alarms.specs.declared.chunk.Chunk.{Chunk}
 use Rattle.board_alarms.specs.declared.news.News.{News}
 use Rattle.board_alarms.specs.declared.news.News.TheVariants.{Gone, Begins, PutsIn, Looked, PutsBack, Suspects}
 use Rattle.board_alarms.specs.declared.news.Sight.{Sight}
 use Rattle.board_alarms.specs.declared.news.Sight.TheVariants.{Nothing as SeesNone, Again as SeesAgain, Another as SeesAnother, Moves as SeesMoves}
-use Rattle.board_alarms.specs.Clock.{clock_of, counts_of, lever_at, lever_said, presses_of, runs_said}
+use Rattle.board_alarms.specs.Clock.{clock_of, counts_said, lever_at, lever_said, presses_of, runs_said}
 use Rattle.board_alarms.specs.Gaps.{gap_before}
 use Rattle.board_alarms.specs.Items.{Item, Sent, Noted, events_of}
 use Rattle.board_alarms.specs.Plies.{HearsPlies, before, black_moves, position}
@@ -126,9 +127,9 @@ pub record EventHeard : Type 0 where
   pub presses : Option Heard
   pub clock : Option Heard
 
--- What is heard of an event that comes at this time after these items, where the game has the first score before it and the
--- second one with it.
-pub record HearsEvent (setting : Setting) (items : List Item) (at : ℕ) (added : Bool) (event : Event) (old new : Score) (heard : EventHeard) : Type 0 where
+-- What is heard of an event that these bytes bring after these items, where the game has the first score before it and the second one
+-- with it.
+pub record HearsEvent (setting : Setting) (items : List Item) (chunk : Chunk) (event : Event) (old new : Score) (heard : EventHeard) : Type 0 where
   pub shown : Shown
   pub old_result : Option Outcome
   pub new_result : Option Outcome
@@ -137,13 +138,13 @@ pub record HearsEvent (setting : Setting) (items : List Item) (at : ℕ) (added 
   pub is_shown : IsShown setting (events_of items) event shown
   pub old_result_is : HasResult setting.start old old_result
   pub new_result_is : HasResult setting.start new new_result
-  pub away : heard.away ≡ away_of (gap_before at added items)
+  pub away : heard.away ≡ away_of (gap_before chunk items)
   pub shows : HearsPicture setting.start old.plies shown heard.shows
   pub plies : HearsPlies setting.start (agrees setting.start new.plies shown) old.plies new.plies heard.news heard.ply
   pub ended : HearsResult old_result new_result heard.ended
-  pub counts : heard.counts ≡ counts_of (reading_at setting.first (events_of items)) (reading_at setting.first (event ∷ events_of items))
-  pub presses : heard.presses ≡ presses_of (lever_said event) (lever_at (events_of items))
-  pub clock : heard.clock ≡ clock_of (runs_said event)
+  pub counts : heard.counts ≡ counts_said chunk (reading_at setting.first (events_of items)) (reading_at setting.first (event ∷ events_of items))
+  pub presses : heard.presses ≡ presses_of (lever_said chunk event) (lever_at items)
+  pub clock : heard.clock ≡ clock_of (runs_said chunk event)
 
 -- ---- what is told of it
 
@@ -168,7 +169,7 @@ stands start plies (Some seen) = bytes_eq seen (position start plies)
 abbrev pub with_news : ℕ → ℕ → Bool → News → List Told → List Told
 with_news at plies stood Gone told = told
 with_news at plies stood Begins told = told
-with_news at plies stood PutsIn told = with_heard at false plies (Some Reopens) told
+with_news at plies stood PutsIn told = with_heard at false plies (Some PutsPairIn) told
 with_news at plies stood Looked told = with_heard at false plies (Some HasLooked) told
 with_news at plies stood PutsBack told = with_heard at false plies (if stood then None else Some MustPutBack) told
 with_news at plies stood (Suspects n) told = IsSuspected n ∷ told
@@ -176,8 +177,8 @@ with_news at plies stood (Suspects n) told = IsSuspected n ∷ told
 -- This is told of these items.
 abbrev pub Tells : Setting → List Item → List Told → Type 0
 Tells setting [] told = told ≡ []
-Tells setting (Sent at added event ∷ items) told = (earlier : List Told) × (old new : Score) × (heard : EventHeard) × Tells setting items earlier
-    × HearsEvent setting items at added event old new heard × (told ≡ with_event at added (length old.plies) (length new.plies) heard earlier)
+Tells setting (Sent chunk event ∷ items) told = (earlier : List Told) × (old new : Score) × (heard : EventHeard) × Tells setting items earlier
+    × HearsEvent setting items chunk event old new heard × (told ≡ with_event chunk.when.at chunk.when.is_added (length old.plies) (length new.plies) heard earlier)
 Tells setting (Noted at news ∷ items) told = (earlier : List Told) × (score : Score) × Tells setting items earlier
     × Folds setting.start (deduplicated (entries_in setting (events_of items))) score
     × (told ≡ with_news at (length score.plies) (stands setting.start score.plies (last_picture (entries_in setting (events_of items)))) news earlier)

@@ -8,10 +8,12 @@ use Rattle.settle_core.specs.declared.plies.Ply.{Ply}
 use Rattle.settle_core.specs.Masks.{IsDiff}
 use Rattle.board_events.specs.History.{reading_at}
 use Rattle.board_looks.specs.declared.look.Told.{Told}
+use Rattle.board_alarms.specs.declared.chunk.Chunk.{Chunk}
 use Rattle.board_alarms.specs.declared.news.Sight.{Sight}
 use Rattle.board_alarms.specs.declared.news.Sight.TheVariants.{Nothing, Again, Another, Moves}
-use Rattle.board_alarms.specs.Clock.{clock_of, counts_of, lever_at, lever_said, presses_of, runs_said}
+use Rattle.board_alarms.specs.Clock.{clock_of, counts_said, lever_at, lever_said, presses_of, runs_said}
 use Rattle.board_alarms.specs.Hearing.{with_heard}
+use Rattle.board_alarms.specs.Items.{Item, events_of}
 
 abbrev pub first_of : List Ply → Option Ply
 first_of [] = None
@@ -28,11 +30,11 @@ is_time (MessageEvent (Update field code)) = false
 is_time (MessageEvent (Other id size)) = false
 is_time (Fault kind) = false
 
--- with what is heard of the clock in an event that comes then, after these
-abbrev pub with_clock : ℕ → Bool → ℕ → First → Event → List Event → List Told → List Told
-with_clock at added plies first event past told = with_heard at added plies (clock_of (runs_said event))
-    (with_heard at added plies (presses_of (lever_said event) (lever_at past))
-    (with_heard at added plies (counts_of (reading_at first past) (reading_at first (event ∷ past))) told))
+-- with what is heard of the clock in an event that these bytes bring, after these items
+abbrev pub with_clock : Chunk → ℕ → First → Event → List Item → List Told → List Told
+with_clock chunk plies first event items told = with_heard chunk.when.at chunk.when.is_added plies (clock_of (runs_said chunk event))
+    (with_heard chunk.when.at chunk.when.is_added plies (presses_of (lever_said chunk event) (lever_at items))
+    (with_heard chunk.when.at chunk.when.is_added plies (counts_said chunk (reading_at first (events_of items)) (reading_at first (event ∷ events_of items))) told))
 
 -- The last picture is this one, if an event has shown it.
 abbrev pub ShowsLast : Sight → Option (List ℕ) → List ℕ → Type 0

@@ -17,7 +17,7 @@ use Rattle.board_alarms.specs.declared.line.Line.{Line}
 use Rattle.board_alarms.specs.Clock.{lever_at}
 use Rattle.board_alarms.specs.Gaps.{has_begun, heard_at, is_cut}
 use Rattle.board_alarms.specs.Hearing.{HasResult, Tells}
-use Rattle.board_alarms.specs.Items.{Item, events_of}
+use Rattle.board_alarms.specs.Items.{Item, bytes_of, events_of}
 use Rattle.board_alarms.specs.Plies.{before, black_moves, position}
 
 -- What is kept of the line.
@@ -25,6 +25,7 @@ pub record KeepsLine (line : Line) (items : List Item) : Type 0 where
   pub heard : line.heard_at ≡ heard_at items
   pub cut : line.is_cut ≡ is_cut items
   pub begun : line.has_begun ≡ has_begun items
+  pub bytes : line.bytes ≡ bytes_of items
 
 -- What is kept of the positions of a game that has these plies.
 pub record KeepsPositions (kept : Positions) (start : Parts) (plies : List Ply) : Type 0 where
@@ -57,4 +58,4 @@ pub record StandsFor (kept : Alarms) (setting : Setting) (items : List Item) : T
   pub shown : kept.shown ≡ last_picture (entries_in setting (events_of items))
   pub result_is : HasResult setting.start score kept.result
   pub reading_is : kept.reading ≡ reading_at setting.first (events_of items)
-  pub lever_is : kept.lever ≡ lever_at (events_of items)
+  pub lever_is : kept.lever ≡ lever_at items

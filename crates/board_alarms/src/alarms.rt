@@ -8,8 +8,9 @@ ghost use Rattle.board_alarms.specs.Hearing.{AreOpen, HasMoved, HasResult, IsSho
 ghost use Rattle.board_alarms.specs.Items.{Item, Noted, Sent, events_of};
 ghost use Rattle.board_alarms.specs.Keeping.{StandsFor};
 
+use crate::chunk::{Chunk, When};
 use crate::course::Course;
-use crate::event_heard::{When, tell, tell_clock, tell_gap, tell_picture, tell_plies, tell_result};
+use crate::event_heard::{tell, tell_clock, tell_gap, tell_picture, tell_plies, tell_result};
 use crate::line::Line;
 use crate::news::{News, Sight};
 use board_doubts::Heard;
@@ -38,7 +39,7 @@ fn tell_news(
     };
     match news {
         News::Gone | News::Begins => Ok(()),
-        News::PutsIn => tell(looks, when, plies, Some(Heard::Reopens)),
+        News::PutsIn => tell(looks, when, plies, Some(Heard::PutsIn)),
         News::Looked => tell(looks, when, plies, Some(Heard::Looked)),
         News::PutsBack => {
             let what = if stands { None } else { Some(Heard::PutsBack) };
@@ -92,16 +93,15 @@ impl Alarms {
         }
     }
 
-    /// Takes an event that came at this time, in milliseconds, from the board or added by hand. The session has taken it already. With it
-    /// the board's last picture is this one, and the game has this result.
+    /// Takes an event that these bytes have brought. The session has taken it already. With it the board's last picture is this one, and the
+    /// game has this result.
     ///
     /// # Errors
     ///
     /// Where there is no memory for an alarm. Then nothing more may be taken.
     pub fn take(
         &mut self,
-        at: u64,
-        is_added: bool,
+        chunk: Chunk,
         event: &Event,
         sight: Sight,
         picture: &[u8; 64],
@@ -111,11 +111,11 @@ impl Alarms {
         ensures { (setting : Setting) (items : List Item) → StandsFor self.old setting items → IsShown setting (events_of items) event.now (shown_at sight picture.now)
             → HasMoved setting (events_of items) event.now (moves sight)
             → HasTakenEvents session.now setting (event.now ∷ events_of items) → HasResult setting.start session.now.settler.score outcome
-            → OnOk result (StandsFor self.new setting (Sent at is_added event.now ∷ items)) }
+            → OnOk result (StandsFor self.new setting (Sent chunk event.now ∷ items)) }
     {
-        let when = When { at, is_added };
+        let when = chunk.when;
         let settler = session.settler();
-        let gap = self.line.gap_before(when);
+        let gap = self.line.gap_before(chunk);
         tell_gap(&mut self.looks, when, self.course.count, gap)?;
         tell_picture(&mut self.looks, when, &self.course, sight, picture)?;
         tell_plies(
@@ -128,12 +128,12 @@ impl Alarms {
         )?;
         let plies = self.course.count;
         tell_result(&mut self.looks, when, plies, self.result, outcome)?;
-        self.line.hear(when);
+        self.line.hear(chunk);
         show(&mut self.shown, sight, picture);
         self.result = outcome;
         tell_clock(
             &mut self.looks,
-            when,
+            chunk,
             plies,
             event,
             session,

@@ -2,8 +2,9 @@
 ghost use Rattle.std.specs.Prelude.{◌≡◌, ◌≤◌, ◌∷◌, [], List};
 ghost use Rattle.chess_clock.specs.declared.times.Reading.{Reading as ReadingOf};
 ghost use Rattle.dgt_frame.specs.declared.events.Event.{Event as EventOf};
-ghost use Rattle.board_alarms.specs.Clock.{clock_of, counts_by, counts_of, goes_down, later, lever_of, lever_said, presses_of, runs_said, seconds_of};
+ghost use Rattle.board_alarms.specs.Clock.{clock_of, counts_by, counts_of, counts_said, goes_down, later, lever_in, lever_of, lever_said, presses_of, running_in, runs_said, seconds_of};
 
+use crate::chunk::Chunk;
 use board_doubts::{Heard, runs};
 use chess_clock::{Hms, Reading};
 use dgt_frame::{Event, Message};
@@ -41,7 +42,7 @@ fn counts_for(white: bool, black: bool) -> Option<Heard>
 }
 
 /// Whose time goes down from one reading to the next.
-pub fn counts(old: &Option<Reading>, new: &Option<Reading>) -> Option<Heard>
+fn counts_from(old: &Option<Reading>, new: &Option<Reading>) -> Option<Heard>
     ensures { result ≡ counts_of old.now new.now }
 {
     let Some(old) = old else {
@@ -55,6 +56,17 @@ pub fn counts(old: &Option<Reading>, new: &Option<Reading>) -> Option<Heard>
     counts_for(white, black)
 }
 
+/// The same, if the board has sent the bytes that bring the next one.
+pub fn counts(chunk: Chunk, old: &Option<Reading>, new: &Option<Reading>) -> Option<Heard>
+    ensures { result ≡ counts_said chunk old.now new.now }
+{
+    if chunk.is_sent() {
+        counts_from(old, new)
+    } else {
+        None
+    }
+}
+
 /// Where the clock's lever is, by the seven bytes of a time message.
 fn lever_of(times: &[u8; 7]) -> Option<bool>
     ensures { result ≡ lever_of times.now }
@@ -66,9 +78,8 @@ fn lever_of(times: &[u8; 7]) -> Option<bool>
     }
 }
 
-/// What an event says of the lever.
-pub fn lever_said(event: &Event) -> Option<bool>
-    ensures { result ≡ lever_said event.now }
+fn lever_in(event: &Event) -> Option<bool>
+    ensures { result ≡ lever_in event.now }
 {
     match event {
         Event::Message(Message::Time(times)) => lever_of(times),
@@ -76,13 +87,34 @@ pub fn lever_said(event: &Event) -> Option<bool>
     }
 }
 
-/// Whether the clock runs, if an event says so.
-fn runs_said(event: &Event) -> Option<bool>
-    ensures { result ≡ runs_said event.now }
+fn running_in(event: &Event) -> Option<bool>
+    ensures { result ≡ running_in event.now }
 {
     match event {
         Event::Message(Message::Time(times)) => runs(times),
         _ => None,
+    }
+}
+
+/// What an event that these bytes bring says of the lever.
+pub fn lever_said(chunk: Chunk, event: &Event) -> Option<bool>
+    ensures { result ≡ lever_said chunk event.now }
+{
+    if chunk.is_sent() {
+        lever_in(event)
+    } else {
+        None
+    }
+}
+
+/// Whether the clock runs, if such an event says so.
+fn runs_said(chunk: Chunk, event: &Event) -> Option<bool>
+    ensures { result ≡ runs_said chunk event.now }
+{
+    if chunk.is_sent() {
+        running_in(event)
+    } else {
+        None
     }
 }
 
@@ -111,10 +143,10 @@ pub fn presses(now: Option<bool>, before: Option<bool>) -> Option<Heard>
 }
 
 /// Whether it runs or stands.
-pub fn clock(event: &Event) -> Option<Heard>
-    ensures { result ≡ clock_of (runs_said event.now) }
+pub fn clock(chunk: Chunk, event: &Event) -> Option<Heard>
+    ensures { result ≡ clock_of (runs_said chunk event.now) }
 {
-    match runs_said(event) {
+    match runs_said(chunk, event) {
         None => None,
         Some(runs) => Some(Heard::Clock { runs }),
     }

@@ -13,9 +13,11 @@ ghost use Rattle.board_looks.specs.Keeping.{StandsFor as LooksStandFor};
 ghost use Rattle.board_alarms.specs.Clock.{lever_at};
 ghost use Rattle.board_alarms.specs.Hearing.{AreMoved, HearsPicture, HearsResult, agrees as agrees_with, away_of, moves as moves_of, shown_at, with_heard};
 ghost use Rattle.board_alarms.specs.Inside.{Grows, ShowsLast, is_time, with_clock};
+ghost use Rattle.board_alarms.specs.Items.{Item, Sent, events_of};
 ghost use Rattle.board_alarms.specs.Keeping.{KeepsCourse};
 ghost use Rattle.board_alarms.specs.Plies.{HearsPlies};
 
+use crate::chunk::{Chunk, When};
 use crate::clock::{clock, counts, later, lever_said, presses};
 use crate::course::Course;
 use crate::news::Sight;
@@ -23,18 +25,9 @@ use board_doubts::{Event, Gap, Heard};
 use board_events::Session;
 use board_looks::{Looks, Told};
 use chess_clock::Reading;
-use dgt_frame::{Event as Sent, Message};
+use dgt_frame::{Event as SentEvent, Message};
 use settle_core::{Outcome, Settler};
 use std::alloc::AllocError;
-
-/// When something comes.
-#[derive(Clone, Copy)]
-pub struct When {
-    /// In milliseconds.
-    pub at: u64,
-    /// Somebody has added it by hand: the board hasn't sent it.
-    pub is_added: bool,
-}
 
 /// Tells what is heard then, if anything. The game then has so many plies.
 pub fn tell(
@@ -159,32 +152,33 @@ pub fn tell_result(
     tell(looks, when, plies, Some(result_heard(new)))
 }
 
-fn is_time(event: &Sent) -> bool
+fn is_time(event: &SentEvent) -> bool
     ensures { result ≡ is_time event.now }
 {
-    matches!(event, Sent::Message(Message::Time(_)))
+    matches!(event, SentEvent::Message(Message::Time(_)))
 }
 
 /// Tells what a time message says of the clock.
 fn tell_time(
     looks: &mut Looks,
-    when: When,
+    chunk: Chunk,
     plies: u64,
-    event: &Sent,
+    event: &SentEvent,
     session: &Session,
     reading: &mut Option<Reading>,
     lever: &mut Option<bool>,
 ) -> Result<(), AllocError>
-    ensures { (setting : Setting) (past : List EventOf) (told : List ToldOf) → HasTakenEvents session.now setting (event.now ∷ past)
-        → reading.old ≡ reading_at setting.first past → lever.old ≡ lever_at past → LooksStandFor looks.old told
-        → OnOk result ((reading.new ≡ reading_at setting.first (event.now ∷ past)) × (lever.new ≡ lever_at (event.now ∷ past))
-        × LooksStandFor looks.new (with_clock when.at when.is_added plies setting.first event.now past told)) }
+    ensures { (setting : Setting) (items : List Item) (told : List ToldOf) → HasTakenEvents session.now setting (event.now ∷ events_of items)
+        → reading.old ≡ reading_at setting.first (events_of items) → lever.old ≡ lever_at items → LooksStandFor looks.old told
+        → OnOk result ((reading.new ≡ reading_at setting.first (event.now ∷ events_of items)) × (lever.new ≡ lever_at (Sent chunk event.now ∷ items))
+        × LooksStandFor looks.new (with_clock chunk plies setting.first event.now items told)) }
 {
+    let when = chunk.when;
     let now = session.reading();
-    let said = lever_said(event);
-    tell(looks, when, plies, counts(reading, &now))?;
+    let said = lever_said(chunk, event);
+    tell(looks, when, plies, counts(chunk, reading, &now))?;
     tell(looks, when, plies, presses(said, *lever))?;
-    tell(looks, when, plies, clock(event))?;
+    tell(looks, when, plies, clock(chunk, event))?;
     *reading = now;
     *lever = later(said, *lever);
     Ok(())
@@ -193,20 +187,20 @@ fn tell_time(
 /// Tells what is heard of the clock, if the event is a time message.
 pub fn tell_clock(
     looks: &mut Looks,
-    when: When,
+    chunk: Chunk,
     plies: u64,
-    event: &Sent,
+    event: &SentEvent,
     session: &Session,
     reading: &mut Option<Reading>,
     lever: &mut Option<bool>,
 ) -> Result<(), AllocError>
-    ensures { (setting : Setting) (past : List EventOf) (told : List ToldOf) → HasTakenEvents session.now setting (event.now ∷ past)
-        → reading.old ≡ reading_at setting.first past → lever.old ≡ lever_at past → LooksStandFor looks.old told
-        → OnOk result ((reading.new ≡ reading_at setting.first (event.now ∷ past)) × (lever.new ≡ lever_at (event.now ∷ past))
-        × LooksStandFor looks.new (with_clock when.at when.is_added plies setting.first event.now past told)) }
+    ensures { (setting : Setting) (items : List Item) (told : List ToldOf) → HasTakenEvents session.now setting (event.now ∷ events_of items)
+        → reading.old ≡ reading_at setting.first (events_of items) → lever.old ≡ lever_at items → LooksStandFor looks.old told
+        → OnOk result ((reading.new ≡ reading_at setting.first (event.now ∷ events_of items)) × (lever.new ≡ lever_at (Sent chunk event.now ∷ items))
+        × LooksStandFor looks.new (with_clock chunk plies setting.first event.now items told)) }
 {
     if is_time(event) {
-        return tell_time(looks, when, plies, event, session, reading, lever);
+        return tell_time(looks, chunk, plies, event, session, reading, lever);
     }
     Ok(())
 }

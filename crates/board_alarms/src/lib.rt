@@ -1,11 +1,12 @@
 //! Which alarms of a game are open, from the events of its board and from news: what is heard of them, and told to `board_looks`.
 //!
-//! Begin with `news.rt`: what comes. `alarms.rt` takes it and keeps the alarms. `event_heard.rt` tells what is heard of one event: of the
+//! Begin with `chunk.rt` and `news.rt`: what comes. `alarms.rt` takes it and keeps the alarms. `event_heard.rt` tells what is heard of one event: of the
 //! time before it by `line.rt`, of pictures and plies by `course.rt`, of the clock by `clock.rt`. `laws.rt` says what holds of each history.
 //! A call marked `For its clause` changes nothing: the proof needs what its contract says.
 #![tactic(auto)]
 
 mod alarms;
+mod chunk;
 mod clock;
 mod course;
 mod event_heard;
@@ -14,5 +15,5 @@ mod line;
 mod news;
 
 pub use alarms::Alarms;
-pub use event_heard::When;
+pub use chunk::{Chunk, When};
 pub use news::{News, Sight};

@@ -1,16 +1,19 @@
 //! Times in which the board wasn't heard.
 ghost use Rattle.std.specs.Prelude.{◌≡◌, ◌∷◌, [], List};
 ghost use Rattle.dgt_frame.specs.declared.events.Event.{Event as EventOf};
-ghost use Rattle.board_alarms.specs.Gaps.{begun_by, cut_by, gap_before, gap_from};
+ghost use Rattle.board_alarms.specs.Gaps.{begun_by, cut_by, dumps_within, gap_before, gap_from, was_late};
 ghost use Rattle.board_alarms.specs.Items.{Item, Noted, Sent};
 ghost use Rattle.board_alarms.specs.Keeping.{KeepsLine};
 
-use crate::event_heard::When;
+use crate::chunk::Chunk;
 use crate::news::News;
 use board_doubts::Gap;
 
 /// A board that sends nothing for so long isn't heard, in milliseconds.
-const QUIET: u64 = 10_000;
+const QUIET: u64 = 6000;
+
+/// A dump has so many bytes.
+const DUMP_SIZE: u64 = 67;
 
 /// When the board was heard, and what has happened to its line since then.
 #[derive(Clone, Copy)]
@@ -20,6 +23,22 @@ pub struct Line {
     is_cut: bool,
     /// A recorder has begun.
     has_begun: bool,
+    /// So many bytes the capture has with the last event.
+    bytes: u64,
+}
+
+/// How many dumps come at once from a line that was late for so long.
+fn dumps_within(lasted: u64) -> u64
+    ensures { result ≡ dumps_within lasted }
+{
+    (lasted / 1000).saturating_sub(1)
+}
+
+/// Whether the line was late: after such a time so many bytes come at once.
+fn was_late(lasted: u64, brought: u64) -> bool
+    ensures { result ≡ was_late lasted brought }
+{
+    dumps_within(lasted) <= brought / DUMP_SIZE
 }
 
 fn cut_after(news: News, before: bool) -> bool
@@ -49,18 +68,19 @@ impl Line {
             heard_at: None,
             is_cut: false,
             has_begun: false,
+            bytes: 0,
         }
     }
 
-    /// The time until now in which the board wasn't heard.
-    fn gap(&self, now: u64) -> Option<Gap>
-        ensures { result ≡ gap_from self.now.heard_at self.now.is_cut self.now.has_begun now }
+    /// The time until now in which the board wasn't heard, if so many bytes come now.
+    fn gap(&self, brought: u64, now: u64) -> Option<Gap>
+        ensures { result ≡ gap_from self.now.heard_at self.now.is_cut self.now.has_begun brought now }
     {
         let Some(at) = self.heard_at else {
             return None;
         };
         let lasted = now.saturating_sub(at);
-        if self.is_cut || QUIET <= lasted {
+        if self.is_cut || (QUIET <= lasted && !was_late(lasted, brought)) {
             Some(Gap {
                 lasted,
                 is_restart: self.has_begun,
@@ -70,26 +90,28 @@ impl Line {
         }
     }
 
-    /// The same before an event that comes now.
-    pub fn gap_before(&self, when: When) -> Option<Gap>
-        ensures { (items : List Item) → KeepsLine self.now items → result ≡ gap_before when.at when.is_added items }
+    /// The same before an event of these bytes.
+    pub fn gap_before(&self, chunk: Chunk) -> Option<Gap>
+        ensures { (items : List Item) → KeepsLine self.now items → result ≡ gap_before chunk items }
     {
-        if when.is_added {
-            None
+        if chunk.is_sent() {
+            let brought = chunk.end.saturating_sub(self.bytes);
+            self.gap(brought, chunk.when.at)
         } else {
-            self.gap(when.at)
+            None
         }
     }
 
-    /// An event comes.
-    pub fn hear(&mut self, when: When)
-        ensures { (items : List Item) (event : EventOf) → KeepsLine self.old items → KeepsLine self.new (Sent when.at when.is_added event ∷ items) }
+    /// These bytes bring an event.
+    pub fn hear(&mut self, chunk: Chunk)
+        ensures { (items : List Item) (event : EventOf) → KeepsLine self.old items → KeepsLine self.new (Sent chunk event ∷ items) }
     {
-        if !when.is_added {
-            self.heard_at = Some(when.at);
+        if chunk.is_sent() {
+            self.heard_at = Some(chunk.when.at);
             self.is_cut = false;
             self.has_begun = false;
         }
+        self.bytes = chunk.end;
     }
 
     /// News come.

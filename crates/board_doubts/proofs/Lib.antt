@@ -4,5 +4,6 @@ pub mod Lent
 pub mod Passing
 pub mod Reasons
 pub mod Stops
+pub mod Again
 pub mod Going
 pub mod Walking

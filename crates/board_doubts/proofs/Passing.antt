@@ -10,7 +10,7 @@ use Rattle.square_runs.proofs.Squares.{any_none}
 use Rattle.board_doubts.specs.declared.heard.Doubt.{Doubt}
 use Rattle.board_doubts.specs.declared.heard.Event.{Event}
 use Rattle.board_doubts.specs.declared.heard.Heard.{Heard}
-use Rattle.board_doubts.specs.declared.heard.Heard.TheVariants.{Shows, Moves, Away, Clock}
+use Rattle.board_doubts.specs.declared.heard.Heard.TheVariants.{Shows, Moves, Away, Clock, Counts, Presses}
 use Rattle.board_doubts.specs.declared.heard.Place.TheVariants.{AtLast, AfterLast}
 use Rattle.board_doubts.specs.declared.heard.Why.TheVariants.{Late, Elsewhere, BothElsewhere, AfterGap}
 use Rattle.board_doubts.specs.declared.stopped_clock.Tried.{Tried}
@@ -19,6 +19,7 @@ use Rattle.board_doubts.specs.Doubts.{doubt_of, doubted, hides, hides_by, is_on,
 use Rattle.board_doubts.specs.Laws.{HandsOffPasses, NoClock, NoneShows, QuickCorrectionPasses, RunningClockPasses, StaysDoubtful, doubts, says_nothing, with_doubt}
 use Rattle.board_doubts.specs.Pictures.{Laid, Squares, by_one, has_left, has_stood, moved_on, others, own, shown_as, stands, stands_again, stood_till}
 use Rattle.board_doubts.specs.Recent.{gap, gap_by, has_gap, pictures, since_news, touched, touched_by}
+use Rattle.board_doubts.specs.Unheard.{is_unheard}
 use Rattle.board_doubts.specs.Waiting.{has_moved, waited}
 
 grown : (doubt : Option Doubt) (more all before : List Doubt) → all ≡ more ++ before → (longer : List Doubt) × (with_doubt doubt all ≡ longer ++ before)
@@ -118,15 +119,18 @@ quick_correction_passes repeats now past heard still quick =
     (none_stood own stands (pictures recent) still) (le-ltb late (waited now past) quick)
 
 -- a clock that runs
-none_stands : (what : Heard) (at : ℕ) (since : Option ℕ) → says_nothing what ≡ true → since ≡ None → stands_by what at since ≡ None
-none_stands (Clock runs) at since nothing none = absurd (true≢false (sym nothing))
-none_stands (Away lasted) at since nothing none = refl
-none_stands other at since nothing none = none
+none_stands : (what : Heard) (at : ℕ) (unheard : Bool) (since : Option ℕ) → says_nothing what ≡ true → since ≡ None → stands_by what at unheard since ≡ None
+none_stands (Clock runs) at unheard since nothing none = absurd (true≢false (sym nothing))
+none_stands Presses at true since nothing none = refl
+none_stands Presses at false since nothing none = none
+none_stands (Counts black) at true since nothing none = refl
+none_stands (Counts black) at false since nothing none = none
+none_stands other at unheard since nothing none = none
 
 runs_on : (said : Event) (past later : List Event) → said.what ≡ Clock true → NoClock later → stands_since (later ++ said ∷ past) ≡ None
-runs_on said past [] runs none = ap (λ what. stands_by what said.at (stands_since past)) runs
+runs_on said past [] runs none = ap (λ what. stands_by what said.at (is_unheard past) (stands_since past)) runs
 runs_on said past (event ∷ later) runs none =
-    none_stands event.what event.at (stands_since (later ++ said ∷ past)) none.0 (runs_on said past later runs none.1)
+    none_stands event.what event.at (is_unheard (later ++ said ∷ past)) (stands_since (later ++ said ∷ past)) none.0 (runs_on said past later runs none.1)
 
 and_false : (b : Bool) → (b && false) ≡ false
 and_false true = refl
@@ -136,7 +140,7 @@ none_tried : (what : Heard) (event : Event) (past : List Event) → stands_since
 none_tried (Moves repeats) event past none =
     let given : Option Tried = Some (record { moves = tried (event ∷ past); plies = ago (event ∷ past) }) in
     let seen : Bool = not (tried past == 0) in
-    ap (λ since. if not event.is_added && ((has_run past && is_some since) && (seen || has_lasted seen_late event.at since)) then given else None) none
+    ap (λ since. if not event.is_added && ((has_run past && (is_some since && not (is_unheard past))) && (seen || has_lasted seen_late event.at since)) then given else None) none
     ∙ ap (λ b. if not event.is_added && (b && (seen || false)) then given else None) (and_false (has_run past))
     ∙ ap (λ b. if b then given else None) (and_false (not event.is_added))
 none_tried other event past none = refl

@@ -5,9 +5,10 @@ use Rattle.std.proofs.lemmas.Bool.{ne_eqb, true≢false}
 use Rattle.square_runs.specs.Lasting.{has_lasted}
 use Rattle.board_doubts.specs.declared.heard.Event.{Event}
 use Rattle.board_doubts.specs.declared.heard.Heard.{Heard}
-use Rattle.board_doubts.specs.declared.heard.Heard.TheVariants.{Moves, Away, Clock, Looked}
+use Rattle.board_doubts.specs.declared.heard.Heard.TheVariants.{Moves, Away, Clock, Counts, Looked, Presses}
 use Rattle.board_doubts.specs.declared.stopped_clock.Tried.{Tried}
 use Rattle.board_doubts.specs.Clock.{ago, has_run, is_stopped, most, run_by, seen_late, stands_by, stands_since, tried, tried_by, tries_by}
+use Rattle.board_doubts.specs.Unheard.{is_unheard, unheard_by}
 use Rattle.board_doubts.specs.Laws.{SecondMoveIsTried, StaysStopped, leaves_stopped}
 
 or_true : (b : Bool) → (b || true) ≡ true
@@ -18,26 +19,38 @@ ran : (what : Heard) (before : Bool) → before ≡ true → run_by what before 
 ran (Clock runs) before h = ap (λ b. runs || b) h ∙ or_true runs
 ran _ before h = h
 
-stood : (what : Heard) (at : ℕ) (since : Option ℕ) → leaves_stopped what ≡ true → is_some since ≡ true → is_some (stands_by what at since) ≡ true
-stood (Clock true) at since stays h = absurd (true≢false (sym stays))
-stood (Clock false) at None stays h = refl
-stood (Clock false) at (Some since) stays h = refl
-stood (Away gap) at since stays h = absurd (true≢false (sym stays))
-stood _ at since stays h = h
+stood : (what : Heard) (at : ℕ) (unheard : Bool) (since : Option ℕ) → leaves_stopped what ≡ true → unheard ≡ false → is_some since ≡ true
+    → is_some (stands_by what at unheard since) ≡ true
+stood (Clock true) at unheard since stays e h = absurd (true≢false (sym stays))
+stood (Clock false) at unheard None stays e h = refl
+stood (Clock false) at unheard (Some since) stays e h = refl
+stood Presses at unheard since stays e h = ap (λ b. is_some (if b then None else since)) e ∙ h
+stood (Counts black) at unheard since stays e h = ap (λ b. is_some (if b then None else since)) e ∙ h
+stood _ at unheard since stays e h = h
 
-stood_now : (at : ℕ) (since : Option ℕ) → is_some (stands_by (Clock false) at since) ≡ true
-stood_now at None = refl
-stood_now at (Some since) = refl
+stood_now : (at : ℕ) (unheard : Bool) (since : Option ℕ) → is_some (stands_by (Clock false) at unheard since) ≡ true
+stood_now at unheard None = refl
+stood_now at unheard (Some since) = refl
 
--- The clock has run, and stands.
+still_heard : (what : Heard) (before : Bool) → leaves_stopped what ≡ true → before ≡ false → unheard_by what before ≡ false
+still_heard (Clock runs) before stays h = refl
+still_heard (Away gap) before stays h = absurd (true≢false (sym stays))
+still_heard _ before stays h = h
+
+-- The clock has run, and stands, and is heard.
 abbrev Stopped : List Event → Type 0
-Stopped past = (has_run past ≡ true) × (is_some (stands_since past) ≡ true)
+Stopped past = (has_run past ≡ true) × (is_some (stands_since past) ≡ true) × (is_unheard past ≡ false)
 
 is_so : (past : List Event) → Stopped past → is_stopped past ≡ true
-is_so past h = ap (λ b. b && is_some (stands_since past)) h.0 ∙ h.1
+is_so past h =
+    ap (λ b. b && (is_some (stands_since past) && not (is_unheard past))) h.0 ∙ ap (λ b. b && not (is_unheard past)) h.1 ∙ ap not h.2
 
 stopped_by : (event : Event) (past : List Event) → leaves_stopped event.what ≡ true → Stopped past → Stopped (event ∷ past)
-stopped_by event past stays h = (ran event.what (has_run past) h.0, stood event.what event.at (stands_since past) stays h.1)
+stopped_by event past stays h = (
+  ran event.what (has_run past) h.0,
+  stood event.what event.at (is_unheard past) (stands_since past) stays h.2 h.1,
+  still_heard event.what (is_unheard past) stays h.2,
+)
 
 stopped_in : (later past : List Event) → StaysStopped later → Stopped past → Stopped (later ++ past)
 stopped_in [] past stays h = h
@@ -82,8 +95,11 @@ second_tried second again past h more moves made =
 
 pub second_move_is_tried : SecondMoveIsTried
 second_move_is_tried second first stop repeats again past between later run says quiet still moves made too own =
-    let stops : Stopped (stop ∷ past) =
-    (ran stop.what (has_run past) run, ap (λ what. is_some (stands_by what stop.at (stands_since past))) says ∙ stood_now stop.at (stands_since past)) in
+    let stops : Stopped (stop ∷ past) = (
+      ran stop.what (has_run past) run,
+      ap (λ what. is_some (stands_by what stop.at (is_unheard past) (stands_since past))) says ∙ stood_now stop.at (is_unheard past) (stands_since past),
+      ap (λ what. unheard_by what (is_unheard past)) says,
+    ) in
     let before : Stopped (between ++ stop ∷ past) = stopped_in between (stop ∷ past) quiet stops in
     let first_leaves : leaves_stopped first.what ≡ true = ap leaves_stopped moves in
     let after : Stopped (first ∷ (between ++ stop ∷ past)) = stopped_by first (between ++ stop ∷ past) first_leaves before in

@@ -3,8 +3,9 @@ use Rattle.std.specs.Prelude.{ℕ, ◌+◌, ◌/◌, ◌%◌, min, ◌==◌, ◌
 use Rattle.square_runs.specs.Lasting.{carry, has_lasted}
 use Rattle.board_doubts.specs.declared.heard.Event.{Event}
 use Rattle.board_doubts.specs.declared.heard.Heard.{Heard}
-use Rattle.board_doubts.specs.declared.heard.Heard.TheVariants.{Moves, Away, Clock, Looked}
+use Rattle.board_doubts.specs.declared.heard.Heard.TheVariants.{Moves, Clock, Counts, Looked, Presses}
 use Rattle.board_doubts.specs.declared.stopped_clock.Tried.{Tried}
+use Rattle.board_doubts.specs.Unheard.{is_unheard}
 
 -- An acknowledgement of a command to the clock has ten in the low four bits of the first or the fourth byte.
 abbrev pub acknowledges : List ℕ → Bool
@@ -28,20 +29,21 @@ abbrev pub has_run : List Event → Bool
 has_run [] = false
 has_run (event ∷ past) = run_by event.what (has_run past)
 
--- since when the clock has stood: since the first message that said so. A message that it runs ends this, and so does a time in
--- which the board wasn't heard
-abbrev pub stands_by : Heard → ℕ → Option ℕ → Option ℕ
-stands_by (Clock runs) at since = if runs then None else carry true at since
-stands_by (Away gap) at since = None
-stands_by other at since = since
+-- since when the clock has stood: since the first message that said so. A message that it runs ends this. So does a time in which the
+-- board wasn't heard, if the clock has been pressed then, or has another time
+abbrev pub stands_by : Heard → ℕ → Bool → Option ℕ → Option ℕ
+stands_by (Clock runs) at unheard since = if runs then None else carry true at since
+stands_by Presses at unheard since = if unheard then None else since
+stands_by (Counts black) at unheard since = if unheard then None else since
+stands_by other at unheard since = since
 
 abbrev pub stands_since : List Event → Option ℕ
 stands_since [] = None
-stands_since (event ∷ past) = stands_by event.what event.at (stands_since past)
+stands_since (event ∷ past) = stands_by event.what event.at (is_unheard past) (stands_since past)
 
 -- The clock has run, and stands now.
 abbrev pub is_stopped : List Event → Bool
-is_stopped past = has_run past && is_some (stands_since past)
+is_stopped past = has_run past && (is_some (stands_since past) && not (is_unheard past))
 
 -- No more moves are counted than this.
 abbrev pub most : ℕ

@@ -1,10 +1,10 @@
 -- Which news somebody must look at. Events are listed with the latest first.
-use Rattle.std.specs.Prelude.{ℕ, ◌/◌, ◌&&◌, ◌||◌, not, Bool, true, false, nat_lt, List, [], ◌∷◌, Option, Some, None, is_some, take, if◌then◌else◌}
+use Rattle.std.specs.Prelude.{ℕ, ◌/◌, ◌&&◌, ◌||◌, not, Bool, true, false, nat_le, nat_lt, List, [], ◌∷◌, Option, Some, None, is_some, take, if◌then◌else◌}
 use Rattle.square_runs.specs.Lasting.{has_lasted}
 use Rattle.board_doubts.specs.declared.heard.Doubt.{Doubt}
 use Rattle.board_doubts.specs.declared.heard.Event.{Event}
 use Rattle.board_doubts.specs.declared.heard.Heard.{Heard}
-use Rattle.board_doubts.specs.declared.heard.Heard.TheVariants.{Shows, Moves, Corrects, Agrees, Ends, Reopens, PutsBack, Plays, Replaces}
+use Rattle.board_doubts.specs.declared.heard.Heard.TheVariants.{Shows, Moves, Corrects, Agrees, Ends, Reopens, PutsBack, Plays, Replaces, Clock, PutsIn}
 use Rattle.board_doubts.specs.declared.heard.Place.{Place}
 use Rattle.board_doubts.specs.declared.heard.Place.TheVariants.{AtLast, AfterLast}
 use Rattle.board_doubts.specs.declared.heard.Seen.{Seen}
@@ -12,10 +12,13 @@ use Rattle.board_doubts.specs.declared.heard.Why.{Why}
 use Rattle.board_doubts.specs.declared.heard.Why.TheVariants.{Late, Elsewhere, BothElsewhere, AfterGap, TakenBack, Unpressed, OtherTime}
 use Rattle.board_doubts.specs.Pace.{fits_ply, half_within, last_within, pace_of}
 use Rattle.board_doubts.specs.Pictures.{by_both, by_both_perhaps, by_one, has_stood, own, stands}
-use Rattle.board_doubts.specs.Plies.{both_back, played, played_by}
-use Rattle.board_doubts.specs.Presses.{between, between_by, is_left_by, is_used, pressed, runs, unpressed}
+use Rattle.board_doubts.specs.Plies.{both_back, ends_pair, played, played_by}
+use Rattle.board_doubts.specs.Presses.{counts_now, is_left_by, is_used, known, quiet, runs, unpressed}
 use Rattle.board_doubts.specs.Recent.{gap, has_gap, is_restart, pictures, since_news, touched}
+pub use Rattle.board_doubts.specs.Silent.{has_repeated}
+use Rattle.board_doubts.specs.Silent.{silent, soon}
 use Rattle.board_doubts.specs.Thinking.{is_exchanged}
+use Rattle.board_doubts.specs.Unheard.{is_unheard}
 use Rattle.board_doubts.specs.Waiting.{has_moved, ply_times, waited}
 
 -- The board has shown the game's position; since then nobody has been asked to put pieces where they belong.
@@ -34,6 +37,7 @@ has_begun (event ∷ past) = begun_by event.what (has_begun past)
 abbrev pub over_by : Heard → Bool → Bool
 over_by Ends before = true
 over_by Reopens before = false
+over_by PutsIn before = false
 over_by (Moves repeats) before = false
 over_by (Corrects repeats) before = false
 over_by other before = before
@@ -42,25 +46,22 @@ abbrev pub is_over : List Event → Bool
 is_over [] = false
 is_over (event ∷ past) = over_by event.what (is_over past)
 
--- The game's position was one of the last eight before.
-abbrev pub repeats_by : Heard → Bool → Bool
-repeats_by (Moves repeats) before = repeats
-repeats_by (Corrects repeats) before = repeats
-repeats_by other before = before
-
-abbrev pub has_repeated : List Event → Bool
-has_repeated [] = false
-has_repeated (event ∷ past) = repeats_by event.what (has_repeated past)
-
 -- News may be doubted: the board has shown the game, which isn't over.
 abbrev pub is_on : List Event → Bool
 is_on past = has_begun past && not (is_over past)
 
--- Plies may be hidden in a gap this long: before a move, if there was time for one; before an agreement, if there was time for two,
--- or for one if the players have just repeated a position. After a restart only such players are suspected.
+-- In a gap this long the row says SILENT, in milliseconds. Whatever the pace, plies may have been made.
+abbrev pub silent_for : ℕ
+silent_for = 5000
+
+-- There was time for plies: for one before a move; for two before an agreement, or for one if the players have just repeated a
+-- position.
+abbrev pub has_room : Bool → ℕ → List Event → Bool
+has_room is_move lasted past = nat_le silent_for lasted || fits_ply (if is_move || has_repeated past then lasted else lasted / 2) past
+
+-- Plies may be hidden in a gap this long. After a restart only players are suspected who have just repeated a position.
 abbrev pub may_hide : Bool → ℕ → List Event → Bool
-may_hide is_move lasted past =
-    fits_ply (if is_move || has_repeated past then lasted else lasted / 2) past && (has_repeated past || not (is_restart (since_news past)))
+may_hide is_move lasted past = has_room is_move lasted past && (has_repeated past || not (is_restart (since_news past)))
 
 -- Plies may be hidden in the gap since the last news, if there is one.
 abbrev pub hides_by : Bool → Option ℕ → List Event → Bool
@@ -98,29 +99,26 @@ why_agrees past =
     else if hides false past || touched (since_news past) then Some AfterGap
     else None
 
--- A piece is taken back within this, in milliseconds, once the other side's was.
-abbrev pub soon : ℕ
-soon = 3000
+-- Players without a clock are unhurried if they need longer than this for more than half of their plies, in milliseconds. Others may go
+-- back and forth so soon.
+abbrev pub unhurried : ℕ
+unhurried = 6000
 
--- Players are unhurried if they need longer than this for more than half of their plies, in milliseconds: with a clock, and without
--- one. Others may go back and forth so soon.
-abbrev pub unhurried : Bool → ℕ
-unhurried clocked = if clocked then 1500 else 6000
+abbrev pub is_unhurried : List Event → Bool
+is_unhurried past = not (half_within unhurried (take pace_of (ply_times past)))
 
-abbrev pub is_unhurried : Bool → List Event → Bool
-is_unhurried clocked past = not (half_within (unhurried clocked) (take pace_of (ply_times past)))
+-- The last ply was made soon after the one before it, though the players are unhurried and use no clock.
+abbrev pub is_odd : List Event → Bool
+is_odd past = last_within soon (ply_times past) && (is_unhurried past && not (is_used past))
 
--- Both sides have taken plies back, the second one soon after the first, though they are unhurried; and if they use a clock, it
--- wasn't pressed between them.
+-- Both sides have taken plies back, so oddly, or by a pair that is put in: no picture has shown the plies that went back.
 abbrev pub takes_back : Heard → List Event → Bool
-takes_back what past =
-    (both_back (played_by what (played past)) && last_within soon (ply_times past))
-    && (is_unhurried (is_used past) past && not (is_used past && between_by what (pressed past) (between past)))
+takes_back what past = both_back (played_by what (played past)) && (ends_pair past || is_odd past)
 
 abbrev pub why_played : Heard → List Event → Option Why
 why_played what past =
     if takes_back what past then Some TakenBack
-    else if is_left_by what (runs past) (unpressed past) then Some Unpressed
+    else if is_left_by what (counts_now past) (unpressed past) then Some Unpressed
     else if is_exchanged what past then Some OtherTime
     else None
 
@@ -135,6 +133,7 @@ why_by (Moves repeats) now past = if is_on past then why_moves past else None
 why_by Agrees now past = if is_on past && may_be_played past then why_agrees past else None
 why_by (Plays ply) now past = if is_on past then why_played (Plays ply) past else None
 why_by (Replaces ply) now past = if is_on past then why_played (Replaces ply) past else None
+why_by (Clock runs) now past = if is_on past then silent (quiet past) past else None
 why_by other now past = None
 
 -- when the last move was made, if the next picture may make it doubtful: it isn't doubted yet, no picture has come since, and both
@@ -163,6 +162,13 @@ is_recent now (Some at) = not (has_lasted passes now (Some at))
 abbrev pub was_passed : Seen → ℕ → List Event → Bool
 was_passed seen now past = seen.was_drawn && is_recent now (passing past)
 
+-- why a picture makes the last move doubtful
+abbrev pub why_shows : Seen → ℕ → List Event → Option Why
+why_shows seen now past =
+    if was_passed seen now past then Some BothElsewhere
+    else if is_on past then silent (known (is_unheard past) (quiet past)) past
+    else None
+
 -- the doubt, if there is a reason
 abbrev pub doubted : Place → Option Why → Option Doubt
 doubted place None = None
@@ -170,7 +176,7 @@ doubted place (Some why) = Some (record { place = place; why = why })
 
 -- what somebody must look at in what is heard now, after what was heard before
 abbrev pub doubt_by : Heard → ℕ → List Event → Option Doubt
-doubt_by (Shows seen) now past = doubted AtLast (if was_passed seen now past then Some BothElsewhere else None)
+doubt_by (Shows seen) now past = doubted AtLast (why_shows seen now past)
 doubt_by Agrees now past = doubted AfterLast (why_by Agrees now past)
 doubt_by other now past = doubted AtLast (why_by other now past)
 

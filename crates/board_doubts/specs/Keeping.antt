@@ -1,5 +1,5 @@
 -- What the parts stand for. A reader needs none of it: the contracts hold for whatever this says.
-use Rattle.std.specs.Prelude.{◌≡◌, ◌+◌, ◌-◌, min, ℕ, zero, suc, Bool, false, nat_le, List, [], ◌∷◌, Option, Some, None, if◌then◌else◌}
+use Rattle.std.specs.Prelude.{◌≡◌, ◌+◌, ◌-◌, min, ℕ, zero, suc, Bool, false, nat_le, nat_lt, List, [], ◌∷◌, Option, Some, None, if◌then◌else◌}
 use Rattle.square_runs.specs.Keeping.{StandsFor as RunsStandFor}
 use Rattle.board_doubts.specs.declared.doubts.Doubts.{Doubts}
 use Rattle.board_doubts.specs.declared.heard.Event.{Event}
@@ -14,13 +14,15 @@ use Rattle.board_doubts.specs.declared.stopped_clock.StoppedClock.{StoppedClock}
 use Rattle.board_doubts.specs.declared.thinking.Thinking.{Thinking}
 use Rattle.board_doubts.specs.declared.waited.Waited.{Waited}
 use Rattle.board_doubts.specs.Clock.{ago, has_run, stands_since, tried}
-use Rattle.board_doubts.specs.Doubts.{has_begun, has_repeated, is_over, passing}
+use Rattle.board_doubts.specs.Doubts.{has_begun, is_over, passing}
 use Rattle.board_doubts.specs.Pace.{pace_of}
 use Rattle.board_doubts.specs.Pictures.{Laid, Squares, astray, has_left, has_stood, moved_on, others, own, shown_as, stands, stands_again}
-use Rattle.board_doubts.specs.Plies.{played}
-use Rattle.board_doubts.specs.Presses.{between, pressed, runs, unpressed}
+use Rattle.board_doubts.specs.Plies.{pair_left, played}
+use Rattle.board_doubts.specs.Presses.{pressed_at, quiet, runs, unpressed}
 use Rattle.board_doubts.specs.Recent.{comes_first, day, gap, is_restart, pictures, since_news, touched}
+use Rattle.board_doubts.specs.Silent.{has_repeated, pending}
 use Rattle.board_doubts.specs.Thinking.{counting, lent}
+use Rattle.board_doubts.specs.Unheard.{is_unheard}
 use Rattle.board_doubts.specs.Waiting.{has_moved, ply_times, waited}
 
 -- What is kept of these squares of these pictures.
@@ -64,6 +66,11 @@ abbrev pub is_within : ℕ → Option ℕ → Bool
 is_within time None = false
 is_within time (Some ply) = nat_le ply time
 
+-- It is known, and longer than this.
+abbrev pub is_longer : ℕ → Option ℕ → Bool
+is_longer time None = false
+is_longer time (Some ply) = nat_lt time ply
+
 -- What is kept of the times of plies.
 pub record KeepsPace (kept : Pace) (times : List ℕ) : Type 0 where
   pub last : kept.last ≡ padded pace_of times
@@ -77,8 +84,8 @@ pub record KeepsPlies (kept : Plies) (plies : ℕ → Option Ply) : Type 0 where
 
 -- What is kept of presses of the clock.
 pub record KeepsPresses (kept : Presses) (past : List Event) : Type 0 where
-  pub pressed_is : kept.pressed ≡ pressed past
-  pub between_is : kept.between ≡ between past
+  pub pressed_is : kept.pressed_at ≡ pressed_at past
+  pub quiet_is : kept.quiet ≡ quiet past
   pub runs_is : kept.runs ≡ runs past
   pub unpressed_is : kept.unpressed ≡ unpressed past
 
@@ -101,15 +108,19 @@ pub record StandsFor (doubts : Doubts) (past : List Event) : Type 0 where
   pub plies : KeepsPlies doubts.plies (played past)
   pub presses : KeepsPresses doubts.presses past
   pub thinking : KeepsThinking doubts.thinking past
+  pub unheard : doubts.is_unheard ≡ is_unheard past
   pub moved : doubts.has_moved ≡ has_moved past
   pub begun : doubts.has_begun ≡ has_begun past
   pub over : doubts.is_over ≡ is_over past
+  pub pair_is : doubts.pair ≡ pair_left past
   pub repeated : doubts.has_repeated ≡ has_repeated past
   pub passing_is : doubts.passing ≡ passing past
+  pub pending_is : doubts.pending ≡ pending past
 
 -- The same of a clock.
 pub record ClockStandsFor (clock : StoppedClock) (past : List Event) : Type 0 where
   pub run : clock.has_run ≡ has_run past
   pub since : clock.stands_since ≡ stands_since past
+  pub unheard : clock.is_unheard ≡ is_unheard past
   pub moves : clock.tried ≡ tried past
   pub plies : clock.ago ≡ ago past

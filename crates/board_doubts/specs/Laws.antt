@@ -1,26 +1,29 @@
 -- What holds of each history. Events and pictures are listed with the latest first.
-use Rattle.std.specs.Prelude.{◌≡◌, ◌<◌, ◌≤◌, ◌+◌, ◌==◌, ◌⊎◌, ℕ, not, Bool, true, false, List, [], ◌∷◌, ◌++◌, Option, Some, None, is_some, slice_index, ⊤, if◌then◌else◌}
+use Rattle.std.specs.Prelude.{◌≡◌, ◌≢◌, ◌<◌, ◌≤◌, ◌+◌, ◌==◌, ◌||◌, ◌⊎◌, ℕ, not, Bool, true, false, List, [], ◌∷◌, ◌++◌, Option, Some, None, is_some, slice_index, ⊤, if◌then◌else◌}
 use Rattle.std.specs.Int.{bit_at}
 use Rattle.board_doubts.specs.declared.heard.Doubt.{Doubt}
 use Rattle.board_doubts.specs.declared.heard.Event.{Event}
+use Rattle.board_doubts.specs.declared.heard.Gap.{Gap}
 use Rattle.board_doubts.specs.declared.heard.Heard.{Heard}
-use Rattle.board_doubts.specs.declared.heard.Heard.TheVariants.{Moves, Corrects, Agrees, Away, Clock, Looked, Plays, Presses}
+use Rattle.board_doubts.specs.declared.heard.Heard.TheVariants.{Shows, Moves, Corrects, Agrees, Away, Clock, Counts, Looked, Plays, Replaces, Reopens, PutsBack, Presses}
 use Rattle.board_doubts.specs.declared.heard.Place.{Place}
 use Rattle.board_doubts.specs.declared.heard.Ply.{Ply}
 use Rattle.board_doubts.specs.declared.heard.Seen.{Seen}
 use Rattle.board_doubts.specs.declared.heard.Why.{Why}
-use Rattle.board_doubts.specs.declared.heard.Why.TheVariants.{OtherTime, TakenBack, Unpressed}
+use Rattle.board_doubts.specs.declared.heard.Why.TheVariants.{MovedOn, OtherTime, Returned, TakenBack, Unpressed}
 use Rattle.board_doubts.specs.declared.stopped_clock.Tried.{Tried}
 use Rattle.board_doubts.specs.Clock.{has_run, seen_late, stands_since, tries_of}
 use Rattle.board_doubts.specs.Doubts.{doubt_by, doubt_of, is_on, late}
 use Rattle.board_doubts.specs.Elsewhere.{Sees, differs, elsewhere}
-use Rattle.board_doubts.specs.Pace.{fits_ply, quickest}
+use Rattle.board_doubts.specs.Pace.{fits_ply, last_within, quickest}
 use Rattle.board_doubts.specs.Pictures.{Laid, Squares, by_both, by_one, has_stood, others, own, stands}
-use Rattle.board_doubts.specs.Plies.{is_back, played}
-use Rattle.board_doubts.specs.Presses.{runs}
+use Rattle.board_doubts.specs.Plies.{both_back, both_further, ends_pair, is_back, played}
+use Rattle.board_doubts.specs.Presses.{is_early, is_used, pressed_at, presses, quiet, runs}
+use Rattle.board_doubts.specs.Silent.{is_pair}
 use Rattle.board_doubts.specs.Recent.{gap, has_gap, is_restart, pictures, since_news, touched}
-use Rattle.board_doubts.specs.Thinking.{counting, is_other}
-use Rattle.board_doubts.specs.Waiting.{has_moved, waited}
+use Rattle.board_doubts.specs.Thinking.{counting, is_other, known_counting}
+use Rattle.board_doubts.specs.Unheard.{is_unheard}
+use Rattle.board_doubts.specs.Waiting.{has_moved, ply_times, waited}
 use Rattle.board_doubts.specs.Ways.{can_go, kind_of}
 
 abbrev pub with_doubt : Option Doubt → List Doubt → List Doubt
@@ -67,12 +70,20 @@ UndoubtedCorrection = (repeats : Bool) (now : ℕ) (past : List Event) → is_on
     → (has_gap (since_news past) ≡ false) × (has_stood own stands (pictures (since_news past)) ≡ false) × (waited now past ≤ late)
 
 -- If a move isn't doubted in a game that is on and has a move, at most one side may have moved since the last news; and if the board
--- wasn't heard for a time while the recorder was there, players as quick as these had no time for a ply in it.
+-- wasn't heard for a time while the recorder was there, players as quick as these had no time for a ply in it, and the row didn't say
+-- SILENT.
 abbrev pub UndoubtedMove : Type 0
 UndoubtedMove = (repeats : Bool) (now : ℕ) (past : List Event) → is_on past ≡ true → has_moved past ≡ true
     → doubt_by (Moves repeats) now past ≡ None
     → (by_both (pictures (since_news past)) ≡ false)
-    × ((lasted : ℕ) → gap (since_news past) ≡ Some lasted → is_restart (since_news past) ≡ false → fits_ply lasted past ≡ false)
+    × ((lasted : ℕ) → gap (since_news past) ≡ Some lasted → is_restart (since_news past) ≡ false → (lasted < 5000) × (fits_ply lasted past ≡ false))
+
+-- If the board wasn't heard for five seconds while the recorder was there, the next move of a game with moves is doubted, and so is an
+-- agreement: whatever the pace, plies may have been made.
+abbrev pub SilenceIsDoubted : Type 0
+SilenceIsDoubted = (repeats : Bool) (now lasted : ℕ) (past : List Event) → is_on past ≡ true → has_moved past ≡ true
+    → gap (since_news past) ≡ Some lasted → is_restart (since_news past) ≡ false → 5000 ≤ lasted
+    → (doubt_by (Moves repeats) now past ≢ None) × (doubt_by Agrees now past ≢ None)
 
 -- The clock isn't spoken of.
 abbrev pub says_nothing : Heard → Bool
@@ -125,50 +136,83 @@ abbrev pub is_ply : Heard → Bool
 is_ply (Plays ply) = true
 is_ply other = false
 
--- The clock was pressed since the last ply, if there is one.
-abbrev pub was_pressed_by : Heard → Bool → Bool
-was_pressed_by Presses before = true
-was_pressed_by (Plays ply) before = false
-was_pressed_by other before = before
+-- The last ply, if there is one, has a press: since it was made, or at most half a second before it.
+abbrev pub has_press_by : Heard → Bool → Bool → Bool → Bool
+has_press_by (Plays ply) press pressed before = pressed
+has_press_by other press pressed before = press || before
 
-abbrev pub was_pressed : List Event → Bool
-was_pressed [] = true
-was_pressed (event ∷ past) = was_pressed_by event.what (was_pressed past)
+abbrev pub has_press : List Event → Bool
+has_press [] = true
+has_press (event ∷ past) = has_press_by event.what (presses event.what past) (is_early event.at (pressed_at past)) (has_press past)
 
--- Between each two plies the clock was pressed.
+-- Each ply had one before the next ply was made.
 abbrev pub PressesEach : List Event → Type 0
 PressesEach [] = ⊤
-PressesEach (event ∷ past) = (is_ply event.what ≡ true → was_pressed past ≡ true) × PressesEach past
+PressesEach (event ∷ past) = (is_ply event.what ≡ true → has_press past ≡ true) × PressesEach past
 
--- While players press the clock after each ply, no ply is doubted as unpressed or as taken back, whatever else is heard.
+-- While players press the clock for each ply, be it half a second before it, no ply is doubted for want of a press, whatever else is
+-- heard.
 abbrev pub PressedPlyPasses : Type 0
 PressedPlyPasses = (event : Event) (past : List Event) → PressesEach (event ∷ past)
-    → (IsDoubtedFor Unpressed event past → ⊥) × (IsDoubtedFor TakenBack event past → ⊥)
+    → (IsDoubtedFor Unpressed event past → ⊥) × (ends_pair past ≡ false → IsDoubtedFor TakenBack event past → ⊥)
+    × (IsDoubtedFor MovedOn event past → ⊥) × (IsDoubtedFor Returned event past → ⊥)
 
--- so many plies were made. What an arbiter added isn't counted
-abbrev pub one_by : Heard → Bool → ℕ
-one_by (Plays ply) added = if added then 0 else 1
-one_by other added = 0
+-- If a pair that is put in takes both sides' last plies back, that is doubted, whatever the pace and the clock.
+abbrev pub PairBackIsDoubted : Type 0
+PairBackIsDoubted = (event : Event) (ply : Ply) (past : List Event) → is_on past ≡ true → event.what ≡ Plays ply → event.is_added ≡ false
+    → ends_pair past ≡ true → both_back (played (event ∷ past)) ≡ true → IsDoubtedFor TakenBack event past
 
-abbrev pub plies_in : List Event → ℕ
-plies_in [] = 0
-plies_in (event ∷ past) = plies_in past + one_by event.what event.is_added
+-- so many plies were made after what was heard before, each in more than a second. What an arbiter added isn't counted
+abbrev pub one_by : Heard → Bool → Bool → ℕ
+one_by (Plays ply) added quick = if added || quick then 0 else 1
+one_by other added quick = 0
 
--- Nobody presses the clock, and it doesn't say that it stands.
+abbrev pub plies_after : List Event → List Event → ℕ
+plies_after past [] = 0
+plies_after past (event ∷ later) = plies_after past later + one_by event.what event.is_added (last_within quickest (ply_times (later ++ past)))
+
+-- The clock doesn't say that it stands.
 abbrev pub leaves_running : Heard → Bool
 leaves_running (Clock runs) = runs
-leaves_running Presses = false
 leaves_running other = true
 
-abbrev pub StaysUnpressed : List Event → Type 0
-StaysUnpressed [] = ⊤
-StaysUnpressed (event ∷ past) = (leaves_running event.what ≡ true) × StaysUnpressed past
+-- So it is after what was heard before, and nobody presses it.
+abbrev pub StaysUnpressed : List Event → List Event → Type 0
+StaysUnpressed past [] = ⊤
+StaysUnpressed past (event ∷ later) =
+    (leaves_running event.what ≡ true) × (presses event.what (later ++ past) ≡ false) × StaysUnpressed past later
 
--- While the clock runs in a game that is on, the sixth ply since it was pressed is doubted, whatever else is heard.
+-- While the clock runs in a game that is on, the sixth ply of more than a second since it was pressed is doubted, whatever else is heard.
 abbrev pub SixthPlyIsDoubted : Type 0
 SixthPlyIsDoubted = (sixth press : Event) (ply : Ply) (past later : List Event)
-    → runs past ≡ true → press.what ≡ Presses → StaysUnpressed later → plies_in later ≡ 5 → sixth.what ≡ Plays ply → sixth.is_added ≡ false
+    → runs past ≡ true → press.what ≡ Presses → StaysUnpressed (press ∷ past) later → plies_after (press ∷ past) later ≡ 5
+    → sixth.what ≡ Plays ply → sixth.is_added ≡ false → last_within quickest (ply_times (later ++ press ∷ past)) ≡ false
     → is_on (later ++ press ∷ past) ≡ true → is_some (doubt_of sixth (later ++ press ∷ past)) ≡ true
+
+-- Nothing is heard that ends a suspicion, or begins another one, and the board is heard.
+abbrev pub waits_on : Heard → Bool
+waits_on (Shows seen) = false
+waits_on (Plays ply) = false
+waits_on (Replaces ply) = false
+waits_on (Clock runs) = false
+waits_on Reopens = false
+waits_on PutsBack = false
+waits_on (Away gap) = false
+waits_on other = true
+
+-- So it is after what was heard before, and nobody presses the clock.
+abbrev pub NobodyPresses : List Event → List Event → Type 0
+NobodyPresses past [] = ⊤
+NobodyPresses past (event ∷ later) = (waits_on event.what ≡ true) × (presses event.what (later ++ past) ≡ false) × NobodyPresses past later
+
+-- Both sides put the pieces that they moved last elsewhere, where these could have gone at once: the second one soon after the first, and
+-- both after a pause. If they use a clock and nobody presses it, the clock's next message always makes that doubtful.
+abbrev pub SilentReplacementIsDoubted : Type 0
+SilentReplacementIsDoubted = (second clock : Event) (ply : Ply) (runs : Bool) (past later : List Event)
+    → second.what ≡ Plays ply → second.is_added ≡ false → is_used past ≡ true → is_pair (ply_times past) ≡ true
+    → both_further (played (second ∷ past)) ≡ true → 2 ≤ quiet (second ∷ past) → NobodyPresses (second ∷ past) later
+    → clock.what ≡ Clock runs → clock.is_added ≡ false → is_on (later ++ second ∷ past) ≡ true
+    → is_some (doubt_of clock (later ++ second ∷ past)) ≡ true
 
 -- A ply was thought about on its own side's time, as far as that is known.
 abbrev pub is_own : Heard → Option Bool → Bool
@@ -177,11 +221,33 @@ is_own other counts = true
 
 abbrev pub OnOwnTime : List Event → Type 0
 OnOwnTime [] = ⊤
-OnOwnTime (event ∷ past) = (is_own event.what (counting past) ≡ true) × OnOwnTime past
+OnOwnTime (event ∷ past) = (is_own event.what (known_counting past) ≡ true) × OnOwnTime past
 
 -- While players think on their own time, no ply is doubted for that.
 abbrev pub OwnTimePasses : Type 0
 OwnTimePasses = (event : Event) (past : List Event) → OnOwnTime (event ∷ past) → IsDoubtedFor OtherTime event past → ⊥
+
+-- Nothing is heard that says something of the clock, no ply, and no further time in which the board isn't heard.
+abbrev pub is_no_sign : Heard → Bool
+is_no_sign (Clock runs) = false
+is_no_sign Presses = false
+is_no_sign (Counts black) = false
+is_no_sign (Plays ply) = false
+is_no_sign (Away gap) = false
+is_no_sign other = true
+
+abbrev pub NoSign : List Event → Type 0
+NoSign [] = ⊤
+NoSign (event ∷ past) = (is_no_sign event.what ≡ true) × NoSign past
+
+-- If the board isn't heard for a time, and the clock then says only that it runs, or stands, as before, all that was known of it is known
+-- on: which plies have no press, since when it has stood, and whose time runs.
+abbrev pub ClockIsKnownAgain : Type 0
+ClockIsKnownAgain = (away clock : Event) (gap : Gap) (runs : Bool) (past between : List Event) → away.what ≡ Away gap → clock.what ≡ Clock runs
+    → NoSign between → let later : List Event = clock ∷ (between ++ away ∷ past) in
+    (is_unheard later ≡ false) × (quiet later ≡ quiet past)
+    × (runs ≡ false → is_some (stands_since past) ≡ true → stands_since later ≡ stands_since past)
+    × (runs ≡ true → counting later ≡ counting past)
 
 -- A piece of this side stands where the position doesn't have it, and is missing on its square. On an empty board it could go back there.
 pub record CouldGoBack (black : Bool) (position picture : List ℕ) (s home : ℕ) : Type 0 where

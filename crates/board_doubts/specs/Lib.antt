@@ -8,6 +8,8 @@ pub mod Pictures
 pub mod Plies
 pub mod Presses
 pub mod Recent
+pub mod Silent
 pub mod Thinking
+pub mod Unheard
 pub mod Waiting
 pub mod Ways

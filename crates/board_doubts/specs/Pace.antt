@@ -1,5 +1,5 @@
 -- How long hurried players need for a ply.
-use Rattle.std.specs.Prelude.{ℕ, ◌*◌, ◌&&◌, Bool, false, nat_le, List, [], ◌∷◌, count_by, length, take}
+use Rattle.std.specs.Prelude.{ℕ, zero, suc, ◌*◌, ◌&&◌, Bool, false, nat_le, nat_lt, List, [], ◌∷◌, count_by, length, take}
 use Rattle.board_doubts.specs.declared.heard.Event.{Event}
 use Rattle.board_doubts.specs.Waiting.{ply_times}
 
@@ -26,6 +26,12 @@ fits_by time (ply ∷ plies) = nat_le quickest time && half_within time (ply ∷
 
 abbrev pub fits_ply : ℕ → List Event → Bool
 fits_ply time past = fits_by time (take pace_of (ply_times past))
+
+-- So many plies ago a ply took longer than this.
+abbrev pub took_longer : ℕ → ℕ → List ℕ → Bool
+took_longer time n [] = false
+took_longer time zero (ply ∷ plies) = nat_lt time ply
+took_longer time (suc n) (ply ∷ plies) = took_longer time n plies
 
 -- The last of these plies took no longer than this.
 abbrev pub last_within : ℕ → List ℕ → Bool

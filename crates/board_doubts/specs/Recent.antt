@@ -2,7 +2,7 @@
 use Rattle.std.specs.Prelude.{ℕ, ◌+◌, min, ◌&&◌, ◌||◌, Bool, true, false, List, [], ◌∷◌, Option, Some, None, is_some, unwrap_or, if◌then◌else◌}
 use Rattle.board_doubts.specs.declared.heard.Event.{Event}
 use Rattle.board_doubts.specs.declared.heard.Heard.{Heard}
-use Rattle.board_doubts.specs.declared.heard.Heard.TheVariants.{Shows, Moves, Corrects, Agrees, Ends, Reopens, Away}
+use Rattle.board_doubts.specs.declared.heard.Heard.TheVariants.{Shows, Moves, Corrects, Agrees, Ends, Reopens, PutsIn, Away}
 use Rattle.board_doubts.specs.declared.heard.Seen.{Seen}
 use Rattle.board_doubts.specs.Pictures.{Laid}
 
@@ -44,9 +44,10 @@ laid at first seen = record {
   is_off = seen.is_off;
 }
 
--- the pictures with the one that is shown at this time, if one is
+-- the pictures with the one that is shown at this time, if one is. Those before a pair that is put in belong to the pair
 abbrev pub with_picture : Heard → ℕ → Bool → List Laid → List Laid
 with_picture (Shows seen) at first past = laid at first seen ∷ past
+with_picture PutsIn at first past = []
 with_picture other at first past = past
 
 abbrev pub pictures : List Event → List Laid

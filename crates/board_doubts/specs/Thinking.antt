@@ -2,20 +2,24 @@
 use Rattle.std.specs.Prelude.{◌&&◌, not, Bool, false, nat_le, List, [], ◌∷◌, count_by, Option, Some, None, take, if◌then◌else◌}
 use Rattle.board_doubts.specs.declared.heard.Event.{Event}
 use Rattle.board_doubts.specs.declared.heard.Heard.{Heard}
-use Rattle.board_doubts.specs.declared.heard.Heard.TheVariants.{Away, Clock, Plays, Presses, Counts}
+use Rattle.board_doubts.specs.declared.heard.Heard.TheVariants.{Clock, Plays, Presses, Counts}
 use Rattle.board_doubts.specs.Pace.{pace_of}
+use Rattle.board_doubts.specs.Unheard.{is_unheard}
 
--- whether it is Black's time that runs. That isn't known after a press, until a time goes down
+-- whether it is Black's time that runs. That isn't known after a press, until a time goes down; nor after a time in which the board
+-- wasn't heard, until its clock says something
 abbrev pub counting_by : Heard → Option Bool → Option Bool
 counting_by (Counts black) before = Some black
 counting_by Presses before = None
-counting_by (Away gap) before = None
 counting_by (Clock runs) before = if runs then before else None
 counting_by other before = before
 
 abbrev pub counting : List Event → Option Bool
 counting [] = None
 counting (event ∷ past) = counting_by event.what (counting past)
+
+abbrev pub known_counting : List Event → Option Bool
+known_counting past = if is_unheard past then None else counting past
 
 abbrev pub is_other : Bool → Bool → Bool
 is_other one other = if one then not other else other
@@ -27,7 +31,7 @@ lent_by other added counts before = before
 
 abbrev pub lent : List Event → List Bool
 lent [] = []
-lent (event ∷ past) = lent_by event.what event.is_added (counting past) (lent past)
+lent (event ∷ past) = lent_by event.what event.is_added (known_counting past) (lent past)
 
 -- Of the last eight plies seven or more were thought about on the other side's time.
 abbrev pub are_most_lent : List Bool → Bool
@@ -35,4 +39,4 @@ are_most_lent plies = nat_le 7 (count_by (λ one. one) (take pace_of plies))
 
 -- With this ply they are, and before it they weren't.
 abbrev pub is_exchanged : Heard → List Event → Bool
-is_exchanged what past = are_most_lent (lent_by what false (counting past) (lent past)) && not (are_most_lent (lent past))
+is_exchanged what past = are_most_lent (lent_by what false (known_counting past) (lent past)) && not (are_most_lent (lent past))

@@ -19,6 +19,10 @@ goes_straight kind = (kind == 2) || (kind == 6)
 abbrev pub goes_aslant : ℕ → Bool
 goes_aslant kind = (kind == 4) || (kind == 6)
 
+-- A line of ranks and files leads so far, or an oblique one.
+abbrev pub is_line : ℕ → ℕ → Bool
+is_line ranks files = ((ranks == 0) || (files == 0)) || (ranks == files)
+
 abbrev pub is_jump : ℕ → ℕ → Bool
 is_jump ranks files = ((ranks == 1) && (files == 2)) || ((ranks == 2) && (files == 1))
 

@@ -3,20 +3,23 @@ ghost use Rattle.std.specs.Prelude.{◌≡◌, ◌/◌, ◌&&◌, ◌||◌, ◌�
 ghost use Rattle.board_doubts.specs.declared.heard.Event.{Event as EventOf};
 ghost use Rattle.board_doubts.specs.declared.heard.Heard.TheVariants.{Agrees, Shows};
 ghost use Rattle.board_doubts.specs.declared.heard.Seen.{Seen as SeenOf};
-ghost use Rattle.board_doubts.specs.Doubts.{begun_by, doubt_by, doubt_of, doubted as doubted_of, hides as hides_of, is_on as is_on_of, may_be_played as may_be_played_of, is_recent as is_recent_of, is_unhurried as is_unhurried_of, may_hide as may_hide_of, over_by, passing as passing_of, repeats_by, soon, takes_back as takes_back_of, unhurried as unhurried_of, was_passed as was_passed_of, why_agrees as why_agrees_of, why_by, why_corrects as why_corrects_of, why_moves as why_moves_of, why_played as why_played_of};
+ghost use Rattle.board_doubts.specs.Doubts.{begun_by, doubt_by, doubt_of, doubted as doubted_of, has_room as has_room_of, hides as hides_of, is_odd as is_odd_of, is_on as is_on_of, may_be_played as may_be_played_of, is_recent as is_recent_of, is_unhurried as is_unhurried_of, may_hide as may_hide_of, over_by, passing as passing_of, takes_back as takes_back_of, was_passed as was_passed_of, why_agrees as why_agrees_of, why_by, why_corrects as why_corrects_of, why_moves as why_moves_of, why_played as why_played_of, why_shows as why_shows_of};
 ghost use Rattle.board_doubts.specs.Pace.{last_within};
 ghost use Rattle.board_doubts.specs.Plies.{both_back, played, played_by};
 ghost use Rattle.board_doubts.specs.Recent.{since_news};
+ghost use Rattle.board_doubts.specs.Silent.{is_pair as is_pair_of, pending as pending_of, repeats_by, soon, suspected as suspected_of};
 ghost use Rattle.board_doubts.specs.Waiting.{moved_by, ply_times, times_by};
 ghost use Rattle.board_doubts.specs.Keeping.{KeepsPace, KeepsRecent, StandsFor};
 
 use crate::heard::{Doubt, Event, Heard, Place, Seen, Why};
-use crate::logic::either;
-use crate::pace::Pace;
-use crate::plies::Plies;
-use crate::presses::Presses;
+use crate::logic::{both, either};
+use crate::pace::{Pace, QUICKEST};
+use crate::plies::{Plies, pair_after};
+use crate::presses::{Presses, is_press, known};
 use crate::recent::{Recent, is_news};
+use crate::silent::{pending_after, silent, suspects};
 use crate::thinking::Thinking;
+use crate::unheard::unheard_after;
 use crate::waited::Waited;
 use square_runs::lasted;
 
@@ -26,14 +29,17 @@ const LATE: u64 = 10_000;
 /// A piece that is drawn over a square leaves it within this.
 const PASSES: u64 = 150;
 
-/// A piece is taken back within this once the other side's was.
+/// In a gap this long plies may have been made, whatever the pace.
+const SILENT: u64 = 5_000;
+
+/// A piece is moved within this once the other side's was.
 const SOON: u64 = 3_000;
 
-/// Unhurried players need longer than this for more than half of their plies, with a clock.
-const UNHURRIED: u64 = 1_500;
+/// Before plies are taken back, players stop to think for longer than this.
+const PAUSE: u64 = 2_000;
 
-/// Without one.
-const UNHURRIED_UNCLOCKED: u64 = 6_000;
+/// Unhurried players without a clock need longer than this for more than half of their plies.
+const UNHURRIED: u64 = 6_000;
 
 /// Takes what is heard of a board and its game, and says what somebody must look at.
 #[derive(Clone, Copy)]
@@ -45,12 +51,18 @@ pub struct Doubts {
     plies: Plies,
     presses: Presses,
     thinking: Thinking,
+    /// The clock has said nothing since the board wasn't heard for a time.
+    is_unheard: bool,
     has_moved: bool,
     has_begun: bool,
     is_over: bool,
     has_repeated: bool,
+    /// How many plies of a pair that is put in are still to come.
+    pair: u64,
     /// When a move was made that is doubted if the piece that had moved before it leaves at once.
     passing: Option<u64>,
+    /// What the last ply is doubted for if nobody turns out to have pressed.
+    pending: Option<Why>,
 }
 
 fn moved_after(what: Heard, before: bool) -> bool
@@ -77,7 +89,7 @@ fn over_after(what: Heard, before: bool) -> bool
 {
     match what {
         Heard::Ends => true,
-        Heard::Reopens | Heard::Moves { .. } | Heard::Corrects { .. } => false,
+        Heard::Reopens | Heard::PutsIn | Heard::Moves { .. } | Heard::Corrects { .. } => false,
         _ => before,
     }
 }
@@ -123,27 +135,24 @@ fn time_for(one: bool, lasted: u64) -> u64
     if one { lasted } else { lasted / 2 }
 }
 
-/// Whether plies that fit may be hidden, if a position was repeated, and the recorder was away.
-fn may_be_hidden(fits: bool, has_repeated: bool, is_restart: bool) -> bool
-    ensures { result ≡ (fits && (has_repeated || not is_restart)) }
+/// Whether plies may be hidden where they have room, if a position was repeated, and the recorder was away.
+fn may_be_hidden(has_room: bool, has_repeated: bool, is_restart: bool) -> bool
+    ensures { result ≡ (has_room && (has_repeated || not is_restart)) }
 {
-    fits && (has_repeated || !is_restart)
-}
-
-fn unhurried(is_clocked: bool) -> u64
-    ensures { result ≡ unhurried_of is_clocked }
-{
-    if is_clocked {
-        UNHURRIED
-    } else {
-        UNHURRIED_UNCLOCKED
-    }
+    has_room && (has_repeated || !is_restart)
 }
 
 fn is_recent(now: u64, at: Option<u64>) -> bool
     ensures { result ≡ is_recent_of now at }
 {
     at.is_some() && !lasted(PASSES, now, at)
+}
+
+/// What a ply is suspected for, unless an arbiter has added it.
+fn unless_added(is_added: bool, suspected: Option<Why>) -> Option<Why>
+    ensures { result ≡ (if is_added then None else suspected) }
+{
+    if is_added { None } else { suspected }
 }
 
 fn doubted(place: Place, why: Option<Why>) -> Option<Doubt>
@@ -167,11 +176,14 @@ impl Doubts {
             plies: Plies::new(),
             presses: Presses::new(),
             thinking: Thinking::new(),
+            is_unheard: false,
             has_moved: false,
             has_begun: false,
             is_over: false,
             has_repeated: false,
+            pair: 0,
             passing: None,
+            pending: None,
         }
     }
 
@@ -183,17 +195,24 @@ impl Doubts {
         let why = self.why(event);
         let doubt = self.doubt(event, why);
         let time = self.waited.until(event.at);
+        let is_press = is_press(event.what, self.thinking.counting());
+        let is_quick = self.pace.was_within(QUICKEST);
+        let pending = self.pending_after(event);
         self.passing = self.passing_after(event, why);
+        self.pending = pending;
         carry_on(&mut self.recent, event);
         keep_pace(&mut self.pace, event.what, self.has_moved, time);
         self.waited.take(event);
         self.plies = self.plies.after(event.what);
-        self.presses.take(event);
-        self.thinking.take(event);
+        self.presses
+            .take(event, is_press, self.is_unheard, is_quick);
+        self.thinking.take(event, self.is_unheard);
+        self.is_unheard = unheard_after(event.what, self.is_unheard);
         self.has_moved = moved_after(event.what, self.has_moved);
         self.has_begun = begun_after(event.what, self.has_begun);
         self.is_over = over_after(event.what, self.is_over);
         self.has_repeated = repeated_after(event.what, self.has_repeated);
+        self.pair = pair_after(event.what, self.pair);
         doubt
     }
 
@@ -206,6 +225,7 @@ impl Doubts {
     {
         let why = self.why_shows(seen.was_drawn, at);
         self.passing = None;
+        self.pending = if self.is_unheard { self.pending } else { None };
         self.recent.see(at, is_added, seen);
         self.waited.see(at, is_added, seen);
         if is_added {
@@ -258,10 +278,13 @@ impl Doubts {
     /// Why the last move is doubted when a picture is seen, if the piece that had moved before isn't where it belonged then.
     fn why_shows(&self, was_drawn: bool, now: u64) -> Option<Why>
         ensures { (seen : SeenOf) (past : List EventOf) → seen.was_drawn ≡ was_drawn → StandsFor self.now past
-            → result ≡ (if was_passed_of seen now past then Some Why.BothElsewhere else None) }
+            → result ≡ why_shows_of seen now past }
     {
         if was_drawn && is_recent(now, self.passing) {
-            Some(Why::BothElsewhere)
+            return Some(Why::BothElsewhere);
+        }
+        if self.is_on() {
+            silent(known(self.is_unheard, self.presses.quiet()), self.pending)
         } else {
             None
         }
@@ -293,6 +316,7 @@ impl Doubts {
             Heard::Moves { .. } => self.why_moves(),
             Heard::Agrees => self.why_agreement(),
             Heard::Plays(_) | Heard::Replaces(_) => self.why_played(event.what),
+            Heard::Clock { .. } => silent(self.presses.quiet(), self.pending),
             _ => None,
         }
     }
@@ -346,40 +370,71 @@ impl Doubts {
         if self.takes_back(what) {
             return Some(Why::TakenBack);
         }
-        if self.presses.is_left(what) {
+        if self.presses.is_left(what, self.pace.was_within(QUICKEST)) {
             return Some(Why::Unpressed);
         }
-        if self.thinking.is_exchanged(what) {
+        if self.thinking.is_exchanged(what, self.is_unheard) {
             Some(Why::OtherTime)
         } else {
             None
         }
     }
 
-    /// Whether both sides have taken plies back at once.
+    /// Whether both sides have taken plies back, oddly or by a pair that is put in.
     fn takes_back(&self, what: Heard) -> bool
         ensures { (past : List EventOf) → StandsFor self.now past → result ≡ takes_back_of what past }
     {
-        let is_clocked = self.presses.is_used();
-        let is_pressed = is_clocked && self.presses.was_between(what);
-        let is_unhurried = self.is_unhurried(is_clocked);
-        self.are_back(what) && is_unhurried && !is_pressed
+        let are_back = self.plies.after(what).both_back();
+        both(are_back, either(self.pair == 1, self.is_odd()))
     }
 
-    /// Whether they have, the second one soon after the first.
-    fn are_back(&self, what: Heard) -> bool
-        ensures { (past : List EventOf) → StandsFor self.now past
-            → result ≡ (both_back (played_by what (played past)) && last_within soon (ply_times past)) }
+    /// Whether the last ply was made soon, by unhurried players without a clock.
+    fn is_odd(&self) -> bool
+        ensures { (past : List EventOf) → StandsFor self.now past → result ≡ is_odd_of past }
     {
+        self.pace.was_within(SOON) && (self.is_unhurried() && !self.presses.is_used())
+    }
+
+    /// What the last ply is doubted for after this is heard, if nobody turns out to have pressed.
+    fn pending_after(&self, event: Event) -> Option<Why>
+        ensures { (past : List EventOf) → StandsFor self.now past → result ≡ pending_of (event ∷ past) }
+    {
+        let suspected = unless_added(event.is_added, self.suspected(event.what));
+        pending_after(event.what, self.is_unheard, suspected, self.pending)
+    }
+
+    /// What a ply is doubted for if nobody turns out to have pressed.
+    fn suspected(&self, what: Heard) -> Option<Why>
+        ensures { (past : List EventOf) → StandsFor self.now past → result ≡ suspected_of what past }
+    {
+        if !self.presses.is_used() {
+            return None;
+        }
         let plies = self.plies.after(what);
-        plies.both_back() && self.pace.was_within(SOON)
+        let is_pair = self.is_pair();
+        let again = both(self.has_repeated, self.pace.took_longer_at_first(PAUSE));
+        suspects(
+            both(is_pair, plies.both_back()),
+            both(is_pair, plies.both_further()),
+            again,
+        )
+    }
+
+    /// Whether the last ply was made soon after the one before, and that after a pause.
+    fn is_pair(&self) -> bool
+        ensures { (past : List EventOf) → StandsFor self.now past → result ≡ is_pair_of (ply_times past) }
+    {
+        both(
+            self.pace.was_within(SOON),
+            self.pace.took_longer_before(PAUSE),
+        )
     }
 
     /// Whether the players need long for more than half of their plies.
-    fn is_unhurried(&self, is_clocked: bool) -> bool
-        ensures { (past : List EventOf) → StandsFor self.now past → result ≡ is_unhurried_of is_clocked past }
+    fn is_unhurried(&self) -> bool
+        ensures { (past : List EventOf) → StandsFor self.now past → result ≡ is_unhurried_of past }
     {
-        !self.pace.is_half_within(unhurried(is_clocked))
+        !self.pace.is_half_within(UNHURRIED)
     }
 
     /// Whether plies may be hidden in the gap since the last news.
@@ -396,9 +451,17 @@ impl Doubts {
     fn may_hide(&self, is_move: bool, lasted: u64) -> bool
         ensures { (past : List EventOf) → StandsFor self.now past → result ≡ may_hide_of is_move lasted past }
     {
+        let has_room = self.has_room(is_move, lasted);
+        may_be_hidden(has_room, self.has_repeated, self.recent.is_restart())
+    }
+
+    /// Whether there was time for plies.
+    fn has_room(&self, is_move: bool, lasted: u64) -> bool
+        ensures { (past : List EventOf) → StandsFor self.now past → result ≡ has_room_of is_move lasted past }
+    {
         let one = either(is_move, self.has_repeated);
         let fits = self.pace.fits(time_for(one, lasted));
-        may_be_hidden(fits, self.has_repeated, self.recent.is_restart())
+        either(SILENT <= lasted, fits)
     }
 
     /// When the last move was made, if it is doubted once the piece that had moved before it leaves at once.

@@ -56,8 +56,10 @@ pub enum Heard {
     Agrees,
     /// News: a result, which ends the game.
     Ends,
-    /// News: the result doesn't count, or plies that no picture showed are put in.
+    /// News: the result doesn't count.
     Reopens,
+    /// A pair of plies that no picture showed is put in: their news follow. What pictures showed before belongs to it.
+    PutsIn,
     /// Somebody is to put the pieces where they belong: plies were taken off, or a game is taken up.
     PutsBack,
     /// The board is heard again after a time.
@@ -98,6 +100,10 @@ pub enum Why {
     Unpressed,
     /// Plies are thought about on the other side's time: the clock's sides may be read the wrong way.
     OtherTime,
+    /// Both sides have moved on the pieces that they moved before, and nobody presses the clock.
+    MovedOn,
+    /// A position is there again, and nobody presses the clock.
+    Returned,
 }
 
 /// Where moves may be missing.

@@ -1,5 +1,5 @@
 //! What holds of each history. Each law is the contract of a function, which does nothing.
-ghost use Rattle.board_doubts.specs.Laws.{HandsOffPasses, NoPawnCounts, OnlyBackIsTakenBack, OnlyWhileStopped, OwnTimePasses, PressedPlyPasses, QuickCorrectionPasses, ReturnCounts, RunningClockPasses, SecondMoveIsTried, ShortGapPasses, SixthPlyIsDoubted, StaysDoubtful, UndoubtedCorrection, UndoubtedMove};
+ghost use Rattle.board_doubts.specs.Laws.{ClockIsKnownAgain, HandsOffPasses, NoPawnCounts, OnlyBackIsTakenBack, OnlyWhileStopped, OwnTimePasses, PairBackIsDoubted, PressedPlyPasses, QuickCorrectionPasses, ReturnCounts, RunningClockPasses, SecondMoveIsTried, ShortGapPasses, SilenceIsDoubted, SilentReplacementIsDoubted, SixthPlyIsDoubted, StaysDoubtful, UndoubtedCorrection, UndoubtedMove};
 
 /// What is doubtful stays so, whatever comes later.
 pub fn stays_doubtful()
@@ -31,6 +31,16 @@ pub fn undoubted_move()
     ensures { UndoubtedMove }
 {}
 
+/// A pair that takes both sides' last plies back is never passed over.
+pub fn pair_back_is_doubted()
+    ensures { PairBackIsDoubted }
+{}
+
+/// A time in which the row said SILENT is never passed over.
+pub fn silence_is_doubted()
+    ensures { SilenceIsDoubted }
+{}
+
 /// While the clock runs, no move is made while it is stopped.
 pub fn running_clock_passes()
     ensures { RunningClockPasses }
@@ -46,9 +56,14 @@ pub fn second_move_is_tried()
     ensures { SecondMoveIsTried }
 {}
 
-/// While players press the clock after each ply, no ply is doubted as unpressed or as taken back.
+/// While players press the clock for each ply, no ply is doubted for want of a press.
 pub fn pressed_ply_passes()
     ensures { PressedPlyPasses }
+{}
+
+/// Pieces that both sides put elsewhere while nobody presses the clock are doubted.
+pub fn silent_replacement_is_doubted()
+    ensures { SilentReplacementIsDoubted }
 {}
 
 /// While the clock runs and nobody presses it, the sixth ply is doubted.
@@ -59,6 +74,11 @@ pub fn sixth_ply_is_doubted()
 /// Only a ply that takes another one back is doubted as taken back.
 pub fn only_back_is_taken_back()
     ensures { OnlyBackIsTakenBack }
+{}
+
+/// What was known of the clock is known on after a time in which the board wasn't heard, if the clock goes on as before.
+pub fn clock_is_known_again()
+    ensures { ClockIsKnownAgain }
 {}
 
 /// While players think on their own time, no ply is doubted for that.

@@ -1,10 +1,10 @@
 //! How long the last plies took.
 ghost use Rattle.std.specs.Prelude.{◌≡◌, ◌≤◌, ◌*◌, ◌==◌, ◌&&◌, ◌∷◌, [], ℕ, List, count_by, is_some, nat_le, take, if◌then◌else◌};
-ghost use Rattle.board_doubts.specs.Pace.{fits_by, half_within, last_within, pace_of, quickest, usual};
-ghost use Rattle.board_doubts.specs.Keeping.{KeepsPace, is_within as is_within_of};
+ghost use Rattle.board_doubts.specs.Pace.{fits_by, half_within, last_within, pace_of, quickest, took_longer, usual};
+ghost use Rattle.board_doubts.specs.Keeping.{KeepsPace, is_longer as is_longer_of, is_within as is_within_of};
 
 /// A ply takes at least this, in milliseconds.
-const QUICKEST: u64 = 1_000;
+pub const QUICKEST: u64 = 1_000;
 
 /// It takes this if no ply's time is known.
 const USUAL: u64 = 3_000;
@@ -22,6 +22,16 @@ fn is_within(time: u64, ply: Option<u64>) -> bool
     match ply {
         None => false,
         Some(ply) => ply <= time,
+    }
+}
+
+/// Whether a ply took longer than this.
+fn is_longer(time: u64, ply: Option<u64>) -> bool
+    ensures { result ≡ is_longer_of time ply }
+{
+    match ply {
+        None => false,
+        Some(ply) => time < ply,
     }
 }
 
@@ -98,6 +108,20 @@ impl Pace {
         ensures { (times : List ℕ) → KeepsPace self.now times → result ≡ last_within time times }
     {
         is_within(time, self.last[0])
+    }
+
+    /// Whether the ply before the last one took longer than this.
+    pub fn took_longer_before(&self, time: u64) -> bool
+        ensures { (times : List ℕ) → KeepsPace self.now times → result ≡ took_longer time 1 times }
+    {
+        is_longer(time, self.last[1])
+    }
+
+    /// Whether the first of the last four did.
+    pub fn took_longer_at_first(&self, time: u64) -> bool
+        ensures { (times : List ℕ) → KeepsPace self.now times → result ≡ took_longer time 3 times }
+    {
+        is_longer(time, self.last[3])
     }
 
     /// Whether half of the plies took no longer than this, or more of them.

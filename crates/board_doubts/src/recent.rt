@@ -82,12 +82,13 @@ fn touched_after(what: Heard, away: bool, before: bool) -> bool
     }
 }
 
-/// Takes the picture that is shown, if one is.
+/// Takes the picture that is shown, if one is. Those before a pair that is put in belong to the pair.
 fn show(since: &mut Since, at: u64, first: bool, what: Heard)
     ensures { (past : List Laid) → KeepsSince since.old past → KeepsSince since.new (with_picture what at first past) }
 {
     match what {
         Heard::Shows(seen) => since.show(at, first, &seen),
+        Heard::PutsIn => since.clear(),
         _ => {}
     }
 }

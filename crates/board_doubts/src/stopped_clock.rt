@@ -8,6 +8,7 @@ ghost use Rattle.board_doubts.specs.Keeping.{ClockStandsFor};
 
 use crate::heard::{Event, Heard};
 use crate::logic::one_more;
+use crate::unheard::unheard_after;
 use square_runs::{carried, lasted};
 
 /// In the low four bits of a byte: the message acknowledges a command to the clock.
@@ -55,6 +56,8 @@ pub fn runs(bytes: &[u8; 7]) -> Option<bool>
 pub struct StoppedClock {
     has_run: bool,
     stands_since: Option<u64>,
+    /// It has said nothing since the board wasn't heard for a time.
+    is_unheard: bool,
     tried: u64,
     ago: u64,
 }
@@ -68,12 +71,12 @@ fn run_after(what: Heard, before: bool) -> bool
     }
 }
 
-fn stands_after(what: Heard, at: u64, since: Option<u64>) -> Option<u64>
-    ensures { result ≡ stands_by what at since }
+fn stands_after(what: Heard, at: u64, is_unheard: bool, since: Option<u64>) -> Option<u64>
+    ensures { result ≡ stands_by what at is_unheard since }
 {
     match what {
         Heard::Clock { runs } => if runs { None } else { carried(true, at, since) },
-        Heard::Away(_) => None,
+        Heard::Presses | Heard::Counts { .. } => if is_unheard { None } else { since },
         _ => since,
     }
 }
@@ -125,6 +128,7 @@ impl StoppedClock {
         StoppedClock {
             has_run: false,
             stands_since: None,
+            is_unheard: false,
             tried: 0,
             ago: 0,
         }
@@ -141,7 +145,8 @@ impl StoppedClock {
         self.ago = ago_after(event.what, event.is_added, is_none, self.ago);
         self.tried = tried_after(event.what, event.is_added, is_stopped, self.tried);
         self.has_run = run_after(event.what, self.has_run);
-        self.stands_since = stands_after(event.what, event.at, since);
+        self.stands_since = stands_after(event.what, event.at, self.is_unheard, since);
+        self.is_unheard = unheard_after(event.what, self.is_unheard);
         let is_after = was_made_after(is_none, event.at, since);
         self.tries(event, is_stopped && is_after)
     }
@@ -150,7 +155,7 @@ impl StoppedClock {
     fn is_stopped(&self) -> bool
         ensures { (past : List EventOf) → ClockStandsFor self.now past → result ≡ is_stopped_of past }
     {
-        self.has_run && self.stands_since.is_some()
+        self.has_run && self.stands_since.is_some() && !self.is_unheard
     }
 
     /// What is counted, if this is a move, and moves are made while the clock is stopped.

@@ -1,8 +1,9 @@
 //! On whose time players think.
-ghost use Rattle.std.specs.Prelude.{◌≡◌, ◌∷◌, [], Bool, List, count_by};
+ghost use Rattle.std.specs.Prelude.{◌≡◌, ◌∷◌, [], Bool, List, None, count_by, if◌then◌else◌};
 ghost use Rattle.board_doubts.specs.declared.heard.Event.{Event as EventOf};
 ghost use Rattle.board_doubts.specs.Pace.{pace_of};
-ghost use Rattle.board_doubts.specs.Thinking.{are_most_lent, counting_by, is_exchanged as is_exchanged_of, is_other as is_other_of, lent_by};
+ghost use Rattle.board_doubts.specs.Thinking.{are_most_lent, counting as counting_of, counting_by, is_exchanged as is_exchanged_of, is_other as is_other_of, lent_by};
+ghost use Rattle.board_doubts.specs.Unheard.{is_unheard as is_unheard_of};
 ghost use Rattle.board_doubts.specs.Keeping.{KeepsThinking, filled};
 
 use crate::heard::{Event, Heard};
@@ -25,16 +26,23 @@ fn counting_after(what: Heard, before: Option<bool>) -> Option<bool>
 {
     match what {
         Heard::Counts { black } => Some(black),
-        Heard::Presses | Heard::Away(_) => None,
+        Heard::Presses => None,
         Heard::Clock { runs } => if runs { before } else { None },
         _ => before,
     }
 }
 
-fn is_other(one: bool, other: bool) -> bool
+pub fn is_other(one: bool, other: bool) -> bool
     ensures { result ≡ is_other_of one other }
 {
     if one { !other } else { other }
+}
+
+/// What is known while the clock is heard, or isn't.
+fn known(is_unheard: bool, counting: Option<bool>) -> Option<bool>
+    ensures { result ≡ (if is_unheard then None else counting) }
+{
+    if is_unheard { None } else { counting }
 }
 
 /// With one ply more.
@@ -79,19 +87,28 @@ impl Thinking {
         }
     }
 
-    /// Takes what is heard.
-    pub fn take(&mut self, event: Event)
-        ensures { (past : List EventOf) → KeepsThinking self.old past → KeepsThinking self.new (event ∷ past) }
+    /// Whose time has gone down last.
+    pub fn counting(&self) -> Option<bool>
+        ensures { (past : List EventOf) → KeepsThinking self.now past → result ≡ counting_of past }
     {
-        self.lent = lent_after(event.what, event.is_added, self.counting, self.lent);
+        self.counting
+    }
+
+    /// Takes what is heard, where the clock wasn't heard before, or was.
+    pub fn take(&mut self, event: Event, is_unheard: bool)
+        ensures { (past : List EventOf) → is_unheard ≡ is_unheard_of past → KeepsThinking self.old past → KeepsThinking self.new (event ∷ past) }
+    {
+        let counting = known(is_unheard, self.counting);
+        self.lent = lent_after(event.what, event.is_added, counting, self.lent);
         self.counting = counting_after(event.what, self.counting);
     }
 
     /// Whether with this ply seven of the last eight were thought about on the other side's time, and before it not so many.
-    pub fn is_exchanged(&self, what: Heard) -> bool
-        ensures { (past : List EventOf) → KeepsThinking self.now past → result ≡ is_exchanged_of what past }
+    pub fn is_exchanged(&self, what: Heard, is_unheard: bool) -> bool
+        ensures { (past : List EventOf) → is_unheard ≡ is_unheard_of past → KeepsThinking self.now past → result ≡ is_exchanged_of what past }
     {
-        let lent = lent_after(what, false, self.counting, self.lent);
+        let counting = known(is_unheard, self.counting);
+        let lent = lent_after(what, false, counting, self.lent);
         let are = are_most(&lent);
         let were = are_most(&self.lent);
         both(are, !were)

@@ -1,6 +1,6 @@
 //! How pieces go on an empty board.
 ghost use Rattle.std.specs.Prelude.{◌≡◌, ◌==◌, ◌&&◌, ◌||◌};
-ghost use Rattle.board_doubts.specs.Ways.{can_go as can_go_of, files as files_of, goes as goes_of, goes_aslant as goes_aslant_of, goes_straight as goes_straight_of, is_jump as is_jump_of, is_step as is_step_of, kind_of, ranks as ranks_of};
+ghost use Rattle.board_doubts.specs.Ways.{can_go as can_go_of, files as files_of, goes as goes_of, goes_aslant as goes_aslant_of, goes_straight as goes_straight_of, is_jump as is_jump_of, is_line as is_line_of, is_step as is_step_of, kind_of, ranks as ranks_of};
 
 use crate::logic::{both, either};
 
@@ -43,6 +43,21 @@ fn goes_aslant(kind: u8) -> bool
     ensures { result ≡ goes_aslant_of kind }
 {
     either(kind == BISHOP, kind == QUEEN)
+}
+
+/// Whether a line of ranks and files leads so far, or an oblique one.
+fn is_line(ranks: u8, files: u8) -> bool
+    ensures { result ≡ is_line_of ranks files }
+{
+    let straight = either(ranks == 0, files == 0);
+    either(straight, ranks == files)
+}
+
+/// Whether a line leads from one square to the other.
+pub fn are_on_line(from: u8, to: u8) -> bool
+    ensures { result ≡ is_line_of (ranks_of from to) (files_of from to) }
+{
+    is_line(ranks(from, to), files(from, to))
 }
 
 fn is_jump(ranks: u8, files: u8) -> bool

@@ -128,7 +128,7 @@ impl Judging {
     fn show(&mut self, at: u64, bytes: u64, shown: Shown) -> Result<(), AllocError>
         ensures { (past : List EventOf) → HasJudged self.old past → OnOk result (HasJudged self.new (happens at bytes (Shows shown) ∷ past)) }
     {
-        if self.ending.show(shown) {
+        if self.ending.show(at, shown) {
             return Ok(());
         }
         self.take(Event {

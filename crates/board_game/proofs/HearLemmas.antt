@@ -8,10 +8,10 @@ use Rattle.board_events.specs.Settings.{Setting}
 use Rattle.pair_frames.specs.PutIn.{ShowsWhole, put_in, time_put_in}
 use Rattle.recovery.specs.Weaving.{TellsRecovered}
 use Rattle.recovery.specs.Inside.Passing.{Adds as AddsPair, added}
-use Rattle.board_game.specs.declared.chunk.Chunk.{Chunk}
+use Rattle.board_alarms.specs.declared.chunk.Chunk.{Chunk}
 use Rattle.board_game.specs.declared.following.Following.{Following}
 use Rattle.board_game.specs.declared.telling.Teller.{Teller}
-use Rattle.board_game.specs.History.{Finds, Item, Pair, Sent, events_of, with_events, with_found}
+use Rattle.board_game.specs.History.{Finds, Item, Pair, Sent, events_of, put_in_with, with_events, with_found}
 use Rattle.board_game.specs.Inside.Telling.{HasFollowed, HasKept, HasTold, KeepsEvent}
 use Rattle.board_game.proofs.ItemLemmas.{events_found}
 use Rattle.board_game.proofs.PlainLemmas.{ShowsOnce}
@@ -65,7 +65,7 @@ put_by : (following : Following) (teller mid : Teller) (setting : Setting) (reco
     (frames line lines told_lines pair_lines lines' : List ℕ) (found : Option Recovery) → Finds setting recovers past x.event found
     → HasKept following.keeper setting recovers (x.event ∷ past) (added setting past x.event found (events_of items)) → AddsPair setting (x.event ∷ past) x.offset found frames line
     → (frames ≡ [] → ⊥) → told_lines ≡ lines ++ more → HasTold teller setting (Sent time x ∷ items) (text ++ more) → pair_lines ≡ told_lines ++ line
-    → NotesPair teller mid time → PutsIn mid following.teller time x.offset frames pair_lines lines'
+    → NotesPair teller mid time → PutsIn mid following.teller (put_in_with time) x.offset frames pair_lines lines'
     → TellsWith following setting recovers past items text time x lines lines'
 put_by following teller mid setting recovers past items text more time x frames line lines told_lines pair_lines lines' None finds keeps adds some lines_are told pair_are notes puts =
     absurd (some adds.0)
@@ -90,7 +90,7 @@ put_by following teller mid setting recovers past items text more time x frames 
 pub tells_put : (following : Following) (teller mid : Teller) (setting : Setting) (recovers : Bool) (past : List Event) (items : List Item) (text more : List ℕ) (time : Chunk) (offset : ℕ) (event : Event)
     (frames line lines told_lines pair_lines lines' : List ℕ) → KeepsEvent following.keeper setting recovers past (events_of items) offset event frames line
     → (frames ≡ [] → ⊥) → told_lines ≡ lines ++ more → HasTold teller setting (Sent time (record { offset = offset; event = event }) ∷ items) (text ++ more)
-    → pair_lines ≡ told_lines ++ line → NotesPair teller mid time → PutsIn mid following.teller time offset frames pair_lines lines'
+    → pair_lines ≡ told_lines ++ line → NotesPair teller mid time → PutsIn mid following.teller (put_in_with time) offset frames pair_lines lines'
     → TellsWith following setting recovers past items text time (record { offset = offset; event = event }) lines lines'
 tells_put following teller mid setting recovers past items text more time offset event frames line lines told_lines pair_lines lines' k some lines_are told pair_are notes puts =
     put_by following teller mid setting recovers past items text more time (record { offset = offset; event = event }) frames line lines told_lines pair_lines lines' k.found k.finds k.keeps k.adds

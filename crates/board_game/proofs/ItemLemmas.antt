@@ -6,10 +6,10 @@ use Rattle.dgt_frame.specs.Streams.{Timed}
 use Rattle.unseen_pairs.specs.declared.pair.Recovery.{Recovery}
 use Rattle.board_events.specs.Entries.{entry_at}
 use Rattle.board_events.specs.Settings.{Setting}
-use Rattle.board_game.specs.declared.chunk.Chunk.{Chunk}
+use Rattle.board_alarms.specs.declared.chunk.Chunk.{Chunk}
 use Rattle.pair_frames.specs.PutIn.{put_in}
 use Rattle.recovery.specs.Inside.Passing.{added}
-use Rattle.board_game.specs.History.{Item, Pair, Sent, events_of, with_events, with_found}
+use Rattle.board_game.specs.History.{Item, Pair, Sent, events_of, put_in_with, with_events, with_found}
 
 events_with : (time : Chunk) (offset : ℕ) (events : List Event) (items : List Item) → events_of (with_events time offset events items) ≡ reverse events ++ events_of items
 events_with time offset [] items = refl
@@ -22,7 +22,7 @@ events_with time offset (event ∷ events) items =
 pub events_found : (setting : Setting) (past : List Event) (time : Chunk) (x : Timed) (found : Option Recovery) (items : List Item)
     → events_of (with_found setting past time x found items) ≡ added setting past x.event found (events_of items)
 events_found setting past time x None items = refl
-events_found setting past time x (Some r) items = events_with time x.offset
+events_found setting past time x (Some r) items = events_with (put_in_with time) x.offset
     (put_in setting.first setting.rotated (entry_at setting.first setting.rotated (x.event ∷ past)) r) (Pair time x.offset r ∷ Sent time x ∷ items)
 
 -- one event more behind others

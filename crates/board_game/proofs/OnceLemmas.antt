@@ -19,7 +19,7 @@ use Rattle.board_events.specs.History.{picture_of}
 use Rattle.board_events.specs.Session.{entries_in}
 use Rattle.board_events.specs.Settings.{Setting}
 use Rattle.board_events.proofs.GameLemmas.{one_result}
-use Rattle.board_game.specs.declared.chunk.Chunk.{Chunk}
+use Rattle.board_alarms.specs.declared.chunk.Chunk.{Chunk}
 use Rattle.board_listing.specs.GameText.{HasResult, reached_by}
 use Rattle.board_standing.specs.declared.heard.Event.{Event as Told}
 use Rattle.board_standing.specs.declared.heard.Heard.{Heard}

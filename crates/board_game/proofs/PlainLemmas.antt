@@ -5,7 +5,7 @@ use Rattle.dgt_frame.specs.declared.events.Event.{Event}
 use Rattle.dgt_frame.specs.Streams.{Shows, Timed}
 use Rattle.board_events.specs.Commands.{past_of}
 use Rattle.board_events.specs.Settings.{Setting}
-use Rattle.board_game.specs.declared.chunk.Chunk.{Chunk}
+use Rattle.board_alarms.specs.declared.chunk.Chunk.{Chunk}
 use Rattle.board_listing.specs.GivenGame.{GameLine, text_of}
 use Rattle.board_listing.specs.WatchLines.{position_words}
 use Rattle.board_listing.specs.WatchText.{Watches, WatchesEvent, line_with}

@@ -33,13 +33,13 @@ use Rattle.board_standing.specs.declared.state.Hint.TheVariants.{TurnedRound, Ot
 use Rattle.board_standing.specs.declared.state.Kind.{Kind}
 use Rattle.board_standing.specs.declared.state.Kind.TheVariants.{Waits, Agrees, Ended, InHand, Wrong, NoStart, SettingUp, Silent, Unplugged}
 use Rattle.pair_frames.specs.PutIn.{put_in}
-use Rattle.board_game.specs.declared.chunk.Chunk.{Chunk}
+use Rattle.board_alarms.specs.declared.chunk.Chunk.{Chunk}
 use Rattle.board_game.specs.declared.note.Note.{Note}
 use Rattle.board_game.specs.declared.note.Note.TheVariants.{Line, Looked, PutsBack, Reopens as IsReopened, Passes, Resumes, Suspects}
 use Rattle.board_game.specs.Alarming.{AlarmsAre, alarm_items, news_of, of_line, with_news}
 use Rattle.board_game.specs.Ending.{IsEndDueOf, IsEndOf, bytes_with, end_items, end_news, end_of_line, with_end_news}
 use Rattle.board_game.specs.Hearing.{Hears, HearsEvent, HearsPicture, HearsResult, IsHeard, heard_of, with_heard}
-use Rattle.board_game.specs.History.{Adds, AreShown, Bytes, Came, Item, Makes, News, Noted, Pair, Sent, bytes_of, chunk_of, events_of, with_events, with_found}
+use Rattle.board_game.specs.History.{Adds, AreShown, Bytes, Came, Item, Makes, News, Noted, Pair, Sent, bytes_of, chunk_of, events_of, put_in_with, with_events, with_found}
 use Rattle.board_game.specs.Silences.{ReadAlike, SilenceIsForgotten, but_silence, is_silence, tells_silence}
 use Rattle.board_game.proofs.OnceLemmas.{items_heard, makes_once}
 use Rattle.board_game.proofs.PlainLemmas.{ShowsOnce}
@@ -69,7 +69,7 @@ quiet_with_events time offset (event ∷ events) items = quiet_with_events time 
 quiet_with_found : (setting : Setting) (past : List Event) (time : Chunk) (x : Timed) (found : Option Recovery) (items : List Item)
     → quiet (with_found setting past time x found items) ≡ with_found setting past time x found (quiet items)
 quiet_with_found setting past time x None items = refl
-quiet_with_found setting past time x (Some r) items = quiet_with_events time x.offset
+quiet_with_found setting past time x (Some r) items = quiet_with_events (put_in_with time) x.offset
     (put_in setting.first setting.rotated (entry_at setting.first setting.rotated (x.event ∷ past)) r) (Pair time x.offset r ∷ Sent time x ∷ items)
 
 adds_quiet : (setting : Setting) (recovers : Bool) (time : Chunk) (past : List Event) (more : List Timed) (before items : List Item)
@@ -304,7 +304,7 @@ before_found : (setting : Setting) (past : List Event) (time : Chunk) (x : Timed
     → Hears setting (with_found setting past time x found items) heard → Before setting items heard
 before_found setting past time x None items heard h = before_event setting time x items heard h
 before_found setting past time x (Some r) items heard h =
-    let b = before_events setting time x.offset (put_in setting.first setting.rotated (entry_at setting.first setting.rotated (x.event ∷ past)) r) (Pair time x.offset r ∷ Sent time x ∷ items) heard h in
+    let b = before_events setting (put_in_with time) x.offset (put_in setting.first setting.rotated (entry_at setting.first setting.rotated (x.event ∷ past)) r) (Pair time x.offset r ∷ Sent time x ∷ items) heard h in
     let c = before_event setting time x items b.told b.hears in
     record { told = c.told; hears = c.hears; same = b.same ∙ c.same }
 
@@ -419,7 +419,7 @@ line_alarms false at what items e = refl
 
 quiet_alarms : (items : List Item) → alarm_items (quiet items) ≡ alarm_items items
 quiet_alarms [] = refl
-quiet_alarms (Sent time x ∷ items) = ap (λ (is : List AlarmItem). Comes time.when.at time.when.is_added x.event ∷ is) (quiet_alarms items)
+quiet_alarms (Sent time x ∷ items) = ap (λ (is : List AlarmItem). Comes time x.event ∷ is) (quiet_alarms items)
 quiet_alarms (Pair time offset r ∷ items) = ap (λ (is : List AlarmItem). Notes time.when.at PutsIn ∷ is) (quiet_alarms items)
 quiet_alarms (Noted at (Line what) ∷ items) =
     line_alarms (is_silence what) at what (quiet items) refl ∙ ap (λ (is : List AlarmItem). with_news at (of_line what) is) (quiet_alarms items)

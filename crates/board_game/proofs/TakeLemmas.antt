@@ -7,7 +7,7 @@ use Rattle.settle_core.specs.Folding.{Score}
 use Rattle.settle_core.proofs.Once.{folds_once}
 use Rattle.board_events.specs.Session.{entries_in}
 use Rattle.board_events.specs.Settings.{Setting}
-use Rattle.board_game.specs.declared.chunk.Chunk.{Chunk}
+use Rattle.board_alarms.specs.declared.chunk.Chunk.{Chunk}
 use Rattle.board_alarms.specs.Keeping.{StandsFor as AlarmsStand}
 use Rattle.board_endings.specs.Keeping.{StandsFor as EndingsStand}
 use Rattle.board_listing.specs.declared.watcher.Watcher.{Watcher}

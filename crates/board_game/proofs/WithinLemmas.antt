@@ -1,5 +1,5 @@
 -- What stands while the bytes of a piece are taken.
-use Rattle.std.proofs.Common.{◌≡◌, ◌+◌, ◌≤◌, ℕ, Bool, List, [], ◌∷◌, ◌++◌, length, map, reverse, Option, refl, sym, ap, subst, ◌∙◌, arith, append_assoc, append-nil, length-append}
+use Rattle.std.proofs.Common.{◌≡◌, ◌+◌, ◌≤◌, ℕ, Bool, List, [], ◌∷◌, ◌++◌, length, map, reverse, Option, refl, sym, ap, subst, ◌∙◌, arith, append_assoc, append-nil, length-append, false}
 use Rattle.std.proofs.lemmas.List.{reverse-append, reverse-reverse}
 use Rattle.settle_core.proofs.Lines.{map-reverse}
 use Rattle.dgt_frame.specs.declared.decode.Decoder.{Decoder}
@@ -11,8 +11,8 @@ use Rattle.board_events.specs.Commands.{past_of}
 use Rattle.board_events.specs.Limits.{limit}
 use Rattle.board_events.specs.Settings.{Setting}
 use Rattle.board_events.proofs.CommandLemmas.{past_both}
-use Rattle.board_alarms.specs.declared.event_heard.When.{When}
-use Rattle.board_game.specs.declared.chunk.Chunk.{Chunk}
+use Rattle.board_alarms.specs.declared.chunk.When.{When}
+use Rattle.board_alarms.specs.declared.chunk.Chunk.{Chunk}
 use Rattle.board_game.specs.declared.following.Following.{Following}
 use Rattle.board_game.specs.declared.game.Game.{Game}
 use Rattle.board_game.specs.Games.{StandsFor}
@@ -104,21 +104,21 @@ past_within events later =
     ∙ ap (λ (es : List Timed). map (λ (t : Timed). t.event) es) (reverse-reverse later))
 
 abbrev made : When → ℕ → Chunk
-made time end = record { when = time; end = end }
+made time end = record { when = time; end = end; is_put_in = false }
 
 -- all bytes of it
 pub within_end : (game : Game) (setting : Setting) (recovers : Bool) (past : List Came) (before text : List ℕ) (time : When) (chunk : Chunk) (rest : ℕ) (bytes lines lines' lines'' : List ℕ)
-    → chunk.when ≡ time → chunk.end ≡ length (bytes_of past) + length bytes
+    → chunk ≡ made time (length (bytes_of past) + length bytes)
     → lines'' ≡ lines' → IsWithin game.decoder game.following setting recovers past before text chunk bytes lines lines'
     → ((all : List ℕ) (events : List Timed) → Decoded game.decoder all events → Shows all events rest)
     → game.count ≡ length (bytes_of past) + length bytes → length (bytes_of past) + length bytes ≤ limit
     → (more : List ℕ) × (lines'' ≡ lines ++ more) × StandsFor game setting recovers (Bytes time bytes ∷ past) (before ++ more)
-within_end game setting recovers past before text time chunk rest bytes lines lines' lines'' when_is end_is appended w shows count fits =
+within_end game setting recovers past before text time chunk rest bytes lines lines' lines'' chunk_is appended w shows count fits =
     let all = bytes_of past ++ bytes in
     let events = w.events ++ reverse w.later in
     let long = length-append (bytes_of past) bytes in
     let shown = shows all events w.decoded in
-    let same : chunk ≡ chunk_of time all = ap (λ (t : When). made t chunk.end) when_is ∙ ap (λ (n : ℕ). made time n) (end_is ∙ sym long) in
+    let same : chunk ≡ chunk_of time all = chunk_is ∙ ap (λ (n : ℕ). made time n) (sym long) in
     let A : Chunk → Type 0 = λ c. Adds setting recovers c (past_of w.events) w.later w.earlier w.items in
     let F : List Event → List ℕ → Type 0 = λ raw t. HasFollowed game.following setting recovers raw w.items t in (
       w.more,

@@ -34,7 +34,7 @@ with_news at (Some news) items = Notes at news ∷ items
 -- What alarms are told of these items. Where a pair is recovered, plies are put in, whose events follow.
 abbrev pub alarm_items : List Item → List AlarmItem
 alarm_items [] = []
-alarm_items (Sent chunk x ∷ items) = Comes chunk.when.at chunk.when.is_added x.event ∷ alarm_items items
+alarm_items (Sent chunk x ∷ items) = Comes chunk x.event ∷ alarm_items items
 alarm_items (Pair chunk offset r ∷ items) = Notes chunk.when.at PutsIn ∷ alarm_items items
 alarm_items (Noted at note ∷ items) = with_news at (news_of note) (alarm_items items)
 

@@ -8,7 +8,7 @@ use Rattle.board_endings.specs.Items.{Item as EndItem, Sent as Comes, Noted as N
 use Rattle.board_endings.specs.Saying.{IsDueAt, IsEndAt}
 use Rattle.board_standing.specs.declared.heard.Heard.{Heard}
 use Rattle.board_standing.specs.declared.heard.Heard.TheVariants.{Begins as RecorderBegins}
-use Rattle.board_game.specs.declared.chunk.Chunk.{Chunk}
+use Rattle.board_alarms.specs.declared.chunk.Chunk.{Chunk}
 use Rattle.board_game.specs.declared.note.Note.{Note}
 use Rattle.board_game.specs.declared.note.Note.TheVariants.{Line, Looked, PutsBack, Reopens as IsReopened, Passes as HasPassed, Resumes, Suspects}
 use Rattle.board_game.specs.History.{Came, Item, Makes, Noted, Pair, Sent}

@@ -8,8 +8,8 @@ use Rattle.board_events.specs.Commands.{past_of}
 use Rattle.board_events.specs.Entries.{entry_at}
 use Rattle.board_events.specs.Limits.{limit}
 use Rattle.board_events.specs.Settings.{Setting}
-use Rattle.board_alarms.specs.declared.event_heard.When.{When}
-use Rattle.board_game.specs.declared.chunk.Chunk.{Chunk}
+use Rattle.board_alarms.specs.declared.chunk.When.{When}
+use Rattle.board_alarms.specs.declared.chunk.Chunk.{Chunk}
 use Rattle.board_game.specs.declared.note.Note.{Note}
 use Rattle.pair_frames.specs.PutIn.{put_in}
 use Rattle.recovery.specs.Keeping.{RecoversAt}
@@ -35,7 +35,11 @@ AreShown bytes events = (rest : ℕ) × Shows bytes events rest
 
 -- the bytes that come at this time, with which these are all so far
 abbrev pub chunk_of : When → List ℕ → Chunk
-chunk_of time all = record { when = time; end = length all }
+chunk_of time all = record { when = time; end = length all; is_put_in = false }
+
+-- The capture doesn't have these bytes: they are put in with those.
+abbrev pub put_in_with : Chunk → Chunk
+put_in_with chunk = record { when = chunk.when; end = chunk.end; is_put_in = true }
 
 -- What is told, with the bytes that brought it: an event, which the board sent, or which was added by hand or is put in, at its offset;
 -- a pair of plies that was recovered at this offset. Or, with its time, what isn't in the bytes.
@@ -60,7 +64,7 @@ with_events chunk offset (event ∷ events) items = with_events chunk offset eve
 -- event
 abbrev pub with_found : Setting → List Event → Chunk → Timed → Option Recovery → List Item → List Item
 with_found setting past chunk x None items = Sent chunk x ∷ items
-with_found setting past chunk x (Some r) items = with_events chunk x.offset
+with_found setting past chunk x (Some r) items = with_events (put_in_with chunk) x.offset
     (put_in setting.first setting.rotated (entry_at setting.first setting.rotated (x.event ∷ past)) r) (Pair chunk x.offset r ∷ Sent chunk x ∷ items)
 
 -- What is recovered at an event after these: what its picture confirms, or nothing where no pairs are recovered.

@@ -10,9 +10,9 @@ ghost use Rattle.board_endings.specs.Keeping.{StandsFor as EndingsStand};
 ghost use Rattle.board_game.specs.Ending.{bytes_with, end_news, end_of_line, with_end_news};
 ghost use Rattle.board_game.specs.Inside.Shown.{HasSeen, IsShown};
 
-use crate::chunk::Chunk;
 use crate::note::Note;
 use crate::pictures::{Pictures, Shown, sight};
+use board_alarms::Chunk;
 use board_endings::{Endings, News};
 use board_events::Session;
 use board_standing::Heard;

@@ -6,13 +6,13 @@ ghost use Rattle.unseen_pairs.specs.declared.pair.Recovery.{Recovery};
 ghost use Rattle.board_captures.specs.Reading.{setting_of};
 ghost use Rattle.board_events.specs.History.{IsInRange};
 ghost use Rattle.board_events.specs.Settings.{Setting};
-ghost use Rattle.board_game.specs.History.{Finds, Item, Noted, with_found};
+ghost use Rattle.board_game.specs.History.{Finds, Item, Noted, put_in_with, with_found};
 ghost use Rattle.board_game.specs.Inside.Telling.{HasFollowed, HasKept, KeepsEvent};
 ghost use Rattle.board_game.specs.Report.{first_line};
 
-use crate::chunk::Chunk;
 use crate::note::Note;
 use crate::telling::{Teller, flush};
+use board_alarms::Chunk;
 use board_captures::Method;
 use dgt_frame::Event;
 use dgt_frame::laws::shows_once;
@@ -46,6 +46,16 @@ fn keep(
             flush(gathered, lines)?;
             hear(alloc, keeper, offset, event, frames, gathered)
         }
+    }
+}
+
+/// Bytes that are put in with those of a chunk.
+fn put_in_with(chunk: Chunk) -> Chunk
+    ensures { result ≡ put_in_with chunk }
+{
+    Chunk {
+        is_put_in: true,
+        ..chunk
     }
 }
 
@@ -118,7 +128,8 @@ impl Following {
             return Ok(());
         }
         self.teller.note_pair(chunk)?;
-        self.teller.put_in(chunk, offset, put, gathered, lines)?;
+        self.teller
+            .put_in(put_in_with(chunk), offset, put, gathered, lines)?;
         Ok(())
     }
 

@@ -1,5 +1,5 @@
 //! The bytes of one game's capture to what they tell.
-ghost use Rattle.std.specs.Prelude.{◌≡◌, ◌≤◌, ◌+◌, ◌↔◌, ◌∷◌, [], ◌++◌, ℕ, Bool, List, IfOk, IsTrue, OnOk, length, take};
+ghost use Rattle.std.specs.Prelude.{◌≡◌, ◌≤◌, ◌+◌, ◌↔◌, ◌∷◌, [], ◌++◌, ℕ, Bool, false, List, IfOk, IsTrue, OnOk, length, take};
 ghost use Rattle.board_captures.specs.Reading.{setting_of};
 ghost use Rattle.board_events.specs.Limits.{limit};
 ghost use Rattle.board_events.specs.Session.{HasTakenEvents};
@@ -10,11 +10,10 @@ ghost use Rattle.board_game.specs.Games.{HasBegun, IsDueOf, IsStateOf, StandsFor
 ghost use Rattle.board_game.specs.History.{Bytes, Came, Item, Makes, News, events_of, room_of};
 ghost use Rattle.board_game.specs.Report.{IsReport, first_line};
 
-use crate::chunk::Chunk;
 use crate::following::Following;
 use crate::note::Note;
 use crate::telling::append;
-use board_alarms::When;
+use board_alarms::{Chunk, When};
 use board_captures::Method;
 use board_endings::End;
 use board_events::Session;
@@ -40,11 +39,14 @@ fn first_bytes(bytes: &[u8], count: usize) -> &[u8]
 /// The bytes that come then, behind so many others.
 fn chunk_of(when: When, count: u32, bytes: &[u8]) -> Chunk
     requires { count + length bytes.now ≤ limit }
-    ensures when { result.when ≡ when }
-    ensures end { result.end ≡ count + length bytes.now }
+    ensures { result ≡ record { when = when; end = count + length bytes.now; is_put_in = false } }
 {
     let end = (count + bytes.len() as u32) as u64;
-    Chunk { when, end }
+    Chunk {
+        when,
+        end,
+        is_put_in: false,
+    }
 }
 
 /// Takes the bytes of a capture with their times, and says what they tell.

@@ -3,11 +3,10 @@
 //!
 //! Begin with `game.rt`, which takes bytes and says what they tell. It decodes them; `following.rt` puts in the events of
 //! recovered pairs; `telling.rt` makes the lines of each event, and tells how the board stands what is heard of it, by
-//! `pictures.rt`. `ending.rt` tells how the game ends; `chunk.rt` has the bytes that come together, `note.rt` what isn't in the bytes.
+//! `pictures.rt`. `ending.rt` tells how the game ends; `note.rt` has what isn't in the bytes.
 //! `laws.rt` says what holds of each history. A call marked `For its clause` changes nothing: the proof needs what its contract says.
 #![tactic(auto)]
 
-mod chunk;
 mod ending;
 mod following;
 mod game;

@@ -25,11 +25,10 @@ ghost use Rattle.board_game.specs.Inside.Shown.{HasSeen, IsShown};
 ghost use Rattle.board_game.specs.Inside.Telling.{HasTold};
 ghost use Rattle.board_game.specs.Report.{first_line};
 
-use crate::chunk::Chunk;
 use crate::ending::{note_end, tell_end};
 use crate::note::Note;
 use crate::pictures::{Pictures, Shown, sight};
-use board_alarms::{Alarms, News};
+use board_alarms::{Alarms, Chunk, News};
 use board_endings::Endings;
 use board_listing::Watcher;
 use board_standing::{Event as Told, Heard, Picture, Standing};
@@ -261,20 +260,13 @@ impl Teller {
             offset,
             event,
         )?;
-        let when = chunk.when;
-        hear(&mut self.standing, &self.watcher, when.at, before, shown);
+        let at = chunk.when.at;
+        hear(&mut self.standing, &self.watcher, at, before, shown);
         let outcome = self.watcher.result();
         let picture = self.pictures.last();
         let session = self.watcher.session();
-        self.alarms.take(
-            when.at,
-            when.is_added,
-            event,
-            sight(shown),
-            picture,
-            session,
-            outcome,
-        )?;
+        self.alarms
+            .take(chunk, event, sight(shown), picture, session, outcome)?;
         tell_end(
             &mut self.endings,
             chunk,

@@ -15,7 +15,7 @@ use Rattle.board_endings.specs.declared.news.End.{End}
 use Rattle.board_events.specs.Limits.{limit}
 use Rattle.board_events.specs.Settings.{Setting}
 use Rattle.board_looks.specs.declared.look.Look.{Look}
-use Rattle.board_alarms.specs.declared.event_heard.When.{When}
+use Rattle.board_alarms.specs.declared.chunk.When.{When}
 use Rattle.board_game.specs.declared.note.Note.{Note}
 use Rattle.board_game.specs.declared.note.Note.TheVariants.{Line as LineNews}
 use Rattle.board_game.specs.Alarming.{AlarmsAre}

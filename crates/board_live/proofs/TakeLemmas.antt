@@ -23,7 +23,7 @@ use Rattle.board_cable.specs.Keeping.{kept, kept_by, released}
 use Rattle.board_cable.specs.Moments.{Moment as CableMoment, sent}
 use Rattle.board_cable.specs.Turns.{Told, Turn, handling_of, told}
 use Rattle.board_cable.proofs.Once.{turns_once}
-use Rattle.board_alarms.specs.declared.event_heard.When.{When}
+use Rattle.board_alarms.specs.declared.chunk.When.{When}
 use Rattle.board_game.specs.History.{Bytes, Came, room_of}
 use Rattle.board_standing.specs.declared.heard.Heard.{Heard}
 use Rattle.board_live.specs.Coming.{came, came_with, silence, with_bytes}

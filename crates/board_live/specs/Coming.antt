@@ -5,7 +5,7 @@ use Rattle.board_cable.specs.Keeping.{kept}
 use Rattle.board_cable.specs.Turns.{Turn, told}
 use Rattle.board_standing.specs.declared.heard.Heard.{Heard}
 use Rattle.board_standing.specs.declared.heard.Heard.TheVariants.{Stops, Answers}
-use Rattle.board_alarms.specs.declared.event_heard.When.{When}
+use Rattle.board_alarms.specs.declared.chunk.When.{When}
 use Rattle.board_game.specs.declared.note.Note.{Note}
 use Rattle.board_game.specs.declared.note.Note.TheVariants.{Line}
 use Rattle.board_game.specs.History.{Came, Bytes, News, room_of}

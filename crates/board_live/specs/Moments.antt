@@ -1,6 +1,5 @@
 -- What happens at a board that is recorded. Lists have the latest first; bytes are in the order in which they came.
 use Rattle.std.specs.Prelude.{ℕ, Bool, true, false, nat_lt, if◌then◌else◌, List, [], ◌∷◌, Option, Some, None}
-use Rattle.board_alarms.specs.Gaps.{quiet}
 use Rattle.board_cable.specs.declared.happened.What.{What as AtCable}
 use Rattle.board_cable.specs.declared.happened.What.TheVariants.{Begins, Opens, Closes, Interrupts, Wakes}
 use Rattle.board_cable.specs.Moments.{Moment as CableMoment}
@@ -53,9 +52,13 @@ is_added Adds = true
 is_added KeepsAdded = true
 is_added _ = false
 
--- Nobody listened for so long: if that is as long as a board may be quiet, a result may have been taken back meanwhile.
+-- in this time a result may be taken back, in milliseconds
+abbrev pub unheeded : ℕ
+unheeded = 10000
+
+-- Nobody listened for so long: a result may have been taken back meanwhile.
 abbrev pub stopped : ℕ → Option Note
-stopped time = if nat_lt time quiet then None else Some Resumes
+stopped time = if nat_lt time unheeded then None else Some Resumes
 
 -- What comes of the game beside its bytes, as news of the line. A serial server that is called again tells nothing: its line is opened anew.
 abbrev pub news_of : What → Option Note

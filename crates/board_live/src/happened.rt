@@ -11,8 +11,8 @@ use board_cable::{Happened as Cabled, What as AtCable};
 use board_game::Note;
 use board_standing::Heard;
 
-/// A board that is quiet for so long isn't heard.
-const QUIET: u64 = 10_000;
+/// In this time a result may be taken back, in milliseconds.
+const UNHEEDED: u64 = 10_000;
 
 /// What happens.
 #[derive(Clone, Copy)]
@@ -103,7 +103,7 @@ pub fn lined(heard: Option<Heard>) -> Option<Note>
 pub fn stopped(time: u64) -> Option<Note>
     ensures { result ≡ stopped time }
 {
-    if time < QUIET {
+    if time < UNHEEDED {
         None
     } else {
         Some(Note::Resumes)

@@ -3,7 +3,7 @@ use Rattle.std.proofs.Common.{◌≡◌, ◌⊎◌, ◌&&◌, not, ℕ, inl, inr
 use Rattle.std.specs.Prelude.{if◌then◌else◌}
 use Rattle.board_doubts.specs.declared.heard.Event.{Event}
 use Rattle.board_doubts.specs.declared.heard.Heard.{Heard}
-use Rattle.board_doubts.specs.declared.heard.Heard.TheVariants.{Shows, Moves, Corrects, Agrees, Ends, Reopens, PutsBack, Away, Clock, Plays, Replaces, Presses, Counts, Looked}
+use Rattle.board_doubts.specs.declared.heard.Heard.TheVariants.{Shows, Moves, Corrects, Agrees, Ends, Reopens, PutsBack, PutsIn, Away, Clock, Plays, Replaces, Presses, Counts, Looked}
 use Rattle.board_doubts.specs.Clock.{ago, is_after, is_stopped, tried, tries_by, tries_of}
 use Rattle.board_doubts.specs.Doubts.{doubt_by}
 use Rattle.board_looks.specs.declared.look.Look.{Look}
@@ -73,6 +73,7 @@ none_raised (Corrects repeats) at plies added past h = absurd cc
 none_raised Agrees at plies added past h = absurd cc
 none_raised Ends at plies added past h = absurd cc
 none_raised Reopens at plies added past h = absurd cc
+none_raised PutsIn at plies added past h = absurd cc
 none_raised PutsBack at plies added past h = absurd cc
 none_raised (Away gap) at plies added past h = absurd cc
 none_raised (Clock runs) at plies added past h = absurd cc
@@ -96,6 +97,7 @@ none_tried (Corrects repeats) event past h = refl
 none_tried Agrees event past h = refl
 none_tried Ends event past h = refl
 none_tried Reopens event past h = refl
+none_tried PutsIn event past h = refl
 none_tried PutsBack event past h = refl
 none_tried (Away gap) event past h = refl
 none_tried (Clock runs) event past h = refl

@@ -110,7 +110,7 @@ no_result (Moves move) at past none = no_move move (last_given past) none
 no_result Agrees at past none = refl
 no_result Differs at past none = refl
 no_result (Shows shown) at past none =
-    no_start (starts_again shown past && has_begun past) (is_some (last_given past)) (is_none (last_given past) none)
+    no_start (starts_again at shown past && has_begun past) (is_some (last_given past)) (is_none (last_given past) none)
 no_result (Ends outcome) at past none = refl
 no_result (Declares outcome) at past none = refl
 no_result Reopens at past none = refl

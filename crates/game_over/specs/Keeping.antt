@@ -5,7 +5,7 @@ use Rattle.game_over.specs.declared.happened.Event.{Event}
 use Rattle.game_over.specs.declared.ending.Ending.{Ending}
 use Rattle.game_over.specs.declared.moves.Moves.{Moves}
 use Rattle.game_over.specs.Moves.{earlier_moves, earlier_places, last_move}
-use Rattle.game_over.specs.Over.{front, has_begun, has_played, is_another, pictures, played, why_over}
+use Rattle.game_over.specs.Over.{front, has_begun, has_played, is_another, left_at, pictures, played, why_over}
 use Rattle.game_over.specs.Result.{last_given}
 
 -- The moves of this, the latest event first.
@@ -18,6 +18,7 @@ pub record KeepsMoves (kept : Moves) (past : List Event) : Type 0 where
 pub record StandsFor (ending : Ending) (past : List Event) : Type 0 where
   pub moves : KeepsMoves ending.moves past
   pub again : AgainStandsFor ending.again (pictures past)
+  pub left : ending.left ≡ left_at past
   pub given_is : ending.given ≡ last_given past
   pub over_is : ending.over ≡ why_over past
   pub begun : ending.has_begun ≡ has_begun past

@@ -1,9 +1,10 @@
 -- When a game is over, and what is made of it afterwards. Events are listed with the latest first, times are milliseconds.
 use Rattle.std.specs.Prelude.{ℕ, ◌+◌, min, nat_le, ◌==◌, ◌&&◌, ◌||◌, not, Bool, true, false, List, [], ◌∷◌, Option, Some, None, is_some, if◌then◌else◌}
+use Rattle.square_runs.specs.Lasting.{has_lasted}
 use Rattle.game_ends.specs.Again.{ends_by}
 use Rattle.game_over.specs.declared.happened.Event.{Event}
 use Rattle.game_over.specs.declared.happened.Happening.{Happening}
-use Rattle.game_over.specs.declared.happened.Happening.TheVariants.{Moves, Agrees, Shows, Reopens, GoesBack, Passes}
+use Rattle.game_over.specs.declared.happened.Happening.TheVariants.{Moves, Agrees, Shows, Reopens, Resumes, GoesBack, Passes}
 use Rattle.game_over.specs.declared.happened.Move.{Move}
 use Rattle.game_over.specs.declared.happened.Shown.{Shown}
 use Rattle.game_over.specs.declared.result.Given.{Given}
@@ -17,13 +18,34 @@ abbrev pub pictures_by : Happening → List ℕ → List ℕ
 pictures_by (Shows shown) before = shown.off ∷ before
 pictures_by other before = before
 
+-- an hour, in milliseconds
+abbrev pub hour : ℕ
+hour = 3600000
+
+-- since when nobody listens, if nothing has come since
+abbrev pub left_by : Happening → ℕ → Option ℕ
+left_by Resumes at = Some at
+left_by other at = None
+
+abbrev pub left_at : List Event → Option ℕ
+left_at [] = None
+left_at (event ∷ past) = left_by event.what event.at
+
+-- Nobody had listened for so long before this time: an adjourned game may be taken up, before its pieces are set up.
+unfoldable pub was_left : ℕ → List Event → Bool
+was_left now past = has_lasted hour now (left_at past)
+
 abbrev pub pictures : List Event → List ℕ
 pictures [] = []
-pictures (event ∷ past) = pictures_by event.what (pictures past)
+pictures (event ∷ past) = pictures_by event.what (if was_left event.at past then [] else pictures past)
+
+-- the pictures up to now, since nobody had listened for so long
+abbrev pub pictures_at : ℕ → List Event → List ℕ
+pictures_at now past = if was_left now past then [] else pictures past
 
 -- The board shows the start again, after a set-up, and the game isn't at its start.
-abbrev pub starts_again : Shown → List Event → Bool
-starts_again shown past = ends_by shown.off shown.at_start (pictures past)
+unfoldable pub starts_again : ℕ → Shown → List Event → Bool
+starts_again now shown past = ends_by shown.off shown.at_start (pictures_at now past)
 
 -- another move, which the players made on the board
 abbrev pub is_next : Move → Bool
@@ -52,7 +74,7 @@ abbrev pub why_by : Happening → ℕ → List Event → Option Why
 why_by Passes now past = if has_stood now (last_given past) then Some Stood else None
 why_by (Moves move) now past = why_moves move (last_given past)
 why_by (Shows shown) now past =
-    if starts_again shown past && has_begun past then Some (if is_some (last_given past) then SetUp else Unfinished) else None
+    if starts_again now shown past && has_begun past then Some (if is_some (last_given past) then SetUp else Unfinished) else None
 why_by other now past = None
 
 abbrev pub reopens : Happening → Bool
@@ -94,12 +116,12 @@ front [] = 0
 front (event ∷ past) = front_by event.what event.bytes (front past)
 
 -- The game begins only now.
-abbrev pub begins_by : Happening → List Event → Bool
-begins_by (Shows shown) past = starts_again shown past && not (has_begun past)
-begins_by other past = false
+abbrev pub begins_by : Happening → ℕ → List Event → Bool
+begins_by (Shows shown) now past = starts_again now shown past && not (has_begun past)
+begins_by other now past = false
 
 abbrev pub begins_now : Event → List Event → Bool
-begins_now event past = not (is_over past) && begins_by event.what past
+begins_now event past = not (is_over past) && begins_by event.what event.at past
 
 -- how many moves the players have made since the game was over; the one that ended it counts
 abbrev pub most : ℕ

@@ -6,7 +6,7 @@ ghost use Rattle.game_over.specs.declared.happened.Happening.TheVariants.{Agrees
 ghost use Rattle.game_over.specs.declared.said.Said.TheVariants.{IsOver, Nothing};
 ghost use Rattle.game_over.specs.declared.said.Why.{Why as WhyOf};
 ghost use Rattle.game_over.specs.Keeping.{StandsFor};
-ghost use Rattle.game_over.specs.Over.{begins_now, begun_by, ended_by, front_by, goes_on, happens, has_played, has_result as has_result_of, is_another, is_enough as is_enough_of, is_next as is_next_of, is_on_board as is_on_board_of, over_by, passes, pictures_by, played, played_by, reopens as reopens_of, shows_start as shows_start_of, starts_again as starts_again_of, stays_out as stays_out_of, why_by, why_moves as why_moves_of, why_over};
+ghost use Rattle.game_over.specs.Over.{begins_now, begun_by, ended_by, front_by, goes_on, happens, has_played, has_result as has_result_of, is_another, is_enough as is_enough_of, is_next as is_next_of, is_on_board as is_on_board_of, left_by, over_by, passes, pictures_at, pictures_by, played, played_by, reopens as reopens_of, shows_start as shows_start_of, starts_again as starts_again_of, stays_out as stays_out_of, was_left as was_left_of, why_by, why_moves as why_moves_of, why_over};
 ghost use Rattle.game_over.specs.Result.{has_come};
 ghost use Rattle.game_over.specs.Said.{IsSaid, is_sure_by, said_else, unfinished as unfinished_of, with_result as with_result_of};
 
@@ -15,10 +15,14 @@ use crate::moves::{Found, Moves};
 use crate::result::{Given, given_after, has_stood, stands_until};
 use crate::said::{Over, Said, Why};
 use game_ends::StartAgain;
+use square_runs::lasted;
 use std::alloc::{AllocError, Global};
 
 /// No more moves are counted.
 const MOST: u64 = 9_999;
+
+/// An hour, in milliseconds.
+const HOUR: u64 = 3_600_000;
 
 /// Whether the players made another move on the board.
 fn is_next(played: Move) -> bool
@@ -194,6 +198,23 @@ fn why_moves(played: Move, given: Option<Given>) -> Option<Why>
     }
 }
 
+/// Since when nobody listens, if so.
+fn left_after(event: Event) -> Option<u64>
+    ensures { result ≡ left_by event.what event.at }
+{
+    match event.what {
+        Happening::Resumes => Some(event.at),
+        _ => None,
+    }
+}
+
+/// The pictures, of which none is left if nobody had listened for so long.
+fn again_after(was_left: bool, again: StartAgain) -> StartAgain
+    ensures { (past : List ℕ) → AgainStandsFor again past → AgainStandsFor result (if was_left then [] else past) }
+{
+    if was_left { StartAgain::new() } else { again }
+}
+
 fn show(again: &mut StartAgain, what: Happening)
     ensures { (past : List ℕ) → AgainStandsFor again.old past → AgainStandsFor again.new (pictures_by what past) }
 {
@@ -210,6 +231,8 @@ fn show(again: &mut StartAgain, what: Happening)
 pub struct Ending {
     moves: Moves,
     again: StartAgain,
+    /// Since when nobody listens, if nothing has come since.
+    left: Option<u64>,
     given: Option<Given>,
     over: Option<Why>,
     has_begun: bool,
@@ -229,6 +252,7 @@ impl Ending {
         Ending {
             moves,
             again: StartAgain::new(),
+            left: None,
             given: None,
             over: None,
             has_begun: false,
@@ -258,6 +282,8 @@ impl Ending {
         ensures stands { (past : List EventOf) (bytes : ℕ) → StandsFor self.old past → StandsFor self.new (happens at bytes Agrees ∷ past) }
         ensures said { (past : List EventOf) (bytes : ℕ) → IsSaid Nothing (happens at bytes Agrees) past }
     {
+        self.again = self.again_at(at);
+        self.left = None;
         self.moves.show(true, at);
         self.has_begun = true;
     }
@@ -267,19 +293,24 @@ impl Ending {
         ensures stands { (past : List EventOf) (bytes : ℕ) → StandsFor self.old past → StandsFor self.new (happens at bytes Differs ∷ past) }
         ensures said { (past : List EventOf) (bytes : ℕ) → IsSaid Nothing (happens at bytes Differs) past }
     {
+        self.again = self.again_at(at);
+        self.left = None;
         self.moves.show(false, at);
     }
 
     /// Takes the board's picture, as `take` does, if the start isn't shown. Whether it has taken it: then nothing is said to it.
-    pub fn show(&mut self, shown: Shown) -> bool
-        ensures stands { (past : List EventOf) (at bytes : ℕ) → StandsFor self.old past
+    pub fn show(&mut self, at: u64, shown: Shown) -> bool
+        ensures stands { (past : List EventOf) (bytes : ℕ) → StandsFor self.old past
             → StandsFor self.new (if result then happens at bytes (Shows shown) ∷ past else past) }
-        ensures said { (past : List EventOf) (at bytes : ℕ) → StandsFor self.old past → IsTrue result → IsSaid Nothing (happens at bytes (Shows shown)) past }
+        ensures said { (past : List EventOf) (bytes : ℕ) → StandsFor self.old past → IsTrue result → IsSaid Nothing (happens at bytes (Shows shown)) past }
     {
-        if self.may_say(shown) {
+        if self.may_say(at, shown) {
             return false;
         }
-        self.again.take(shown.off, shown.at_start);
+        let mut again = self.again_at(at);
+        again.take(shown.off, shown.at_start);
+        self.again = again;
+        self.left = None;
         true
     }
 
@@ -306,26 +337,40 @@ impl Ending {
         Some(with_result(Why::Stood, self.given, self.front))
     }
 
-    /// Whether the start is shown again.
-    fn starts_again(&self, shown: Shown) -> bool
-        ensures { (past : List EventOf) → StandsFor self.now past → result ≡ starts_again_of shown past }
+    /// Whether nobody had listened for an hour.
+    fn was_left(&self, now: u64) -> bool
+        ensures { (past : List EventOf) → StandsFor self.now past → result ≡ was_left_of now past }
     {
-        let mut again = self.again;
+        lasted(HOUR, now, self.left)
+    }
+
+    /// The pictures up to now.
+    fn again_at(&self, now: u64) -> StartAgain
+        ensures { (past : List EventOf) → StandsFor self.now past → AgainStandsFor result (pictures_at now past) }
+    {
+        again_after(self.was_left(now), self.again)
+    }
+
+    /// Whether the start is shown again.
+    fn starts_again(&self, now: u64, shown: Shown) -> bool
+        ensures { (past : List EventOf) → StandsFor self.now past → result ≡ starts_again_of now shown past }
+    {
+        let mut again = self.again_at(now);
         again.take(shown.off, shown.at_start)
     }
 
     /// Whether something may be said to this picture.
-    fn may_say(&self, shown: Shown) -> bool
-        ensures { (past : List EventOf) → StandsFor self.now past → result ≡ (shows_start_of (Shows shown) || starts_again_of shown past) }
+    fn may_say(&self, now: u64, shown: Shown) -> bool
+        ensures { (past : List EventOf) → StandsFor self.now past → result ≡ (shows_start_of (Shows shown) || starts_again_of now shown past) }
     {
-        shown.off == 0 || self.starts_again(shown)
+        shown.off == 0 || self.starts_again(now, shown)
     }
 
     /// Why the game ends with this picture, if it isn't over.
-    fn why_shows(&self, shown: Shown) -> Option<Why>
-        ensures { (past : List EventOf) → StandsFor self.now past → (at : ℕ) → result ≡ why_by (Shows shown) at past }
+    fn why_shows(&self, now: u64, shown: Shown) -> Option<Why>
+        ensures { (past : List EventOf) → StandsFor self.now past → result ≡ why_by (Shows shown) now past }
     {
-        if !(self.has_begun && self.starts_again(shown)) {
+        if !(self.has_begun && self.starts_again(now, shown)) {
             return None;
         }
         if self.given.is_some() {
@@ -342,7 +387,7 @@ impl Ending {
         match event.what {
             Happening::Passes => stood(has_stood(event.at, self.given)),
             Happening::Moves(played) => why_moves(played, self.given),
-            Happening::Shows(shown) => self.why_shows(shown),
+            Happening::Shows(shown) => self.why_shows(event.at, shown),
             _ => None,
         }
     }
@@ -399,7 +444,7 @@ impl Ending {
             return false;
         }
         match event.what {
-            Happening::Shows(shown) => self.starts_again(shown) && !self.has_begun,
+            Happening::Shows(shown) => self.starts_again(event.at, shown) && !self.has_begun,
             _ => false,
         }
     }
@@ -454,8 +499,11 @@ impl Ending {
         let has_played = self.has_played_with(event);
         let is_another = self.is_another_with(event);
         let has_move = self.moves.has_move();
+        let mut again = self.again_at(event.at);
+        show(&mut again, event.what);
         self.moves.take(&event, self.given)?;
-        show(&mut self.again, event.what);
+        self.again = again;
+        self.left = left_after(event);
         self.given = given_after(event, self.given);
         self.has_begun = begun_after(event.what, has_move, self.has_begun);
         self.front = front_after(event, self.front);

@@ -10,7 +10,7 @@ use Rattle.board_events.specs.Commands.{past_of}
 use Rattle.board_events.specs.Game.{IsGameOf}
 use Rattle.board_events.specs.Settings.{Setting}
 use Rattle.board_events.proofs.CommandLemmas.{past_both}
-use Rattle.board_game.specs.declared.chunk.Chunk.{Chunk}
+use Rattle.board_alarms.specs.declared.chunk.Chunk.{Chunk}
 use Rattle.board_game.specs.History.{Adds, AreShown, Bytes, Came, Item, Makes, News, bytes_of, events_of}
 use Rattle.board_game.proofs.ItemLemmas.{events_found}
 use Rattle.board_game.proofs.PlainLemmas.{ShowsOnce, same_shown}

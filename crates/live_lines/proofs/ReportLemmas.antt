@@ -45,8 +45,8 @@ use Rattle.board_listing.specs.WatchLines.{picture_words, position_words, readin
 use Rattle.board_listing.specs.WatchText.{IsGameLine, ShowsPicture, ShowsReading, WatchesEvent, with_position}
 use Rattle.board_listing.proofs.TextLemmas.{IsPrinted, Printed, both, clock_printed, fixed, weaker}
 use Rattle.board_listing.proofs.WatchLawLemmas.{with_if}
-use Rattle.board_game.specs.declared.chunk.Chunk.{Chunk}
-use Rattle.board_game.specs.History.{Adds, Bytes, Came, Finds, Item, Makes, News, Noted, Pair, Sent, events_of, with_events, with_found}
+use Rattle.board_alarms.specs.declared.chunk.Chunk.{Chunk}
+use Rattle.board_game.specs.History.{Adds, Bytes, Came, Finds, Item, Makes, News, Noted, Pair, Sent, events_of, put_in_with, with_events, with_found}
 use Rattle.board_game.specs.Report.{IsReport, Reports}
 use Rattle.live_lines.specs.Laws.{HasLines, IsPrinted as IsOfALine, ReportLine, report_text}
 use Rattle.live_lines.proofs.AnswerLemmas.{IsDigit, body, body_lacks_feed, decimal_digits, fed}
@@ -238,7 +238,7 @@ good_here : (setting : Setting) (recovers : Bool) (past : List Event) (time : Ch
 good_here setting recovers past time x None items valid h finds = h
 good_here setting false past time x (Some r) items valid h finds = let never : true ≡ false = ap is_some finds in absurd cc
 good_here setting true past time x (Some r) items valid h finds =
-    good_events time x.offset (put_in setting.first setting.rotated (entry_at setting.first setting.rotated (x.event ∷ past)) r)
+    good_events (put_in_with time) x.offset (put_in setting.first setting.rotated (entry_at setting.first setting.rotated (x.event ∷ past)) r)
     (Pair time x.offset r ∷ Sent time x ∷ items) (good_found setting past x.event r valid finds, h)
 
 good_added : (setting : Setting) (recovers : Bool) (time : Chunk) (past : List Event) (more : List Timed) (before items : List Item) → Valid setting.start

@@ -7,7 +7,7 @@ use Rattle.dgt_frame.specs.Streams.{Timed}
 use Rattle.board_events.specs.Commands.{past_of}
 use Rattle.board_events.specs.Game.{IsGameOf}
 use Rattle.board_events.specs.Settings.{Setting}
-use Rattle.board_game.specs.declared.chunk.Chunk.{Chunk}
+use Rattle.board_alarms.specs.declared.chunk.Chunk.{Chunk}
 use Rattle.board_game.specs.History.{Adds, AreShown, Bytes, Came, Item, Makes, News, bytes_of, events_of, with_found}
 use Rattle.board_game.proofs.PlainLemmas.{ShowsOnce, same_shown}
 use Rattle.chess_game.specs.Games.{Content}

@@ -6,9 +6,9 @@ ghost use Rattle.board_events.specs.History.{IsInRange};
 
 use crate::coded_frames::expect_none;
 use crate::doubted::codes_of;
-use board_alarms::{Alarms, News, Sight};
+use board_alarms::{Alarms, Chunk, News, Sight, When};
 use board_doubts::Place;
-use board_doubts::Why::{self, AfterGap, Late, OtherTime, Unpressed};
+use board_doubts::Why::{self, AfterGap, Late, OtherTime, TakenBack, Unpressed};
 use board_events::Session;
 use board_looks::Look;
 use chess_game::result_at;
@@ -24,12 +24,18 @@ enum Step<'a> {
     Sends(&'a str),
     /// A dump is added by hand.
     Adds(&'a str),
+    /// After a time so many dumps come at once: the last one, and those before it.
+    SendsAtOnce(u64, &'a str),
+    /// A dump is put in with a pair.
+    PutsIn(&'a str),
     /// The seconds of White and of Black below one minute, and the status.
     Time(u8, u8, u8),
+    /// The same, put in.
+    PutsInTime(u8, u8, u8),
     Notes(News),
 }
 
-use Step::{Adds, Notes, Sends, Time};
+use Step::{Adds, Notes, PutsIn, PutsInTime, Sends, SendsAtOnce, Time};
 
 /// An alarm that is open.
 #[derive(Clone, Copy, PartialEq, Eq)]
@@ -91,13 +97,21 @@ const RUNS_UP: u8 = 0x03;
 
 const STANDS: u8 = 0x00;
 
-static CASES: [Case<'static>; 20] = [
+/// A dump has so many bytes.
+const DUMP: u64 = 67;
+
+static CASES: [Case<'static>; 25] = [
     // A correction is late after more than 10 s.
     Case {
         steps: &[
             (0, Sends(START)),
             (1_000, Sends(E4)),
-            (6_000, Sends(E4)),
+            (2_500, Sends(E4)),
+            (4_000, Sends(E4)),
+            (5_500, Sends(E4)),
+            (7_000, Sends(E4)),
+            (8_500, Sends(E4)),
+            (10_000, Sends(E4)),
             (11_001, Sends(E3)),
         ],
         open: &[At(1, Late)],
@@ -106,7 +120,12 @@ static CASES: [Case<'static>; 20] = [
         steps: &[
             (0, Sends(START)),
             (1_000, Sends(E4)),
-            (6_000, Sends(E4)),
+            (2_500, Sends(E4)),
+            (4_000, Sends(E4)),
+            (5_500, Sends(E4)),
+            (7_000, Sends(E4)),
+            (8_500, Sends(E4)),
+            (10_000, Sends(E4)),
             (11_000, Sends(E3)),
         ],
         open: &[],
@@ -116,18 +135,23 @@ static CASES: [Case<'static>; 20] = [
         steps: &[
             (0, Sends(START)),
             (1_000, Sends(E4)),
-            (6_000, Sends(E4)),
+            (2_500, Sends(E4)),
+            (4_000, Sends(E4)),
+            (5_500, Sends(E4)),
+            (7_000, Sends(E4)),
+            (8_500, Sends(E4)),
+            (10_000, Sends(E4)),
             (11_001, Adds(E3)),
         ],
         open: &[],
     },
-    // Nothing came for 10 s: there was time for two plies. And for less.
+    // Nothing came for 6 s: plies may have been made, whatever the pace. And for less.
     Case {
         steps: &[
             (0, Sends(START)),
             (1_000, Sends(E4)),
-            (2_000, Sends(E5)),
-            (12_000, Sends(E5)),
+            (5_000, Sends(E5)),
+            (11_000, Sends(E5)),
         ],
         open: &[After(2, AfterGap)],
     },
@@ -136,7 +160,66 @@ static CASES: [Case<'static>; 20] = [
             (0, Sends(START)),
             (1_000, Sends(E4)),
             (2_000, Sends(E5)),
-            (11_999, Sends(E5)),
+            (7_999, Sends(E5)),
+        ],
+        open: &[],
+    },
+    // The line was late: five dumps come at once after 6 s. Four are too few.
+    Case {
+        steps: &[
+            (0, Sends(START)),
+            (1_000, Sends(E4)),
+            (2_000, Sends(E5)),
+            (8_000, SendsAtOnce(5, E5)),
+        ],
+        open: &[],
+    },
+    Case {
+        steps: &[
+            (0, Sends(START)),
+            (1_000, Sends(E4)),
+            (2_000, Sends(E5)),
+            (8_000, SendsAtOnce(4, E5)),
+        ],
+        open: &[After(2, AfterGap)],
+    },
+    // A pair that is put in takes both sides' last plies back. And another pair.
+    Case {
+        steps: &[
+            (0, Sends(START)),
+            (1_000, Sends(OUT)),
+            (2_000, Sends(BOTH_OUT)),
+            (3_500, Sends(BOTH_OUT)),
+            (5_000, Notes(News::PutsIn)),
+            (5_000, PutsIn(HOME)),
+            (5_000, PutsIn(START)),
+        ],
+        open: &[At(4, TakenBack)],
+    },
+    Case {
+        steps: &[
+            (0, Sends(START)),
+            (1_000, Sends(E4)),
+            (2_000, Sends(E5)),
+            (3_500, Sends(E5)),
+            (5_000, Notes(News::PutsIn)),
+            (5_000, PutsIn(NF3)),
+            (5_000, PutsIn(NC6)),
+        ],
+        open: &[],
+    },
+    // A time that is put in doesn't say that the clock stands.
+    Case {
+        steps: &[
+            (0, Sends(START)),
+            (100, Time(59, 59, RUNS)),
+            (1_000, Sends(E4)),
+            (2_000, Sends(E5)),
+            (3_000, PutsInTime(59, 59, STANDS)),
+            (3_500, Sends(E5)),
+            (5_000, Sends(E5)),
+            (6_000, Sends(NF3)),
+            (7_000, Sends(NC6)),
         ],
         open: &[],
     },
@@ -237,6 +320,8 @@ static CASES: [Case<'static>; 20] = [
             (1_000, Sends(E4)),
             (2_000, Sends(E5)),
             (3_000, Time(59, 59, STANDS)),
+            (4_000, Time(59, 59, STANDS)),
+            (5_000, Time(59, 59, STANDS)),
             (6_000, Sends(NF3)),
             (7_000, Sends(NC6)),
         ],
@@ -250,6 +335,8 @@ static CASES: [Case<'static>; 20] = [
             (1_000, Sends(E4)),
             (2_000, Sends(E5)),
             (3_000, Time(59, 59, STANDS)),
+            (4_000, Time(59, 59, STANDS)),
+            (5_000, Time(59, 59, STANDS)),
             (6_000, Sends(NF3)),
             (6_500, Notes(News::Looked)),
         ],
@@ -272,11 +359,11 @@ static CASES: [Case<'static>; 20] = [
             (100, Time(59, 59, RUNS)),
             (200, Time(59, 59, RUNS_UP)),
             (1_000, Sends(E4)),
-            (2_000, Sends(E5)),
-            (3_000, Sends(NF3)),
-            (4_000, Sends(NC6)),
-            (5_000, Sends(BB5)),
-            (6_000, Sends(A6)),
+            (2_500, Sends(E5)),
+            (4_000, Sends(NF3)),
+            (5_500, Sends(NC6)),
+            (7_000, Sends(BB5)),
+            (8_500, Sends(A6)),
         ],
         open: &[At(6, Unpressed)],
     },
@@ -286,12 +373,12 @@ static CASES: [Case<'static>; 20] = [
             (100, Time(59, 59, RUNS)),
             (200, Time(59, 59, RUNS_UP)),
             (1_000, Sends(E4)),
-            (2_000, Sends(E5)),
-            (3_000, Sends(NF3)),
-            (3_500, Time(59, 59, RUNS)),
-            (4_000, Sends(NC6)),
-            (5_000, Sends(BB5)),
-            (6_000, Sends(A6)),
+            (2_500, Sends(E5)),
+            (4_000, Sends(NF3)),
+            (4_700, Time(59, 59, RUNS)),
+            (5_500, Sends(NC6)),
+            (7_000, Sends(BB5)),
+            (8_500, Sends(A6)),
         ],
         open: &[],
     },
@@ -347,12 +434,41 @@ struct Board {
     alarms: Alarms,
     /// The last picture.
     shown: [u8; 64],
+    /// So many bytes the capture has.
+    bytes: u64,
 }
 
 /// Two digits as a clock sends them.
 fn digits(n: u8) -> u8 {
     let tens = (n / 10) % 8;
     tens * 16 + n % 10
+}
+
+/// A time message.
+fn time_of(white: u8, black: u8, status: u8) -> Event
+    ensures { IsInRange result }
+{
+    let times = [0, 0, digits(white), 0, 0, digits(black), status];
+    Event::Message(Message::Time(times))
+}
+
+/// The same bytes, added by hand.
+fn added(chunk: Chunk) -> Chunk {
+    Chunk {
+        when: When {
+            is_added: true,
+            ..chunk.when
+        },
+        ..chunk
+    }
+}
+
+/// The same bytes, put in.
+fn put_in(chunk: Chunk) -> Chunk {
+    Chunk {
+        is_put_in: true,
+        ..chunk
+    }
 }
 
 /// What an event shows in which a session has seen this.
@@ -392,26 +508,39 @@ impl Board {
             session: Session::new(alloc, start, First::White, false),
             alarms,
             shown: [0; 64],
+            bytes: 0,
         }
     }
 
-    fn dump(&mut self, at: u64, is_added: bool, codes: [u8; 64]) -> Result<(), AllocError> {
+    /// The bytes that come now.
+    fn chunk(&mut self, at: u64, size: u64) -> Chunk {
+        self.bytes = self.bytes.saturating_add(size);
+        Chunk {
+            when: When {
+                at,
+                is_added: false,
+            },
+            end: self.bytes,
+            is_put_in: false,
+        }
+    }
+
+    fn dump(&mut self, chunk: Chunk, codes: [u8; 64]) -> Result<(), AllocError> {
         self.shown = codes;
         let Some(event) = dump_of(codes) else {
             return Ok(());
         };
-        self.event(at, is_added, event)
+        self.event(chunk, event)
     }
 
-    fn event(&mut self, at: u64, is_added: bool, event: Event) -> Result<(), AllocError>
+    fn event(&mut self, chunk: Chunk, event: Event) -> Result<(), AllocError>
         requires { IsInRange event }
     {
         let seen = feed(&mut self.session, event)?;
         let settler = self.session.settler();
         let result = result_at(settler.position(), settler.sign());
         self.alarms.take(
-            at,
-            is_added,
+            chunk,
             &event,
             sight(seen),
             &self.shown,
@@ -422,12 +551,29 @@ impl Board {
 
     fn take(&mut self, at: u64, step: Step<'_>) -> Result<(), AllocError> {
         match step {
-            Sends(placement) => self.dump(at, false, codes_of(placement)),
-            Adds(placement) => self.dump(at, true, codes_of(placement)),
+            Sends(placement) => {
+                let chunk = self.chunk(at, DUMP);
+                self.dump(chunk, codes_of(placement))
+            }
+            SendsAtOnce(dumps, placement) => {
+                let chunk = self.chunk(at, DUMP.saturating_mul(dumps));
+                self.dump(chunk, codes_of(placement))
+            }
+            Adds(placement) => {
+                let chunk = added(self.chunk(at, DUMP));
+                self.dump(chunk, codes_of(placement))
+            }
+            PutsIn(placement) => {
+                let chunk = put_in(self.chunk(at, 0));
+                self.dump(chunk, codes_of(placement))
+            }
             Time(white, black, status) => {
-                let times = [0, 0, digits(white), 0, 0, digits(black), status];
-                let event = Event::Message(Message::Time(times));
-                self.event(at, false, event)
+                let chunk = self.chunk(at, 10);
+                self.event(chunk, time_of(white, black, status))
+            }
+            PutsInTime(white, black, status) => {
+                let chunk = put_in(self.chunk(at, 0));
+                self.event(chunk, time_of(white, black, status))
             }
             Notes(news) => self.alarms.note(at, news),
         }

@@ -5,7 +5,7 @@
 use crate::coded_frames::{expect_none, first_false};
 use board_doubts::Place::{AfterLast, AtLast};
 use board_doubts::Why::{
-    AfterGap, BothElsewhere, Elsewhere, Late, OtherTime, TakenBack, Unpressed,
+    AfterGap, BothElsewhere, Elsewhere, Late, MovedOn, OtherTime, Returned, TakenBack, Unpressed,
 };
 use board_doubts::{Doubt, Doubts, Event, Gap, Heard, Place, Played, Ply, Why, seen};
 
@@ -39,7 +39,9 @@ enum Step<'a> {
     Restart(u64),
 }
 
-use Front::{Beside, Clocked, Kings, Knight, Paced, PutBack, Queen, Twice, Unclocked};
+use Front::{
+    Beside, Bishops, Clocked, Kings, Knight, Knights, Paced, PutBack, Queen, Twice, Unclocked,
+};
 use Step::{
     Agrees, Away, Back, Corrects, Counts, Ends, Goes, GoesInstead, Moves, Picture, Position,
     Presses, Reopens, Repeats, Restart, Runs, Stands,
@@ -62,6 +64,8 @@ enum Front {
     Paced,
     Clocked,
     Unclocked,
+    Bishops,
+    Knights,
 }
 
 struct Case<'a> {
@@ -268,6 +272,8 @@ fn steps_of(front: Front) -> &'static [(u64, Step<'static>)] {
         Paced => &PLIES,
         Clocked => &PRESSED,
         Unclocked => &UNPRESSED,
+        Bishops => &BISHOPS,
+        Knights => &KNIGHTS,
     }
 }
 
@@ -807,17 +813,17 @@ static AWAY: [Case<'static>; 8] = [
         ],
         doubts: &[(0, AfterLast, AfterGap)],
     },
-    // it stands as before after a gap of 6 s, and three are a ply
+    // it stands as before after a gap of 5 s
     Case {
         front: Queen,
-        steps: &[(5_000, Away(6_000)), (66_000, Stands)],
+        steps: &[(5_000, Away(5_000)), (66_000, Stands)],
         doubts: &[(1, AfterLast, AfterGap)],
     },
     // it stands as before after a shorter one, and then there is a move
     Case {
         front: Queen,
         steps: &[
-            (5_000, Away(5_900)),
+            (5_000, Away(4_900)),
             (66_000, Stands),
             (70_000, Picture("k7/8/8/8/8/5q2/8/6K1")),
             (70_000, Moves),
@@ -1043,26 +1049,26 @@ static PLIES: [(u64, Step<'static>); 12] = [
     (329_000, Moves),
 ];
 
-/// A gap hides a move if it is as long as a ply.
+/// A gap hides a move if it is as long as a ply, or five seconds.
 static PACES: [Case<'static>; 3] = [
-    // a gap of 9.9 s at 10 s a ply
+    // a gap of 4.9 s at 10 s a ply
     Case {
         front: Paced,
-        steps: &[(339_000, Away(9_900)), (339_000, Moves)],
+        steps: &[(339_000, Away(4_900)), (339_000, Moves)],
         doubts: &[],
     },
-    // a gap of 10 s
+    // a gap of 5 s
     Case {
         front: Paced,
-        steps: &[(339_000, Away(10_000)), (339_000, Moves)],
+        steps: &[(339_000, Away(5_000)), (339_000, Moves)],
         doubts: &[(12, AtLast, AfterGap)],
     },
-    // two of 5 s
+    // two of 2.5 s
     Case {
         front: Paced,
         steps: &[
-            (339_000, Away(5_000)),
-            (339_000, Away(5_000)),
+            (339_000, Away(2_500)),
+            (339_000, Away(2_500)),
             (339_000, Moves),
         ],
         doubts: &[(12, AtLast, AfterGap)],
@@ -1093,7 +1099,7 @@ static UNPRESSED: [(u64, Step<'static>); 4] = [
 ];
 
 /// Knights go back.
-static TAKEN_BACK: [Case<'static>; 6] = [
+static TAKEN_BACK: [Case<'static>; 15] = [
     // both, and nobody presses the clock
     Case {
         front: Clocked,
@@ -1102,8 +1108,47 @@ static TAKEN_BACK: [Case<'static>; 6] = [
             (23_000, Goes(45, 62)),
             (25_000, Moves),
             (25_000, Goes(21, 6)),
+            (26_000, Runs),
         ],
         doubts: &[(4, AtLast, TakenBack)],
+    },
+    // the next picture comes before the clock says anything
+    Case {
+        front: Clocked,
+        steps: &[
+            (23_000, Moves),
+            (23_000, Goes(45, 62)),
+            (25_000, Moves),
+            (25_000, Goes(21, 6)),
+            (25_700, Picture("8/8/8/8/8/8/8/8")),
+            (26_000, Runs),
+        ],
+        doubts: &[(4, AtLast, TakenBack)],
+    },
+    // it says that it was pressed
+    Case {
+        front: Clocked,
+        steps: &[
+            (23_000, Moves),
+            (23_000, Goes(45, 62)),
+            (25_000, Moves),
+            (25_000, Goes(21, 6)),
+            (26_000, Presses),
+            (26_000, Runs),
+        ],
+        doubts: &[],
+    },
+    // nobody had stopped to think before
+    Case {
+        front: Clocked,
+        steps: &[
+            (22_000, Moves),
+            (22_000, Goes(45, 62)),
+            (25_000, Moves),
+            (25_000, Goes(21, 6)),
+            (26_000, Runs),
+        ],
+        doubts: &[],
     },
     // the clock is pressed between them: both are moves
     Case {
@@ -1114,17 +1159,103 @@ static TAKEN_BACK: [Case<'static>; 6] = [
             (24_000, Presses),
             (25_000, Moves),
             (25_000, Goes(21, 6)),
+            (26_000, Runs),
         ],
         doubts: &[],
     },
-    // Black's goes elsewhere
+    // it is pressed half a second before White's is seen on g1: that is White's press
+    Case {
+        front: Clocked,
+        steps: &[
+            (22_500, Presses),
+            (23_000, Moves),
+            (23_000, Goes(45, 62)),
+            (25_000, Moves),
+            (25_000, Goes(21, 6)),
+            (26_000, Runs),
+        ],
+        doubts: &[],
+    },
+    // a bit earlier: it was Black's, for the ply before
+    Case {
+        front: Clocked,
+        steps: &[
+            (22_499, Presses),
+            (23_000, Moves),
+            (23_000, Goes(45, 62)),
+            (25_000, Moves),
+            (25_000, Goes(21, 6)),
+            (26_000, Runs),
+        ],
+        doubts: &[(4, AtLast, TakenBack)],
+    },
+    // two presses in one second: White's time went down, and now Black's does
+    Case {
+        front: Clocked,
+        steps: &[
+            (22_000, Counts(false)),
+            (23_000, Moves),
+            (23_000, Goes(45, 62)),
+            (24_000, Counts(true)),
+            (25_000, Moves),
+            (25_000, Goes(21, 6)),
+            (26_000, Runs),
+        ],
+        doubts: &[],
+    },
+    // the recorder is away between them, and the clock runs on
+    Case {
+        front: Clocked,
+        steps: &[
+            (22_000, Counts(false)),
+            (23_000, Moves),
+            (23_000, Goes(45, 62)),
+            (23_500, Restart(400)),
+            (24_000, Counts(false)),
+            (24_000, Runs),
+            (25_000, Moves),
+            (25_000, Goes(21, 6)),
+            (26_000, Runs),
+        ],
+        doubts: &[(4, AtLast, TakenBack)],
+    },
+    // meanwhile it was pressed
+    Case {
+        front: Clocked,
+        steps: &[
+            (23_000, Moves),
+            (23_000, Goes(45, 62)),
+            (23_500, Restart(400)),
+            (24_000, Presses),
+            (24_000, Runs),
+            (25_000, Moves),
+            (25_000, Goes(21, 6)),
+            (26_000, Runs),
+        ],
+        doubts: &[],
+    },
+    // the clock hasn't been heard again: it may have been
+    Case {
+        front: Clocked,
+        steps: &[
+            (23_000, Moves),
+            (23_000, Goes(45, 62)),
+            (23_500, Restart(400)),
+            (25_000, Moves),
+            (25_000, Goes(21, 6)),
+            (26_000, Runs),
+        ],
+        doubts: &[],
+    },
+    // Black's goes on to e4, where no line leads from g8
     Case {
         front: Clocked,
         steps: &[
             (23_000, Moves),
             (23_000, Goes(45, 62)),
             (25_000, Moves),
-            (25_000, Goes(21, 4)),
+            (25_000, Goes(21, 36)),
+            (26_000, Runs),
         ],
         doubts: &[],
     },
@@ -1169,6 +1300,124 @@ fn taken_back() -> bool {
     are_right(&TAKEN_BACK)
 }
 
+/// Bishops go to e2 and e7, and their players press.
+static BISHOPS: [(u64, Step<'static>); 7] = [
+    (0, Runs),
+    (10_000, Moves),
+    (10_000, Goes(61, 52)),
+    (10_500, Presses),
+    (20_000, Moves),
+    (20_000, Goes(5, 12)),
+    (20_500, Presses),
+];
+
+/// Four knights go out, and their players press.
+static KNIGHTS: [(u64, Step<'static>); 13] = [
+    (0, Runs),
+    (10_000, Moves),
+    (10_000, Goes(62, 45)),
+    (10_500, Presses),
+    (20_000, Moves),
+    (20_000, Goes(6, 21)),
+    (20_500, Presses),
+    (30_000, Moves),
+    (30_000, Goes(57, 42)),
+    (30_500, Presses),
+    (40_000, Moves),
+    (40_000, Goes(1, 18)),
+    (40_500, Presses),
+];
+
+/// Pieces are put elsewhere, or all go back.
+static SILENT: [Case<'static>; 6] = [
+    // to b5 and b4, as they could have gone from f1 and f8
+    Case {
+        front: Bishops,
+        steps: &[
+            (25_000, Moves),
+            (25_000, Goes(52, 25)),
+            (28_000, Moves),
+            (28_000, Goes(12, 33)),
+            (29_000, Runs),
+        ],
+        doubts: &[(4, AtLast, MovedOn)],
+    },
+    // Black's to g5: no line leads there from f8
+    Case {
+        front: Bishops,
+        steps: &[
+            (25_000, Moves),
+            (25_000, Goes(52, 25)),
+            (28_000, Moves),
+            (28_000, Goes(12, 30)),
+            (29_000, Runs),
+        ],
+        doubts: &[],
+    },
+    // White's goes back to f1, and Black's on: mostly they are played
+    Case {
+        front: Bishops,
+        steps: &[
+            (25_000, Moves),
+            (25_000, Goes(52, 61)),
+            (28_000, Moves),
+            (28_000, Goes(12, 33)),
+            (29_000, Runs),
+        ],
+        doubts: &[],
+    },
+    // White has pressed
+    Case {
+        front: Bishops,
+        steps: &[
+            (25_000, Moves),
+            (25_000, Goes(52, 25)),
+            (26_000, Presses),
+            (28_000, Moves),
+            (28_000, Goes(12, 33)),
+            (29_000, Runs),
+        ],
+        doubts: &[],
+    },
+    // all knights go back, five seconds each
+    Case {
+        front: Knights,
+        steps: &[
+            (45_000, Moves),
+            (45_000, Goes(45, 62)),
+            (50_000, Moves),
+            (50_000, Goes(21, 6)),
+            (55_000, Moves),
+            (55_000, Goes(42, 57)),
+            (60_000, Repeats),
+            (60_000, Goes(18, 1)),
+            (61_000, Runs),
+        ],
+        doubts: &[(8, AtLast, Returned)],
+    },
+    // White has pressed for the third one
+    Case {
+        front: Knights,
+        steps: &[
+            (45_000, Moves),
+            (45_000, Goes(45, 62)),
+            (50_000, Moves),
+            (50_000, Goes(21, 6)),
+            (55_000, Moves),
+            (55_000, Goes(42, 57)),
+            (56_000, Presses),
+            (60_000, Repeats),
+            (60_000, Goes(18, 1)),
+            (61_000, Runs),
+        ],
+        doubts: &[],
+    },
+];
+
+fn silent() -> bool {
+    are_right(&SILENT)
+}
+
 /// Where plies go that nobody takes back.
 static WAYS: [(u8, u8); 8] = [
     (0, 40),
@@ -1181,10 +1430,16 @@ static WAYS: [(u8, u8); 8] = [
     (15, 33),
 ];
 
-/// After how many of six plies the clock is pressed, if it is, and whether the sixth is doubted.
-static LEFT: [(Option<usize>, bool); 3] = [(None, true), (Some(1), false), (Some(5), false)];
+/// After how many of six plies the clock is pressed, if it is; how long each takes; and whether the sixth is doubted.
+static LEFT: [(Option<usize>, u64, bool); 5] = [
+    (None, 5_000, true),
+    (None, 1_001, true),
+    (None, 1_000, false),
+    (Some(1), 5_000, false),
+    (Some(5), 5_000, false),
+];
 
-fn is_left(pressed: Option<usize>, expected: bool) -> bool {
+fn is_left(pressed: Option<usize>, takes: u64, expected: bool) -> bool {
     let mut game = Game::new();
     game.play(&PRESSED, &[], 0);
     let mut now = 30_000u64;
@@ -1201,14 +1456,14 @@ fn is_left(pressed: Option<usize>, expected: bool) -> bool {
         if game.play(&[(now, Moves), (now, Goes(from, to))], last, 0) != Some(last.len()) {
             return false;
         }
-        now = now.saturating_add(5_000);
+        now = now.saturating_add(takes);
     }
     true
 }
 
 fn left() -> bool {
-    for (pressed, expected) in LEFT {
-        if !is_left(pressed, expected) {
+    for (pressed, takes, expected) in LEFT {
+        if !is_left(pressed, takes, expected) {
             return false;
         }
     }
@@ -1274,11 +1529,11 @@ fn is_late(millis: u64) -> bool {
 /// Milliseconds of a gap; of a ply, if they are known; whether a ply may be hidden in the gap.
 static GAPS: [(u64, Option<u64>, bool); 6] = [
     (3_000, None, true),
-    (2_900, None, false),
+    (2_400, None, false),
     (1_000, Some(200), true),
     (900, Some(200), false),
-    (59_000, Some(60_000), false),
-    (60_000, Some(60_000), true),
+    (2_400, Some(60_000), false),
+    (5_000, Some(60_000), true),
 ];
 
 /// A game of nine plies, each of this time; or of one.
@@ -1391,6 +1646,7 @@ fn news_is_doubted(rt: HostRuntime) {
         restarted(),
         paced(),
         taken_back(),
+        silent(),
         left(),
         lent(),
         are_limits(),

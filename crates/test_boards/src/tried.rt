@@ -40,7 +40,7 @@ static MESSAGES: [([u8; 7], Option<bool>); 9] = [
     ([0x11, 0x30, 0x00, 0x21, 0x00, 0x00, 0x01], Some(true)),
 ];
 
-static CASES: [Case<'static>; 25] = [
+static CASES: [Case<'static>; 26] = [
     Case {
         name: "no clock",
         steps: &[
@@ -338,6 +338,18 @@ static CASES: [Case<'static>; 25] = [
             (30_000, Moves),
         ],
         tried: &[],
+    },
+    Case {
+        name: "it stands as before when it is heard again",
+        steps: &[
+            (1_000, RUNS),
+            (9_000, Moves),
+            (10_000, STOPS),
+            (20_000, Gone),
+            (20_500, STOPS),
+            (21_000, Moves),
+        ],
+        tried: &[(1, 1)],
     },
 ];
 

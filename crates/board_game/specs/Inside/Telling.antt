@@ -14,7 +14,7 @@ use Rattle.board_standing.specs.declared.heard.Event.{Event as Told}
 use Rattle.board_standing.specs.Keeping.{StandsFor as StandingStands}
 use Rattle.recovery.specs.declared.keeper.Keeper.{Keeper}
 use Rattle.recovery.specs.Inside.Passing.{Adds as AddsPair, KeepsWithPutIn, added}
-use Rattle.board_game.specs.declared.chunk.Chunk.{Chunk}
+use Rattle.board_alarms.specs.declared.chunk.Chunk.{Chunk}
 use Rattle.board_game.specs.declared.following.Following.{Following}
 use Rattle.board_game.specs.declared.telling.Teller.{Teller}
 use Rattle.board_game.specs.Alarming.{alarm_items}

@@ -3,7 +3,7 @@ use Rattle.std.proofs.lemmas.Result.{on_ok_weaker}
 use Rattle.settle_core.specs.Settler.{SettlerState}
 use Rattle.board_looks.specs.declared.look.Told.{Told}
 use Rattle.board_events.specs.History.{reading_at}
-use Rattle.board_alarms.specs.Clock.{clock_of, counts_of, lever_at, lever_said, presses_of, runs_said}
+use Rattle.board_alarms.specs.Clock.{clock_of, counts_said, lever_at, lever_said, presses_of, runs_said}
 use Rattle.board_alarms.specs.Hearing.{AreMoved, EventHeard, agrees, away_of, moves, shown_at, with_event}
 use Rattle.board_alarms.specs.Plies.{HearsPlies}
 use Rattle.board_alarms.specs.Inside.{Grows, ShowsLast}
@@ -21,8 +21,9 @@ returns c = λ setting items h shown moved taken outcome.
     let settled = taken.settler in
     let old = h.score.plies in
     let score = c.args.session.now.settler.score in
-    let at = c.args.at in
-    let added = c.args.is_added in
+    let chunk = c.args.chunk in
+    let at = chunk.when.at in
+    let added = chunk.when.is_added in
     let sees = shown_at c.args.sight c.args.picture.now in
     let grown = grows setting past event h.score score h.valid h.folds settled.folds in
     let picture = c.in_ok-tell_picture.ensures setting.start old _ h.course (c.in_ok-tell_gap.ensures h.told h.looks) in
@@ -41,9 +42,9 @@ returns c = λ setting items h shown moved taken outcome.
       news = plies.0;
       ply = plies.1;
       ended = result.0;
-      counts = counts_of (reading_at setting.first past) (reading_at setting.first (event ∷ past));
-      presses = presses_of (lever_said event) (lever_at past);
-      clock = clock_of (runs_said event);
+      counts = counts_said chunk (reading_at setting.first past) (reading_at setting.first (event ∷ past));
+      presses = presses_of (lever_said chunk event) (lever_at items);
+      clock = clock_of (runs_said chunk event);
     } in
     let N : SettlerState → Type 0 = λ s. HearsPlies setting.start (agrees setting.start s.score.plies sees) old s.score.plies plies.0 plies.1 in
     let K : SettlerState → Type 0 = λ s. KeepsCourse c.tell_plies.new.course setting.start s.score.plies in
@@ -86,4 +87,4 @@ returns c = λ setting items h shown moved taken outcome.
       result_is = outcome;
       reading_is = clock.0;
       lever_is = clock.1;
-    }) (c.tell_clock.ensures setting past _ taken h.reading_is h.lever_is result.2)
+    }) (c.tell_clock.ensures setting items _ taken h.reading_is h.lever_is result.2)

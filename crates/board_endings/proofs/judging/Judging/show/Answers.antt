@@ -10,12 +10,12 @@ returns-then-show c = λ past h.
     let event = happens c.args.at c.args.bytes (Shows c.args.shown) in
     let S : Bool → Type 0 = λ taken. EndingStands c.show.new.self (if taken then event ∷ past else past) in
     record {
-      ending = subst S c.if-show.true (c.show.ensures.stands past c.args.at c.args.bytes h.ending);
-      end = (c.args.self.now.end, Nothing, h.end, c.show.ensures.said past c.args.at c.args.bytes h.ending c.if-show.true, refl);
+      ending = subst S c.if-show.true (c.show.ensures.stands past c.args.bytes h.ending);
+      end = (c.args.self.now.end, Nothing, h.end, c.show.ensures.said past c.args.bytes h.ending c.if-show.true, refl);
     }
 
 pub returns : goal.returns
 returns c = λ past h.
     let event = happens c.args.at c.args.bytes (Shows c.args.shown) in
     let S : Bool → Type 0 = λ taken. EndingStands c.show.new.self (if taken then event ∷ past else past) in
-    c.take.ensures past (record { ending = subst S c.if-show.false (c.show.ensures.stands past c.args.at c.args.bytes h.ending); end = h.end })
+    c.take.ensures past (record { ending = subst S c.if-show.false (c.show.ensures.stands past c.args.bytes h.ending); end = h.end })

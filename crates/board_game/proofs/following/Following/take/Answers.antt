@@ -1,6 +1,8 @@
 use Rattle.std.proofs.Common.{◌≡◌, ℕ, Bool, true, false, List, [], ◌∷◌, ◌++◌, sym, subst, ap, ◌∙◌}
 use Rattle.pair_frames.specs.PutIn.{ShowsWhole}
-use Rattle.board_game.specs.History.{Pair, Sent, events_of}
+use Rattle.board_alarms.specs.declared.chunk.Chunk.{Chunk}
+use Rattle.board_game.specs.History.{Pair, Sent, events_of, put_in_with, with_events}
+use Rattle.board_game.specs.Inside.Telling.{HasTold}
 use Rattle.board_game.proofs.HearLemmas.{PutsIn, some_pair, tells_none, tells_put}
 use Rattle.board_game.proofs.following.Following.take.Goals as goal
 
@@ -33,9 +35,12 @@ returns c = λ setting recovers past items text h.
     let first = c.in_ok-take.ensures setting items text h.told in
     let kept = c.in_ok-keep.ensures setting recovers past (events_of items) h.keeps in
     let some : c.keep.new.frames.items ≡ [] → ⊥ = λ e. clash _ (c.is_nothing.ensures.1 (c.as_slice-put.ensures.value ∙ e)) c.if-is_nothing.false in
-    let puts : PutsIn c.note_pair.new.self c.put_in.new.self c.args.chunk c.args.offset c.keep.new.frames.items (c.keep.new.lines.items ++ c.keep.new.gathered.items)
+    let puts : PutsIn c.note_pair.new.self c.put_in.new.self (put_in_with c.args.chunk) c.args.offset c.keep.new.frames.items (c.keep.new.lines.items ++ c.keep.new.gathered.items)
     (c.put_in.new.lines.items ++ c.put_in.new.gathered.items) =
-    λ s is t es told whole. c.in_ok-put_in.ensures s is t es told (subst (λ (bs : List ℕ). ShowsWhole bs es) (sym c.as_slice-put.ensures.value) whole) in
+    λ s is t es told whole.
+    let m = c.in_ok-put_in.ensures s is t es told (subst (λ (bs : List ℕ). ShowsWhole bs es) (sym c.as_slice-put.ensures.value) whole) in
+    let H : Chunk → Type 0 = λ k. HasTold c.put_in.new.self s (with_events k c.args.offset es is) (t ++ m.0) in
+    (m.0, m.1, subst H c.put_in_with.ensures m.2) in
     tells_put _ c.take.new.self c.note_pair.new.self setting recovers past items text first.0 c.args.chunk c.args.offset c.args.event.now c.keep.new.frames.items kept.0
     (c.args.lines.now.items ++ c.args.gathered.now.items) (c.take.new.lines.items ++ c.take.new.gathered.items) (c.keep.new.lines.items ++ c.keep.new.gathered.items)
     (c.put_in.new.lines.items ++ c.put_in.new.gathered.items) kept.2 some first.1 first.2 kept.1 c.in_ok-note_pair.ensures puts

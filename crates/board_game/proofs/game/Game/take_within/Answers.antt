@@ -1,4 +1,4 @@
-use Rattle.std.proofs.Common.{◌≡◌, ℕ, ◌+◌, ◌-◌, ◌<◌, ◌≤◌, List, [], ◌∷◌, ◌++◌, length, length-drop, take, take-add, take_all, drop, arith, subst, sym, ap, ◌∙◌, refl, IfSome, IfNone}
+use Rattle.std.proofs.Common.{◌≡◌, ℕ, ◌+◌, ◌-◌, ◌<◌, ◌≤◌, List, [], ◌∷◌, ◌++◌, length, length-drop, take, take-add, take_all, drop, arith, subst, sym, ap, ◌∙◌, refl, IfSome, IfNone, false}
 use Rattle.std.proofs.lemmas.List.{length-take, take-append-drop}
 use Rattle.dgt_frame.specs.declared.decode.Decoder.{Decoder}
 use Rattle.dgt_frame.specs.declared.events.Event.{Event}
@@ -84,6 +84,6 @@ returns c = λ setting recovers past text s.
     let rest = within_rest old new c.events.self.following setting recovers past text w.0 c.chunk_of-chunk.result (take at bytes) more c.args.lines.now.items (c.events.lines.items ++ c.events.self.gathered.items) takes w.1 in
     let W : List ℕ → Type 0 = λ bs. IsWithin new c.events.self.following setting recovers past text w.0 c.chunk_of-chunk.result bs c.args.lines.now.items (c.events.lines.items ++ c.events.self.gathered.items) in
     within_end _ setting recovers past text w.0 c.args.when c.chunk_of-chunk.result _ bytes c.args.lines.now.items (c.events.lines.items ++ c.events.self.gathered.items) c.append.new.out.items
-    c.chunk_of-chunk.ensures.when (c.chunk_of-chunk.ensures.end ∙ ap (λ (n : ℕ). n + length bytes) s.counted)
+    (c.chunk_of-chunk.ensures ∙ ap (λ (n : ℕ). record { when = c.args.when; end = n + length bytes; is_put_in = false }) s.counted)
     (c.in_ok-append.ensures ∙ ap (λ (t : List ℕ). c.events.lines.items ++ t) c.as_slice.ensures.value) (subst W (take-append-drop at bytes) rest) c.pending.ensures
     (omega (arith, s.counted, c.events.invariant.count)) (omega (arith, s.counted, c.requires.room))

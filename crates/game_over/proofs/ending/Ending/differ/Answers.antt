@@ -15,7 +15,8 @@ returns-clause-stands c past bytes h =
         earlier_are = ap (λ v. v.items) c.show.ensures.earlier ∙ h.moves.earlier_are;
         places_are = ap (λ v. v.items) c.show.ensures.places ∙ h.moves.places_are;
       };
-      again = h.again;
+      again = c.again_at-self.ensures past h;
+      left = refl;
       given_is = h.given_is;
       over_is = h.over_is ∙ sym (over_quiet event past quiet);
       begun = h.begun;

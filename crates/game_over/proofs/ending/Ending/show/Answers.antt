@@ -3,7 +3,7 @@ use Rattle.std.specs.Prelude.{is_some, ◌==◌}
 use Rattle.game_over.specs.declared.happened.Happening.TheVariants.{Shows}
 use Rattle.game_over.specs.declared.said.Why.{Why}
 use Rattle.game_over.specs.declared.said.Why.TheVariants.{SetUp, Unfinished}
-use Rattle.game_over.specs.Over.{happens, has_begun, pictures, starts_again}
+use Rattle.game_over.specs.Over.{happens, has_begun, pictures_at, starts_again}
 use Rattle.game_over.specs.Result.{last_given}
 use Rattle.game_over.proofs.Quiet.{IsQuiet, another_quiet, has_played_quiet, over_quiet, played_quiet}
 use Rattle.game_over.proofs.ending.Ending.show.Goals as goal
@@ -21,21 +21,23 @@ none_ends true begun why h = absurd cc
 none_ends false begun why h = refl
 
 pub returns-clause-stands : goal.returns-clause-stands
-returns-clause-stands c past at bytes h =
+returns-clause-stands c past bytes h =
+    let at = c.args.at in
     let shown = c.args.shown in
     let event = happens at bytes (Shows shown) in
     let says = sym (c.may_say.ensures past h) ∙ c.if-may_say.false in
-    let starts = neither_other (shown.off == 0) (starts_again shown past) says in
+    let starts = neither_other (shown.off == 0) (starts_again at shown past) says in
     let quiet : IsQuiet event past = record {
-      ends = none_ends (starts_again shown past) (has_begun past) (if is_some (last_given past) then SetUp else Unfinished) starts;
+      ends = none_ends (starts_again at shown past) (has_begun past) (if is_some (last_given past) then SetUp else Unfinished) starts;
       reopened = refl;
-      start = neither_one (shown.off == 0) (starts_again shown past) says;
+      start = neither_one (shown.off == 0) (starts_again at shown past) says;
       counted = refl;
       out = refl;
     } in
     record {
       moves = record { last_is = h.moves.last_is; earlier_are = h.moves.earlier_are; places_are = h.moves.places_are };
-      again = c.take.ensures.stands (pictures past) h.again;
+      again = c.take.ensures.stands (pictures_at at past) (c.again_at-again.ensures past h);
+      left = refl;
       given_is = h.given_is;
       over_is = h.over_is ∙ sym (over_quiet event past quiet);
       begun = h.begun;
