@@ -444,14 +444,6 @@ fn digits(n: u8) -> u8 {
     tens * 16 + n % 10
 }
 
-/// A time message.
-fn time_of(white: u8, black: u8, status: u8) -> Event
-    ensures { IsInRange result }
-{
-    let times = [0, 0, digits(white), 0, 0, digits(black), status];
-    Event::Message(Message::Time(times))
-}
-
 /// The same bytes, added by hand.
 fn added(chunk: Chunk) -> Chunk {
     Chunk {
@@ -533,6 +525,12 @@ impl Board {
         self.event(chunk, event)
     }
 
+    fn time(&mut self, chunk: Chunk, white: u8, black: u8, status: u8) -> Result<(), AllocError> {
+        let times = [0, 0, digits(white), 0, 0, digits(black), status];
+        let event = Event::Message(Message::Time(times));
+        self.event(chunk, event)
+    }
+
     fn event(&mut self, chunk: Chunk, event: Event) -> Result<(), AllocError>
         requires { IsInRange event }
     {
@@ -569,11 +567,11 @@ impl Board {
             }
             Time(white, black, status) => {
                 let chunk = self.chunk(at, 10);
-                self.event(chunk, time_of(white, black, status))
+                self.time(chunk, white, black, status)
             }
             PutsInTime(white, black, status) => {
                 let chunk = put_in(self.chunk(at, 0));
-                self.event(chunk, time_of(white, black, status))
+                self.time(chunk, white, black, status)
             }
             Notes(news) => self.alarms.note(at, news),
         }
