@@ -10,7 +10,7 @@ from live.board.state import DISK_FULL, OTHER_BOARD, Kind, State, mend_of
 from live.board.whose import WHERE
 from live.game.afterwards import over
 from live.game.answers import NO_PLIES
-from live.game.doubted import ABOUT_CLOCK, THE_START, WHY
+from live.game.doubted import ABOUT_CLOCK, ABOUT_RESULT, THE_START, WHY
 from live.game.looks import AFTER_RESULT, OVER, Look
 from live.game.reply import BACK, OK, REOPENS
 from live.game.way_back import NO_RESULT
@@ -101,6 +101,10 @@ def if_not(look: Look, typed: Typed, moves: Moves) -> str:
         return Message("advice.not_over", reopens=typed(REOPENS))
     if look.why == AFTER_RESULT:
         return Message("advice.this_one_is_right", reopens=typed(REOPENS))
+    if is_of(look.why, "look.unheard_after_result"):
+        return Message("advice.not_over", reopens=typed(REOPENS))
+    if look.about.startswith(ABOUT_RESULT):
+        return Message("advice.take_off_before_result", hold=HOLD_A_KING, back=typed(f"{BACK} {(NO_PLIES if ply == THE_START else ply)}"))
     if look.about.startswith(ABOUT_CLOCK):
         return Message("advice.take_off", hold=HOLD_A_KING, back=typed(f"{BACK} {(NO_PLIES if ply == THE_START else ply)}"))
     if look.why in (WHY["OTHER-TIME"], WHY["RETURNED"]) or look.about == WHERE:

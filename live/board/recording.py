@@ -14,9 +14,9 @@ from live.board.reasons import SAID, Reason, Rules
 from live.board.standing import Standing
 from live.board.state import lasting, mend_of, trouble_of
 from live.game import times
-from live.game.afterwards import corrected
-from live.game.attended import SUSPECT, Doubt, Over
-from live.game.doubted import byte_of, look_of
+from live.game.afterwards import corrected, unheard
+from live.game.attended import STOOD, SUSPECT, Doubt, Over
+from live.game.doubted import byte_of, look_of, name_of
 from live.game.edited import told_of_edit
 from live.game.files import text_of
 from live.game.front import front_of
@@ -381,6 +381,9 @@ class Recording(AttendedGame):
             self._say_what_is_dropped(self.end)
         if reason is Reason.CORRECTED and self.dropped:
             self.look_at(corrected(self.dropped[0].short))
+        elif over.why == STOOD and not over.sure:
+            if not self.was_over:
+                self.look_at(unheard(name_of(len(self.course.plies), self.course.plies)))
         elif not over.sure:
             self._screen.say(Message("over.end_not_sure", pgn=self.game.paths.pgn))
         self._end(reason)

@@ -27,6 +27,11 @@ def corrected(ply: str) -> Look:
     return Look(Message("look.at", ply=ply), AFTER_RESULT)
 
 
+def unheard(ply: str) -> Look:
+    """The board wasn't heard until the result had stood, with which the game is over. This is its last ply."""
+    return Look(Message("look.after", ply=ply), Message("look.unheard_after_result"))
+
+
 def is_read_anew(stood: str, start: str, plies: int) -> bool:
     """Whether what a board shows behind the end of its game is read by itself, since it stood at the start last before that: then the
     next dump begins the next game. A game without a move was forfeited, and the start is its own."""

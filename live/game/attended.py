@@ -10,6 +10,7 @@ from typing import List, NamedTuple, Optional, Tuple
 # What is told, beside the words of NAME.times.
 KEPT, CAPTURE, NUMBER, LENT, WAKE, TEXT = "kept", "capture", "number", "lent", "wake", "text"
 AT, AFTER, SINCE, SUSPECT = "at", "after", "since", "SUSPECT"  # where somebody must look
+UNPLAYED, STOOD = "UNPLAYED", "STOOD"  # nobody may have played these moves; the result has stood
 DOUBT = re.compile(f"look (?:({SUSPECT}) ([0-9]+)|({AT}|{AFTER}|{SINCE}) ([0-9]+) ([A-Z-]+)(?: ([0-9]+))?)")
 KEEP, HOLD, OTHER = "keep", "hold", "other"
 UNPLUGGED, SILENT, WAITS = UNSEEN = "UNPLUGGED", "SILENT", "WAITS"  # states in which the board may have shown nothing

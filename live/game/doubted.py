@@ -4,7 +4,7 @@ from __future__ import annotations
 
 from typing import Sequence
 
-from live.game.attended import AFTER, SINCE, Doubt
+from live.game.attended import AFTER, SINCE, UNPLAYED, Doubt
 from live.game.looks import Look
 from live.game.report import Move
 from live.words.message import Message, plural
@@ -20,7 +20,7 @@ WHY = {
     "RETURNED": Message("doubt.returned"),
     "OTHER-TIME": Message("doubt.other_time"),
 }
-ABOUT_CLOCK = "clock"
+ABOUT_CLOCK, ABOUT_RESULT = "clock", "result"
 THE_START = Message("ply.the_start")  # in the place of a ply
 UNKNOWN = Message("doubt.unknown")  # for a word of a newer program
 
@@ -42,6 +42,8 @@ def name_of(number: int, plies: Sequence[Move]) -> str:
 def look_of(doubt: Doubt, plies: Sequence[Move]) -> Look:
     """What somebody must look at, in a game that has these plies. A ply that isn't known is named by its number."""
     name = name_of(doubt.plies, plies)
+    if doubt.where == SINCE and doubt.why == UNPLAYED:
+        return Look(Message("look.since", ply=name), plural("doubt.unplayed", doubt.moves), f"{ABOUT_RESULT} {name}")
     if doubt.where == SINCE:
         return Look(Message("look.since", ply=name), plural("doubt.clock_stopped", doubt.moves), f"{ABOUT_CLOCK} {name}")
     what = Message("look.after", ply=name) if doubt.where == AFTER else Message("look.at", ply=name)

@@ -1,6 +1,6 @@
 """A board whose game is over: what somebody must look at, and where the next game begins."""
 
-from live.game.afterwards import corrected, is_read_anew, is_set_up, next_begins, went_on
+from live.game.afterwards import corrected, is_read_anew, is_set_up, next_begins, unheard, went_on
 from live.game.looks import Looks
 
 from decided.cases import cases
@@ -13,6 +13,8 @@ def looks() -> None:
         same(expected, went_on(after, moves, result).text, expected)
     for ply, expected in cases("afterwards", "corrected"):
         same(expected, corrected(ply).text, expected)
+    for ply, expected in cases("afterwards", "unheard"):
+        same(expected, unheard(ply).text, expected)
     same("more replace it", Looks().with_one_more(went_on("38. Kf2", 2, "1-0")).with_one_more(went_on("38. Kf2", 3, "1-0")).all,
          "LOOK after 38. Kf2: 3 moves were made, and the game is over: 1-0")  # fmt: skip
 

@@ -230,7 +230,9 @@ def captured(*sent: bytes) -> List[bytes]:
 
 SIGNED = [b"0 begin 0\n", heard(100, INITIAL), heard(1100, KINGS_PAWN), heard(3100, BLACK_WINS)]
 
-STOOD_LATE = [*SIGNED, heard(20000, BOTH_PAWNS)]  # and it has stood by then
+SEEN = heard(13100, BLACK_WINS)  # ten seconds later the kings still stand there
+STOOD = [*SIGNED, SEEN]
+STOOD_LATE = [*STOOD, heard(20000, BOTH_PAWNS)]
 NC6 = dump("r1bqkbnr/pppp1ppp/2n5/4p3/4P3/5N2/PPPP1PPP/RNBQKB1R")
 BB5 = dump("r1bqkbnr/pppp1ppp/2n5/1B2p3/4P3/5N2/PPPP1PPP/RNBQK2R")
 E6 = dump("rnbqkbnr/pppp1ppp/4p3/8/4P3/8/PPPP1PPP/RNBQKBNR")
@@ -242,7 +244,7 @@ DRAWN = dump("rnbq1b1r/pppp1ppp/5n2/3kp3/3KP3/5N2/PPPP1PPP/RNBQ1B1R")
 ONE_HOME = dump("rnbqkb1r/pppp1ppp/5n2/4p3/4P3/8/PPPP1PPP/RNBQKBNR")
 D4 = dump("rnbqkbnr/pppp1ppp/8/4p3/3PP3/8/PPP2PPP/RNBQKBNR")
 KNIGHTS = [*SIGNED[:3], heard(2100, BOTH_PAWNS), heard(3100, KNIGHT), heard(4100, BOTH_OUT), heard(6100, DRAWN)]
-KNIGHTS_HOME = [*KNIGHTS, heard(20000, ONE_HOME), heard(25000, BOTH_PAWNS)]
+KNIGHTS_HOME = [*KNIGHTS, heard(16100, DRAWN), heard(20000, ONE_HOME), heard(25000, BOTH_PAWNS)]
 # The same, kept: the capture, and the first lines of its file of times.
 SIGNED_BYTES = INITIAL + KINGS_PAWN + BLACK_WINS
 SIGNED_TIMES = HEADING + b"0 begin 0\n100 heard 67\n1100 heard 67\n3100 heard 67\n"
@@ -253,6 +255,11 @@ def signed(more: bytes) -> List[bytes]:
     return [kept(SIGNED_TIMES + more, SIGNED_BYTES), b"0 begin 201\n"]
 
 
+def stood(more: bytes) -> List[bytes]:
+    """The same, and the board was heard when the result had stood."""
+    return [kept(SIGNED_TIMES + b"13100 heard 67\n" + more, SIGNED_BYTES + BLACK_WINS), b"0 begin 268\n"]
+
+
 TYPED = [*SIGNED[:3], added(3100, BLACK_WINS + KINGS_PAWN)]
 # Pieces were put off the board, and the start stands there when he types. It ends the game at once.
 TYPED_LATE = [*SIGNED[:3], heard(2100, HALF), added(3100, BLACK_WINS + INITIAL)]
@@ -261,18 +268,22 @@ TYPED_BEFORE = [kept(HEADING + b"0 begin 0\n100 heard 67\n1100 heard 67\n3100 ad
 
 # What a host tells; in which answer what is said of the end.
 ENDS = [
-    ("the kings", [*SIGNED, b"13099 wake\n", b"13100 wake\n", b"13200 wake\n"], [(5, b"over STOOD 0-1 201 sure")]),
+    ("the kings", [*SIGNED, heard(13099, BLACK_WINS), SEEN, b"13200 wake\n"], [(5, b"over STOOD 0-1 201 sure")]),
+    ("the board isn't heard", [*SIGNED, b"13100 wake\n", b"20099 wake\n", b"20100 wake\n"], [(6, b"over STOOD 0-1 201 unsure")]),
+    ("its cable is gone", [*SIGNED, b"5000 gone\n", b"20100 wake\n"], [(5, b"over STOOD 0-1 201 unsure")]),
+    ("it is heard in time", [*SIGNED, b"5000 gone\n", b"19000 opened\n", heard(20099, BLACK_WINS)], [(6, b"over STOOD 0-1 201 sure")]),
+    ("it is heard too late", [*SIGNED, heard(20100, BLACK_WINS)], [(4, b"over STOOD 0-1 201 unsure")]),
     ("another move", [*SIGNED, heard(5000, BOTH_PAWNS)], [(4, b"over PLAYS-ON 0-1 201 sure")]),
     ("it is added: that takes the result off", [*SIGNED, added(5000, BOTH_PAWNS), b"13100 wake\n", b"30000 wake\n"], []),
     ("it comes over another game's cable", [*SIGNED, brought(5000, BOTH_PAWNS)], [(4, b"over PLAYS-ON 0-1 201 sure")]),
-    ("two moves after it", [*SIGNED, heard(20000, BOTH_PAWNS), heard(25000, KNIGHT)], [(4, b"over STOOD 0-1 201 sure"), (5, b"played 2")]),
+    ("two moves after it", [*STOOD_LATE, heard(25000, KNIGHT)], [(4, b"over STOOD 0-1 201 sure"), (6, b"played 2")]),
     ("one move after it", STOOD_LATE, [(4, b"over STOOD 0-1 201 sure")]),
     ("and they go on", [*STOOD_LATE, heard(25000, KNIGHT), heard(30000, NC6), heard(35000, BB5)],
-     [(4, b"over STOOD 0-1 201 sure"), (5, b"played 2"), (6, b"played 3"), (7, b"played 4")]),
+     [(4, b"over STOOD 0-1 201 sure"), (6, b"played 2"), (7, b"played 3"), (8, b"played 4")]),
     ("a move that is put right is one", [*STOOD_LATE, heard(25000, E6)], [(4, b"over STOOD 0-1 201 sure")]),
     ("pieces are lifted", [*STOOD_LATE, heard(25000, NO_KINGS), heard(30000, BOTH_PAWNS)], [(4, b"over STOOD 0-1 201 sure")]),
     ("both knights go home", KNIGHTS_HOME, [(7, b"over STOOD 1/2-1/2 402 sure")]),
-    ("and a third move", [*KNIGHTS_HOME, heard(30000, D4)], [(7, b"over STOOD 1/2-1/2 402 sure"), (9, b"played 3")]),
+    ("and a third move", [*KNIGHTS_HOME, heard(30000, D4)], [(7, b"over STOOD 1/2-1/2 402 sure"), (10, b"played 3")]),
     ("the next game", [*STOOD_LATE, heard(25000, INITIAL), heard(30000, KNIGHT), heard(35000, NC6)], [(4, b"over STOOD 0-1 201 sure")]),
     ("the start again", [*SIGNED, heard(9000, INITIAL)], [(4, b"over SET-UP 0-1 201 sure")]),
     (
@@ -282,44 +293,51 @@ ENDS = [
     ),
     ("a move of the set-up", [b"0 begin 0\n", heard(100, HALF), heard(1100, KINGS_PAWN), heard(5000, INITIAL)], [(3, b"begins 201")]),
     ("a call before", captured(INITIAL, KINGS_PAWN, HALF, INITIAL), [(1, b"over UNFINISHED * 134 unsure")]),
-    ("a result of one", [*captured(INITIAL, KINGS_PAWN, BLACK_WINS), b"9999 wake\n", b"10000 wake\n"], [(3, b"over STOOD 0-1 201 sure")]),
-    ("an arbiter reopens it", [*SIGNED, b"13100 wake\n", b"14000 reopened\n", b"60000 wake\n"], [(4, b"over STOOD 0-1 201 sure")]),
-    ("before it is over", [*SIGNED, b"13099 reopened\n", b"60000 wake\n"], []),
+    ("a result of one", [*captured(INITIAL, KINGS_PAWN, BLACK_WINS), heard(9999, BLACK_WINS), heard(10000, BLACK_WINS)], [(3, b"over STOOD 0-1 201 sure")]),
+    ("and nothing is heard", [*captured(INITIAL, KINGS_PAWN, BLACK_WINS), b"16999 wake\n", b"17000 wake\n"], [(3, b"over STOOD 0-1 201 unsure")]),
+    ("an arbiter reopens it", [*STOOD, b"14000 reopened\n", b"60000 wake\n"], [(4, b"over STOOD 0-1 201 sure")]),
+    ("before it is over", [*SIGNED, b"13099 reopened\n", SEEN, b"60000 wake\n"], []),
     ("as time ends it", [*SIGNED, b"20000 reopened\n", b"60000 wake\n"], []),
     (
         "it goes on, and ends again",
-        [*SIGNED, b"13100 wake\n", b"14000 reopened\n", heard(21100, BOTH_PAWNS), heard(41100, HALF), heard(45000, INITIAL)],
-        [(4, b"over STOOD 0-1 201 sure"), (8, b"over UNFINISHED * 268 sure")],
+        [*STOOD, b"14000 reopened\n", heard(21100, BOTH_PAWNS), heard(41100, HALF), heard(45000, INITIAL)],
+        [(4, b"over STOOD 0-1 201 sure"), (8, b"over UNFINISHED * 335 sure")],
     ),
-    ("moves after it", [*SIGNED, b"13100 wake\n", b"14000 reopened\n", heard(20000, BOTH_PAWNS), heard(25000, KNIGHT)], [(4, b"over STOOD 0-1 201 sure")]),
-    ("the host has noted that it is over", [*SIGNED, b"13100 wake\n", b"13100 over 201\n", b"0 begin 201\n"], [(4, b"over STOOD 0-1 201 sure"), (6, b"over STOOD 0-1 201 sure")]),
-    ("it hasn't", [*SIGNED, b"13100 wake\n", b"0 begin 201\n", b"9999 wake\n", b"10000 wake\n"], [(4, b"over STOOD 0-1 201 sure"), (7, b"over STOOD 0-1 201 sure")]),
-    ("the computer slept", [*SIGNED, b"20000 stopped 10000\n", b"29999 wake\n", b"30000 wake\n"], [(6, b"over STOOD 0-1 201 sure")]),
-    ("for less", [*SIGNED, b"20000 stopped 9999\n"], [(4, b"over STOOD 0-1 201 sure")]),
-    ("it was over before", [*SIGNED, b"13100 wake\n", b"13100 over 201\n", b"60000 stopped 35000\n", b"90000 wake\n"], [(4, b"over STOOD 0-1 201 sure")]),
-    ("it slept in a call before", [*signed(b"60000 stopped 50000\n65000 over 201\n"), b"9999 wake\n", b"10000 wake\n"], [(4, b"over STOOD 0-1 201 sure")]),
-    ("over in a call before", signed(b"13100 over 201\n"), [(2, b"over STOOD 0-1 201 sure")]),
+    ("moves after it", [*STOOD, b"14000 reopened\n", heard(20000, BOTH_PAWNS), heard(25000, KNIGHT)], [(4, b"over STOOD 0-1 201 sure")]),
+    ("the host has noted that it is over", [*STOOD, b"13100 over 201\n", b"0 begin 268\n"], [(4, b"over STOOD 0-1 201 sure"), (6, b"over STOOD 0-1 201 sure")]),
+    ("it hasn't, and the board was heard", [*STOOD, b"0 begin 268\n"], [(4, b"over STOOD 0-1 201 sure"), (5, b"over STOOD 0-1 201 sure")]),
+    (
+        "it hasn't, and the board wasn't heard",
+        [*SIGNED, b"20100 wake\n", b"0 begin 201\n", b"16999 wake\n", b"17000 wake\n"],
+        [(4, b"over STOOD 0-1 201 unsure"), (7, b"over STOOD 0-1 201 unsure")],
+    ),
+    ("the computer slept", [*SIGNED, b"20000 stopped 10000\n", heard(29999, BLACK_WINS), heard(30000, BLACK_WINS)], [(6, b"over STOOD 0-1 201 sure")]),
+    ("for less", [*SIGNED, b"13000 stopped 9999\n", SEEN], [(5, b"over STOOD 0-1 201 sure")]),
+    ("it was over before", [*STOOD, b"13100 over 201\n", b"60000 stopped 35000\n", b"90000 wake\n"], [(4, b"over STOOD 0-1 201 sure")]),
+    ("it slept in a call before", [*signed(b"60000 stopped 50000\n65000 over 201\n"), heard(9999, BLACK_WINS), heard(10000, BLACK_WINS)], [(4, b"over STOOD 0-1 201 sure")]),
+    ("over in a call before", stood(b"13100 over 201\n"), [(2, b"over STOOD 0-1 201 sure")]),
+    ("over there unheard", signed(b"20100 over 201\n"), [(2, b"over STOOD 0-1 201 unsure")]),
     (
         "another move, over another game's cable",
         [kept(SIGNED_TIMES + b"5000 brought 67\n", SIGNED_BYTES + BOTH_PAWNS), b"0 begin 268\n"],
         [(2, b"over PLAYS-ON 0-1 201 sure")],
     ),
     ("it was added", [kept(SIGNED_TIMES + b"5000 added 67\n", SIGNED_BYTES + BOTH_PAWNS), b"0 begin 268\n", b"10000 wake\n"], []),
-    ("noted too soon", [*signed(b"13099 over 201\n"), b"9999 wake\n", b"10000 wake\n"], [(4, b"over STOOD 0-1 201 sure")]),
-    ("reopened in a call before", [*signed(b"13100 over 201\n14000 reopened\n"), b"60000 wake\n"], []),
-    ("two calls before", signed(b"13100 over 201\n0 begin 201\n0 away 35000\n"), [(2, b"over STOOD 0-1 201 sure")]),
+    ("noted too soon", [*signed(b"20099 over 201\n"), heard(9999, BLACK_WINS), heard(10000, BLACK_WINS)], [(4, b"over STOOD 0-1 201 sure")]),
+    ("reopened in a call before", [*stood(b"13100 over 201\n14000 reopened\n"), b"60000 wake\n"], []),
+    ("two calls before", stood(b"13100 over 201\n0 begin 268\n0 away 35000\n"), [(2, b"over STOOD 0-1 201 sure")]),
     # An arbiter adds a result: the kings' sign, and behind it what the board shows. The game ends with all of that.
     ("an arbiter adds it", [*TYPED, b"13099 wake\n", b"13100 wake\n"], [(5, b"over STOOD 0-1 268 sure")]),
     (
         "the board shows the same over another game's cable: it ends with the kings",
-        [*SIGNED[:3], brought(3100, BLACK_WINS + KINGS_PAWN), b"13099 wake\n", b"13100 wake\n"],
+        [*SIGNED[:3], brought(3100, BLACK_WINS + KINGS_PAWN), brought(13099, KINGS_PAWN), brought(13100, KINGS_PAWN)],
         [(5, b"over STOOD 0-1 201 sure")],
     ),
     ("a move after that", [*TYPED, heard(5000, BOTH_PAWNS)], [(4, b"over PLAYS-ON 0-1 268 sure")]),
     ("the start after that", [*TYPED, heard(5000, INITIAL)], [(4, b"over SET-UP 0-1 268 sure")]),
     ("the start stands there when he adds it", TYPED_LATE, [(4, b"over SET-UP 0-1 335 sure")]),
     ("he added it in a call before", [*TYPED_BEFORE, b"9999 wake\n", b"10000 wake\n"], [(4, b"over STOOD 0-1 268 sure")]),
-    ("and nothing says who added it", [*captured(TYPED_BYTES), b"9999 wake\n", b"10000 wake\n"], [(3, b"over STOOD 0-1 201 sure")]),
+    ("and nothing says who added it", [*captured(TYPED_BYTES), heard(9999, KINGS_PAWN), heard(10000, KINGS_PAWN)], [(3, b"over STOOD 0-1 201 sure")]),
 ]
 
 # ---- what is no entry

@@ -12,7 +12,7 @@ use Rattle.board_doubts.specs.declared.heard.Place.TheVariants.{AtLast, AfterLas
 use Rattle.board_doubts.specs.declared.heard.Why.{Why}
 use Rattle.board_doubts.specs.declared.heard.Why.TheVariants.{Late, Elsewhere, BothElsewhere, AfterGap, TakenBack, Unpressed, OtherTime, MovedOn, Returned}
 use Rattle.board_looks.specs.declared.look.Look.{Look}
-use Rattle.board_looks.specs.declared.look.Look.TheVariants.{Doubtful, Stopped, Suspected}
+use Rattle.board_looks.specs.declared.look.Look.TheVariants.{Doubtful, Stopped, Unplayed, Suspected}
 use Rattle.board_standing.specs.declared.state.State.{State}
 use Rattle.answer_lines.specs.declared.said.Said.{Said}
 use Rattle.answer_lines.specs.Answers.{answer_text, handling_line, number_line, request_line, room_line, state_line}
@@ -33,11 +33,13 @@ joined (Err e) old between new a b first second = tt
 abbrev word_of : Look → List ℕ
 word_of (Doubtful plies doubt) = place_word doubt.place
 word_of (Stopped plies moves) = codes "since"
+word_of (Unplayed plies moves) = codes "since"
 word_of (Suspected n) = codes "SUSPECT"
 
 abbrev rest_of : Look → List ℕ
 rest_of (Doubtful plies doubt) = decimal plies ++ 32 ∷ why_word doubt.why
 rest_of (Stopped plies moves) = decimal plies ++ 32 ∷ (codes "STOPPED" ++ 32 ∷ decimal moves)
+rest_of (Unplayed plies moves) = decimal plies ++ 32 ∷ (codes "UNPLAYED" ++ 32 ∷ decimal moves)
 rest_of (Suspected n) = decimal n
 
 abbrev body_of : Look → List ℕ
@@ -49,6 +51,7 @@ three_words a b c = append_assoc (a ++ 32 ∷ [] ++ b) (32 ∷ []) c ∙ append_
 words_are : (look : Look) → look_words look ≡ codes "look " ++ body_of look
 words_are (Doubtful plies doubt) = ap (λ t. codes "look " ++ t) (three_words (place_word doubt.place) (decimal plies) (why_word doubt.why))
 words_are (Stopped plies moves) = ap (λ t. codes "look since " ++ t) (append_assoc (decimal plies) (codes " STOPPED ") (decimal moves))
+words_are (Unplayed plies moves) = ap (λ t. codes "look since " ++ t) (append_assoc (decimal plies) (codes " UNPLAYED ") (decimal moves))
 words_are (Suspected n) = refl
 
 abbrev behind_five : List ℕ → List ℕ
@@ -56,6 +59,9 @@ behind_five text = behind (behind (behind (behind (behind text))))
 
 abbrev behind_eight : List ℕ → List ℕ
 behind_eight text = behind (behind (behind (behind_five text)))
+
+abbrev behind_nine : List ℕ → List ℕ
+behind_nine text = behind (behind_eight text)
 
 -- ---- each part is known by its words
 
@@ -105,6 +111,7 @@ place_lacks AfterLast = refl
 word_lacks_blank : (look : Look) → lacks 32 (word_of look) ≡ true
 word_lacks_blank (Doubtful plies doubt) = place_lacks doubt.place
 word_lacks_blank (Stopped plies moves) = refl
+word_lacks_blank (Unplayed plies moves) = refl
 word_lacks_blank (Suspected n) = refl
 
 -- words are told apart by their second letters
@@ -122,20 +129,39 @@ not_suspect AfterLast e = let never : 102 ≡ 85 = ap letter e in omega (arith, 
 since_or_suspect : codes "since" ≡ codes "SUSPECT" → ⊥
 since_or_suspect e = let never : 105 ≡ 85 = ap letter e in omega (arith, never)
 
+stopped_or_unplayed : (a b : List ℕ) → codes "STOPPED " ++ a ≡ codes "UNPLAYED " ++ b → ⊥
+stopped_or_unplayed a b e = let never : 83 ≡ 85 = ap first_of e in omega (arith, never)
+
 same_parts : (one other : Look) → LookFits one → LookFits other → word_of one ≡ word_of other → rest_of one ≡ rest_of other → one ≡ other
 same_parts (Doubtful m a) (Doubtful n b) f g w r =
     let cut = cut_once 32 (decimal m) (why_word a.why) (decimal n) (why_word b.why) (decimal_lacks_blank m f) (decimal_lacks_blank n g) r in
     ap (λ k. Doubtful k a) (decimal_injective m n f g cut.0) ∙ ap (λ d. Doubtful n d) (doubt_same a b (same_place a.place b.place w) (same_why a.why b.why cut.1))
 same_parts (Doubtful m a) (Stopped n p) f g w r = absurd (not_since a.place w)
+same_parts (Doubtful m a) (Unplayed n p) f g w r = absurd (not_since a.place w)
 same_parts (Doubtful m a) (Suspected n) f g w r = absurd (not_suspect a.place w)
 same_parts (Stopped m p) (Doubtful n b) f g w r = absurd (not_since b.place (sym w))
 same_parts (Stopped m p) (Stopped n q) f g w r =
     let cut = cut_once 32 (decimal m) (codes "STOPPED " ++ decimal p) (decimal n) (codes "STOPPED " ++ decimal q)
     (decimal_lacks_blank m f.0) (decimal_lacks_blank n g.0) r in
     ap (λ k. Stopped k p) (decimal_injective m n f.0 g.0 cut.0) ∙ ap (λ k. Stopped n k) (decimal_injective p q f.1 g.1 (ap behind_eight cut.1))
+same_parts (Stopped m p) (Unplayed n q) f g w r =
+    let cut = cut_once 32 (decimal m) (codes "STOPPED " ++ decimal p) (decimal n) (codes "UNPLAYED " ++ decimal q)
+    (decimal_lacks_blank m f.0) (decimal_lacks_blank n g.0) r in
+    absurd (stopped_or_unplayed (decimal p) (decimal q) cut.1)
 same_parts (Stopped m p) (Suspected n) f g w r = absurd (since_or_suspect w)
+same_parts (Unplayed m p) (Doubtful n b) f g w r = absurd (not_since b.place (sym w))
+same_parts (Unplayed m p) (Stopped n q) f g w r =
+    let cut = cut_once 32 (decimal m) (codes "UNPLAYED " ++ decimal p) (decimal n) (codes "STOPPED " ++ decimal q)
+    (decimal_lacks_blank m f.0) (decimal_lacks_blank n g.0) r in
+    absurd (stopped_or_unplayed (decimal q) (decimal p) (sym cut.1))
+same_parts (Unplayed m p) (Unplayed n q) f g w r =
+    let cut = cut_once 32 (decimal m) (codes "UNPLAYED " ++ decimal p) (decimal n) (codes "UNPLAYED " ++ decimal q)
+    (decimal_lacks_blank m f.0) (decimal_lacks_blank n g.0) r in
+    ap (λ k. Unplayed k p) (decimal_injective m n f.0 g.0 cut.0) ∙ ap (λ k. Unplayed n k) (decimal_injective p q f.1 g.1 (ap behind_nine cut.1))
+same_parts (Unplayed m p) (Suspected n) f g w r = absurd (since_or_suspect w)
 same_parts (Suspected m) (Doubtful n b) f g w r = absurd (not_suspect b.place (sym w))
 same_parts (Suspected m) (Stopped n q) f g w r = absurd (since_or_suspect (sym w))
+same_parts (Suspected m) (Unplayed n q) f g w r = absurd (since_or_suspect (sym w))
 same_parts (Suspected m) (Suspected n) f g w r = ap (λ k. Suspected k) (decimal_injective m n f g r)
 
 same_look : (one other : Look) → LookFits one → LookFits other → look_words one ≡ look_words other → one ≡ other
@@ -164,6 +190,7 @@ place_lacks_feed AfterLast = refl
 word_lacks_feed : (look : Look) → lacks 10 (word_of look) ≡ true
 word_lacks_feed (Doubtful plies doubt) = place_lacks_feed doubt.place
 word_lacks_feed (Stopped plies moves) = refl
+word_lacks_feed (Unplayed plies moves) = refl
 word_lacks_feed (Suspected n) = refl
 
 rest_lacks_feed : (look : Look) → LookFits look → lacks 10 (rest_of look) ≡ true
@@ -171,6 +198,8 @@ rest_lacks_feed (Doubtful plies doubt) f =
     lacks_append 10 (decimal plies) (32 ∷ why_word doubt.why) (decimal_lacks_feed plies f) (why_lacks_feed doubt.why)
 rest_lacks_feed (Stopped plies moves) f =
     lacks_append 10 (decimal plies) (codes " STOPPED " ++ decimal moves) (decimal_lacks_feed plies f.0) (decimal_lacks_feed moves f.1)
+rest_lacks_feed (Unplayed plies moves) f =
+    lacks_append 10 (decimal plies) (codes " UNPLAYED " ++ decimal moves) (decimal_lacks_feed plies f.0) (decimal_lacks_feed moves f.1)
 rest_lacks_feed (Suspected n) f = decimal_lacks_feed n f
 
 look_lacks_feed : (look : Look) → LookFits look → lacks 10 (look_words look) ≡ true
@@ -186,6 +215,7 @@ BeginsOtherwise text = first_of text ≡ 108 → ⊥
 begins_so : (look : Look) (more : List ℕ) → first_of (look_words look ++ more) ≡ 108
 begins_so (Doubtful plies doubt) more = refl
 begins_so (Stopped plies moves) more = refl
+begins_so (Unplayed plies moves) more = refl
 begins_so (Suspected n) more = refl
 
 fed : (look : Look) (looks : List Look) (more : List ℕ) → looks_text (look ∷ looks) ++ more ≡ look_words look ++ 10 ∷ (looks_text looks ++ more)

@@ -5,7 +5,7 @@ use Rattle.board_doubts.specs.declared.heard.Place.TheVariants.{AtLast, AfterLas
 use Rattle.board_doubts.specs.declared.heard.Why.{Why}
 use Rattle.board_doubts.specs.declared.heard.Why.TheVariants.{Late, Elsewhere, BothElsewhere, AfterGap, TakenBack, Unpressed, OtherTime, MovedOn, Returned}
 use Rattle.board_looks.specs.declared.look.Look.{Look}
-use Rattle.board_looks.specs.declared.look.Look.TheVariants.{Doubtful, Stopped, Suspected}
+use Rattle.board_looks.specs.declared.look.Look.TheVariants.{Doubtful, Stopped, Unplayed, Suspected}
 use Rattle.answer_lines.specs.declared.said.Said.{Said}
 use Rattle.answer_lines.specs.Answers.{answer_text}
 use Rattle.answer_lines.specs.Laws.{IsSaid}
@@ -27,10 +27,11 @@ why_word MovedOn = codes "MOVED-ON"
 why_word Returned = codes "RETURNED"
 
 -- where somebody must look, by how many plies the game has there, and why; after which ply so many moves were made while the clock was
--- stopped; or the number of what is suspected
+-- stopped, or were made that nobody may have played; or the number of what is suspected
 abbrev pub look_words : Look → List ℕ
 look_words (Doubtful plies doubt) = codes "look " ++ place_word doubt.place ++ codes " " ++ decimal plies ++ codes " " ++ why_word doubt.why
 look_words (Stopped plies moves) = codes "look since " ++ decimal plies ++ codes " STOPPED " ++ decimal moves
+look_words (Unplayed plies moves) = codes "look since " ++ decimal plies ++ codes " UNPLAYED " ++ decimal moves
 look_words (Suspected n) = codes "look SUSPECT " ++ decimal n
 
 abbrev pub looks_text : List Look → List ℕ
@@ -41,6 +42,7 @@ looks_text (look ∷ looks) = look_words look ++ codes "\n" ++ looks_text looks
 abbrev pub LookFits : Look → Type 0
 LookFits (Doubtful plies doubt) = plies < 2 ^ 64
 LookFits (Stopped plies moves) = (plies < 2 ^ 64) × (moves < 2 ^ 64)
+LookFits (Unplayed plies moves) = (plies < 2 ^ 64) × (moves < 2 ^ 64)
 LookFits (Suspected n) = n < 2 ^ 64
 
 abbrev pub LooksFit : List Look → Type 0

@@ -51,13 +51,26 @@ fn add_doubt(plies: u64, doubt: Doubt, out: &mut Vec<u8>) -> Result<(), AllocErr
     out.extend_from_slice(why_word(doubt.why))
 }
 
-fn add_stopped(plies: u64, moves: u64, out: &mut Vec<u8>) -> Result<(), AllocError>
-    ensures { IfOk result (λ _. out.new.items ≡ out.old.items ++ look_words (LookOf.Stopped plies moves)) }
+/// So many moves after so many plies, with what they are.
+fn add_since(plies: u64, word: &[u8], moves: u64, out: &mut Vec<u8>) -> Result<(), AllocError>
+    ensures { IfOk result (λ _. out.new.items ≡ out.old.items ++ (codes "look since " ++ decimal plies ++ word.now ++ decimal moves)) }
 {
     out.extend_from_slice(b"look since ")?;
     add_number(plies, out)?;
-    out.extend_from_slice(b" STOPPED ")?;
+    out.extend_from_slice(word)?;
     add_number(moves, out)
+}
+
+fn add_stopped(plies: u64, moves: u64, out: &mut Vec<u8>) -> Result<(), AllocError>
+    ensures { IfOk result (λ _. out.new.items ≡ out.old.items ++ look_words (LookOf.Stopped plies moves)) }
+{
+    add_since(plies, b" STOPPED ", moves, out)
+}
+
+fn add_unplayed(plies: u64, moves: u64, out: &mut Vec<u8>) -> Result<(), AllocError>
+    ensures { IfOk result (λ _. out.new.items ≡ out.old.items ++ look_words (LookOf.Unplayed plies moves)) }
+{
+    add_since(plies, b" UNPLAYED ", moves, out)
 }
 
 fn add_suspected(n: u64, out: &mut Vec<u8>) -> Result<(), AllocError>
@@ -73,6 +86,7 @@ fn add_words(look: Look, out: &mut Vec<u8>) -> Result<(), AllocError>
     match look {
         Look::Doubtful { plies, doubt } => add_doubt(plies, doubt, out),
         Look::Stopped { plies, moves } => add_stopped(plies, moves, out),
+        Look::Unplayed { plies, moves } => add_unplayed(plies, moves, out),
         Look::Suspected(n) => add_suspected(n, out),
     }
 }

@@ -7,3 +7,4 @@ pub mod Stops
 pub mod Again
 pub mod Going
 pub mod Walking
+pub mod Naming

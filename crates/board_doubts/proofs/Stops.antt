@@ -83,6 +83,20 @@ tried_in (event ∷ later) past stays h more =
     still_tried event.what event.is_added (is_stopped (later ++ past)) (tried (later ++ past)) stays.0
     (is_so (later ++ past) (stopped_in later past stays.1 h)) (tried_in later past stays.1 h more)
 
+-- A move that is made while the clock is stopped is counted, while it stays so.
+pub moved_while_stopped : (first stop : Event) (repeats : Bool) (past between later : List Event) → has_run past ≡ true → stop.what ≡ Clock false
+    → StaysStopped between → StaysStopped later → first.what ≡ Moves repeats → first.is_added ≡ false
+    → tried (later ++ first ∷ (between ++ stop ∷ past)) ≢ 0
+moved_while_stopped first stop repeats past between later run says quiet still moves made =
+    let stops : Stopped (stop ∷ past) = (
+      ran stop.what (has_run past) run,
+      ap (λ what. is_some (stands_by what stop.at (is_unheard past) (stands_since past))) says ∙ stood_now stop.at (is_unheard past) (stands_since past),
+      ap (λ what. unheard_by what (is_unheard past)) says,
+    ) in
+    let before : Stopped (between ++ stop ∷ past) = stopped_in between (stop ∷ past) quiet stops in
+    let after : Stopped (first ∷ (between ++ stop ∷ past)) = stopped_by first (between ++ stop ∷ past) (ap leaves_stopped moves) before in
+    tried_in later (first ∷ (between ++ stop ∷ past)) still after (first_tried first repeats (between ++ stop ∷ past) before moves made)
+
 second_tried : (second : Event) (again : Bool) (past : List Event) → Stopped past → tried past ≢ 0 → second.what ≡ Moves again → second.is_added ≡ false
     → is_some (tries_by second.what second past) ≡ true
 second_tried second again past h more moves made =

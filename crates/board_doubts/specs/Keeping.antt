@@ -1,6 +1,7 @@
 -- What the parts stand for. A reader needs none of it: the contracts hold for whatever this says.
 use Rattle.std.specs.Prelude.{◌≡◌, ◌+◌, ◌-◌, min, ℕ, zero, suc, Bool, false, nat_le, nat_lt, List, [], ◌∷◌, Option, Some, None, if◌then◌else◌}
 use Rattle.square_runs.specs.Keeping.{StandsFor as RunsStandFor}
+use Rattle.board_doubts.specs.declared.after_wrong.AfterWrong.{AfterWrong}
 use Rattle.board_doubts.specs.declared.doubts.Doubts.{Doubts}
 use Rattle.board_doubts.specs.declared.heard.Event.{Event}
 use Rattle.board_doubts.specs.declared.heard.Ply.{Ply}
@@ -23,6 +24,7 @@ use Rattle.board_doubts.specs.Recent.{comes_first, day, gap, is_restart, picture
 use Rattle.board_doubts.specs.Silent.{has_repeated, pending}
 use Rattle.board_doubts.specs.Thinking.{counting, lent}
 use Rattle.board_doubts.specs.Unheard.{is_unheard}
+use Rattle.board_doubts.specs.Unplayed.{apart_since, odd}
 use Rattle.board_doubts.specs.Waiting.{has_moved, ply_times, waited}
 
 -- What is kept of these squares of these pictures.
@@ -116,6 +118,11 @@ pub record StandsFor (doubts : Doubts) (past : List Event) : Type 0 where
   pub repeated : doubts.has_repeated ≡ has_repeated past
   pub passing_is : doubts.passing ≡ passing past
   pub pending_is : doubts.pending ≡ pending past
+
+-- The same of moves that were made while the row said WRONG.
+pub record AfterWrongStandsFor (kept : AfterWrong) (past : List Event) : Type 0 where
+  pub since : kept.apart_since ≡ apart_since past
+  pub moves : kept.odd ≡ odd past
 
 -- The same of a clock.
 pub record ClockStandsFor (clock : StoppedClock) (past : List Event) : Type 0 where

@@ -5,24 +5,25 @@ use Rattle.board_doubts.specs.declared.heard.Doubt.{Doubt}
 use Rattle.board_doubts.specs.declared.heard.Event.{Event}
 use Rattle.board_doubts.specs.declared.heard.Gap.{Gap}
 use Rattle.board_doubts.specs.declared.heard.Heard.{Heard}
-use Rattle.board_doubts.specs.declared.heard.Heard.TheVariants.{Shows, Moves, Corrects, Agrees, Away, Clock, Counts, Looked, Plays, Replaces, Reopens, PutsBack, Presses}
+use Rattle.board_doubts.specs.declared.heard.Heard.TheVariants.{Shows, Moves, Corrects, Agrees, Ends, Away, Clock, Counts, Looked, Plays, Replaces, Reopens, PutsBack, Presses}
 use Rattle.board_doubts.specs.declared.heard.Place.{Place}
 use Rattle.board_doubts.specs.declared.heard.Ply.{Ply}
 use Rattle.board_doubts.specs.declared.heard.Seen.{Seen}
 use Rattle.board_doubts.specs.declared.heard.Why.{Why}
 use Rattle.board_doubts.specs.declared.heard.Why.TheVariants.{MovedOn, OtherTime, Returned, TakenBack, Unpressed}
 use Rattle.board_doubts.specs.declared.stopped_clock.Tried.{Tried}
-use Rattle.board_doubts.specs.Clock.{has_run, seen_late, stands_since, tries_of}
+use Rattle.board_doubts.specs.Clock.{has_run, seen_late, stands_since, tried, tries_of}
 use Rattle.board_doubts.specs.Doubts.{doubt_by, doubt_of, is_on, late}
 use Rattle.board_doubts.specs.Elsewhere.{Sees, differs, elsewhere}
 use Rattle.board_doubts.specs.Pace.{fits_ply, last_within, quickest}
 use Rattle.board_doubts.specs.Pictures.{Laid, Squares, by_both, by_one, has_stood, others, own, stands}
 use Rattle.board_doubts.specs.Plies.{both_back, both_further, ends_pair, is_back, played}
-use Rattle.board_doubts.specs.Presses.{is_early, is_used, pressed_at, presses, quiet, runs}
+use Rattle.board_doubts.specs.Presses.{is_early, is_used, pressed_at, presses, quiet, runs, unpressed}
 use Rattle.board_doubts.specs.Silent.{is_pair}
 use Rattle.board_doubts.specs.Recent.{gap, has_gap, is_restart, pictures, since_news, touched}
 use Rattle.board_doubts.specs.Thinking.{counting, is_other, known_counting}
 use Rattle.board_doubts.specs.Unheard.{is_unheard}
+use Rattle.board_doubts.specs.Unplayed.{odd, unplayed_of}
 use Rattle.board_doubts.specs.Waiting.{has_moved, ply_times, waited}
 use Rattle.board_doubts.specs.Ways.{can_go, kind_of}
 
@@ -122,6 +123,17 @@ SecondMoveIsTried = (second first stop : Event) (repeats again : Bool) (past bet
     → has_run past ≡ true → stop.what ≡ Clock false → StaysStopped between → StaysStopped later
     → first.what ≡ Moves repeats → first.is_added ≡ false → second.what ≡ Moves again → second.is_added ≡ false
     → is_some (tries_of second (later ++ first ∷ (between ++ stop ∷ past))) ≡ true
+
+-- If a move is made while the clock is stopped, the answer to the result names what nobody may have played, while it stays so.
+abbrev pub StoppedMoveIsNamed : Type 0
+StoppedMoveIsNamed = (result first stop : Event) (repeats : Bool) (past between later : List Event)
+    → has_run past ≡ true → stop.what ≡ Clock false → StaysStopped between → StaysStopped later
+    → first.what ≡ Moves repeats → first.is_added ≡ false → result.what ≡ Ends
+    → is_some (unplayed_of result (later ++ first ∷ (between ++ stop ∷ past))) ≡ true
+
+-- Of players who press the clock, but for the last ply, and whose board was right, nothing is asked.
+abbrev pub PressedEndPasses : Type 0
+PressedEndPasses = (result : Event) (past : List Event) → tried past ≡ 0 → odd past ≡ 0 → unpressed past ≤ 1 → unplayed_of result past ≡ None
 
 -- Somebody must look at what is heard, for this reason.
 abbrev pub IsDoubtedFor : Why → Event → List Event → Type 0

@@ -11,5 +11,6 @@ pub mod Recent
 pub mod Silent
 pub mod Thinking
 pub mod Unheard
+pub mod Unplayed
 pub mod Waiting
 pub mod Ways

@@ -8,6 +8,7 @@ ghost use Rattle.board_doubts.specs.Pace.{last_within};
 ghost use Rattle.board_doubts.specs.Plies.{both_back, played, played_by};
 ghost use Rattle.board_doubts.specs.Recent.{since_news};
 ghost use Rattle.board_doubts.specs.Silent.{is_pair as is_pair_of, pending as pending_of, repeats_by, soon, suspected as suspected_of};
+ghost use Rattle.board_doubts.specs.Unplayed.{unpressed_last};
 ghost use Rattle.board_doubts.specs.Waiting.{moved_by, ply_times, times_by};
 ghost use Rattle.board_doubts.specs.Keeping.{KeepsPace, KeepsRecent, StandsFor};
 
@@ -248,6 +249,13 @@ impl Doubts {
             return None;
         }
         doubted(Place::AfterLast, why)
+    }
+
+    /// How many of the last plies have no press, but for the first of these.
+    pub fn unpressed_last(&self) -> u64
+        ensures { (past : List EventOf) → StandsFor self.now past → result ≡ unpressed_last past }
+    {
+        self.presses.unpressed_last()
     }
 
     /// Why such news are doubted.

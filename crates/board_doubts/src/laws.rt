@@ -1,5 +1,5 @@
 //! What holds of each history. Each law is the contract of a function, which does nothing.
-ghost use Rattle.board_doubts.specs.Laws.{ClockIsKnownAgain, HandsOffPasses, NoPawnCounts, OnlyBackIsTakenBack, OnlyWhileStopped, OwnTimePasses, PairBackIsDoubted, PressedPlyPasses, QuickCorrectionPasses, ReturnCounts, RunningClockPasses, SecondMoveIsTried, ShortGapPasses, SilenceIsDoubted, SilentReplacementIsDoubted, SixthPlyIsDoubted, StaysDoubtful, UndoubtedCorrection, UndoubtedMove};
+ghost use Rattle.board_doubts.specs.Laws.{ClockIsKnownAgain, HandsOffPasses, NoPawnCounts, OnlyBackIsTakenBack, OnlyWhileStopped, OwnTimePasses, PairBackIsDoubted, PressedEndPasses, PressedPlyPasses, QuickCorrectionPasses, ReturnCounts, RunningClockPasses, SecondMoveIsTried, ShortGapPasses, SilenceIsDoubted, SilentReplacementIsDoubted, SixthPlyIsDoubted, StaysDoubtful, StoppedMoveIsNamed, UndoubtedCorrection, UndoubtedMove};
 
 /// What is doubtful stays so, whatever comes later.
 pub fn stays_doubtful()
@@ -69,6 +69,16 @@ pub fn silent_replacement_is_doubted()
 /// While the clock runs and nobody presses it, the sixth ply is doubted.
 pub fn sixth_ply_is_doubted()
     ensures { SixthPlyIsDoubted }
+{}
+
+/// Once a clock that has run is stopped, the answer to the result names the moves that are made then.
+pub fn stopped_move_is_named()
+    ensures { StoppedMoveIsNamed }
+{}
+
+/// While players press the clock, and their board is right, nothing is asked when the result is given.
+pub fn pressed_end_passes()
+    ensures { PressedEndPasses }
 {}
 
 /// Only a ply that takes another one back is doubted as taken back.

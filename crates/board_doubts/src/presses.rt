@@ -4,6 +4,7 @@ ghost use Rattle.board_doubts.specs.declared.heard.Event.{Event as EventOf};
 ghost use Rattle.board_doubts.specs.Pace.{last_within, quickest};
 ghost use Rattle.board_doubts.specs.Presses.{counts_now as counts_now_of, is_early as is_early_of, is_left_by, is_press as is_press_of, is_used as is_used_of, known as known_of, many, most_quiet, pressed_at, pressed_at_by, presses, quiet as quiet_of, quiet_by, runs, runs_by, unpressed, unpressed_by};
 ghost use Rattle.board_doubts.specs.Unheard.{is_unheard as is_unheard_of};
+ghost use Rattle.board_doubts.specs.Unplayed.{unpressed_last as unpressed_last_of};
 ghost use Rattle.board_doubts.specs.Waiting.{ply_times};
 ghost use Rattle.board_doubts.specs.Keeping.{KeepsPresses};
 
@@ -180,6 +181,17 @@ impl Presses {
             → result ≡ is_left_by what (counts_now_of past) (unpressed past) }
     {
         is_left(what, self.counts_now(is_quick), self.unpressed.min(MANY))
+    }
+
+    /// How many of the last plies have no press, but for the first of these.
+    pub fn unpressed_last(&self) -> u64
+        ensures { (past : List EventOf) → KeepsPresses self.now past → result ≡ unpressed_last_of past }
+    {
+        if self.is_used() {
+            self.unpressed.saturating_sub(1)
+        } else {
+            0
+        }
     }
 
     /// How many of the last plies have no press.

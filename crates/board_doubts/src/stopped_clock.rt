@@ -3,7 +3,7 @@
 ghost use Rattle.std.specs.Prelude.{◌≡◌, ◌&&◌, ◌||◌, ◌∷◌, [], not, List};
 ghost use Rattle.square_runs.specs.Lasting.{has_lasted};
 ghost use Rattle.board_doubts.specs.declared.heard.Event.{Event as EventOf};
-ghost use Rattle.board_doubts.specs.Clock.{acknowledges as acknowledges_of, ago_by, has_no_clock as has_no_clock_of, is_after as is_after_of, is_stopped as is_stopped_of, most, run_by, running, seen_late, stands_by, stands_since, tried_by, tries_of};
+ghost use Rattle.board_doubts.specs.Clock.{acknowledges as acknowledges_of, ago, ago_by, has_no_clock as has_no_clock_of, is_after as is_after_of, is_stopped as is_stopped_of, most, run_by, running, seen_late, stands_by, stands_since, tried as tried_in, tried_by, tries_of};
 ghost use Rattle.board_doubts.specs.Keeping.{ClockStandsFor};
 
 use crate::heard::{Event, Heard};
@@ -18,7 +18,7 @@ const ACKNOWLEDGES: u8 = 10;
 const SEEN_LATE: u64 = 3_000;
 
 /// No more moves are counted than this.
-const MOST: u64 = 9_999;
+pub const MOST: u64 = 9_999;
 
 /// Moves that were made one after the other while the clock was stopped.
 #[derive(Clone, Copy)]
@@ -149,6 +149,16 @@ impl StoppedClock {
         self.is_unheard = unheard_after(event.what, self.is_unheard);
         let is_after = was_made_after(is_none, event.at, since);
         self.tries(event, is_stopped && is_after)
+    }
+
+    /// How many moves were made one after the other while the clock was stopped, and how many plies ago the last one before them.
+    pub fn tried(&self) -> Tried
+        ensures { (past : List EventOf) → ClockStandsFor self.now past → result ≡ record { moves = tried_in past; plies = ago past } }
+    {
+        Tried {
+            moves: self.tried,
+            plies: self.ago,
+        }
     }
 
     /// Whether the clock has run, and stands now.

@@ -4,13 +4,14 @@ use Rattle.std.proofs.Math.Nat.{le_antisymm, le_refl}
 use Rattle.std.specs.Prelude.{is_some}
 use Rattle.square_runs.specs.Lasting.{IsBefore}
 use Rattle.game_over.specs.declared.happened.Event.{Event}
+use Rattle.game_over.specs.declared.happened.Happening.TheVariants.{Passes}
 use Rattle.game_over.specs.declared.said.Said.{Said}
 use Rattle.game_over.specs.declared.said.Said.TheVariants.{IsOver}
 use Rattle.game_over.specs.declared.said.Why.{Why}
 use Rattle.game_over.specs.declared.said.Why.TheVariants.{Stood}
-use Rattle.game_over.specs.Over.{ended_by, front, is_over, passes}
-use Rattle.game_over.specs.Result.{has_come, has_stood, last_given}
-use Rattle.game_over.specs.Said.{IsSaidFor, with_result}
+use Rattle.game_over.specs.Over.{ended_by, is_over, passes}
+use Rattle.game_over.specs.Result.{has_come, has_passed, last_given}
+use Rattle.game_over.specs.Said.{IsSaidFor, ended_with}
 use Rattle.board_endings.specs.declared.news.End.{End}
 use Rattle.board_endings.specs.Items.{bytes_of}
 use Rattle.board_endings.specs.Laws.{DueOnce, SameUntilDue}
@@ -53,13 +54,13 @@ stood_by false true h = refl
 stood_by false false h = absurd cc
 
 stood_at : (time bytes : ℕ) (past : List Event) → is_some (ended_by (passes time bytes) past) ≡ true → ended_by (passes time bytes) past ≡ Some Stood
-stood_at time bytes past h = stood_by (is_over past) (has_stood time (last_given past)) h
+stood_at time bytes past h = stood_by (is_over past) (has_passed time (last_given past)) h
 
 passed : (now later bytes : ℕ) (past : List Event) (end : End) → is_some (ended_by (passes now bytes) past) ≡ true → is_some (ended_by (passes later bytes) past) ≡ true
     → IsEnd (passes now bytes ∷ past) end → IsEnd (passes later bytes ∷ past) end
 passed now later bytes past end g h e =
     let W : Option Why → Type 0 = λ why. IsSaidFor why e.1 (passes now bytes) past in
-    let said : e.1 ≡ IsOver (with_result Stood (last_given past) (front past)) = subst W (stood_at now bytes past g) e.3 in
+    let said : e.1 ≡ IsOver (ended_with Stood Passes past) = subst W (stood_at now bytes past g) e.3 in
     let V : Option Why → Type 0 = λ why. IsSaidFor why e.1 (passes later bytes) past in (
       e.0,
       e.1,

@@ -31,7 +31,7 @@ use Rattle.board_endings.specs.Items.{Noted, Sent, bytes_of, events_of}
 use Rattle.board_endings.specs.Laws.{EndsOnce, TellsOnce}
 use Rattle.board_endings.specs.Moves.{TellsMove}
 use Rattle.board_endings.specs.Saying.{IsEnd, end_by}
-use Rattle.board_endings.specs.Telling.{TellsEvent, TellsNew, TellsPicture, TellsResult, game_by, happening_of, is_new, timed, with_news, with_picture}
+use Rattle.board_endings.specs.Telling.{TellsEvent, TellsNew, TellsPicture, TellsResult, game_by, happening_of, is_new, listened, timed, with_news, with_picture}
 
 bit_same : (x y : ℕ) → x < 2 → y < 2 → (x ≡ 1 → y ≡ 1) → (y ≡ 1 → x ≡ 1) → x ≡ y
 bit_same x y a b f g = elim (cases_eq x 1) [
@@ -51,12 +51,12 @@ move_once start added old new None (Some n) g h = absurd (h.0 g)
 move_once start added old new (Some m) None g h = absurd (g.0 h)
 move_once start added old new (Some m) (Some n) g h = ap (λ (x : Move). Some x) (g.1 ∙ sym h.1)
 
-ended_once : (moved : Option Move) (before after : Option Outcome) (a b : Option Happening) → TellsResult moved before after a → TellsResult moved before after b → a ≡ b
-ended_once (Some m) before after a b g h = g ∙ sym h
-ended_once None before after a b (inl g) (inl h) = g.1 ∙ sym h.1
-ended_once None before after a b (inl g) (inr h) = absurd (h.0 g.0)
-ended_once None before after a b (inr g) (inl h) = absurd (g.0 h.0)
-ended_once None before after a b (inr g) (inr h) = g.1 ∙ sym h.1
+ended_once : (added : Bool) (moved : Option Move) (before after : Option Outcome) (a b : Option Happening) → TellsResult added moved before after a → TellsResult added moved before after b → a ≡ b
+ended_once added (Some m) before after a b g h = g ∙ sym h
+ended_once added None before after a b (inl g) (inl h) = g.1 ∙ sym h.1
+ended_once added None before after a b (inl g) (inr h) = absurd (h.0 g.0)
+ended_once added None before after a b (inr g) (inl h) = absurd (g.0 h.0)
+ended_once added None before after a b (inr g) (inr h) = g.1 ∙ sym h.1
 
 abbrev told_with : Happening → Option Happening → ℕ → Bool → Told
 told_with game ended off at_start = record { game = game; ended = ended; shown = record { off = off; at_start = at_start } }
@@ -65,9 +65,9 @@ picture_once : (start : Parts) (added : Bool) (old new : List Ply) (before after
     → TellsPicture start added old new before after seen a → TellsPicture start added old new before after seen b → a ≡ b
 picture_once start added old new before after seen a b g h =
     let moved = move_once start added old new g.moved h.moved g.moves h.moves in
-    let E : Option Move → Type 0 = λ m. TellsResult m before after a.ended in
+    let E : Option Move → Type 0 = λ m. TellsResult added m before after a.ended in
     ap (λ (x : Happening). told_with x a.ended a.shown.off a.shown.at_start) (g.game ∙ ap (λ (m : Option Move). game_by m (bytes_eq seen (position start new))) moved ∙ sym h.game)
-    ∙ ap (λ (x : Option Happening). told_with b.game x a.shown.off a.shown.at_start) (ended_once h.moved before after a.ended b.ended (subst E moved g.ended) h.ended)
+    ∙ ap (λ (x : Option Happening). told_with b.game x a.shown.off a.shown.at_start) (ended_once added h.moved before after a.ended b.ended (subst E moved g.ended) h.ended)
     ∙ ap (λ (n : ℕ). told_with b.game b.ended n a.shown.at_start) (off_once a.shown.off b.shown.off _ seen g.fits h.fits g.off h.off)
     ∙ ap (λ (x : Bool). told_with b.game b.ended b.shown.off x) (g.at_start ∙ sym h.at_start)
 
@@ -91,10 +91,11 @@ new_once setting past added event a b valid g h =
 
 event_once : (given : Bool) (setting : Setting) (past : List BoardEvent) (at : ℕ) (added : Bool) (bytes : ℕ) (event : BoardEvent) (one other a b : List Event)
     → Valid setting.start → one ≡ other → TellsEvent given setting past at added bytes event one a → TellsEvent given setting past at added bytes event other b → a ≡ b
-event_once false setting past at added bytes event one other a b valid same g h = g ∙ same ∙ sym h
+event_once false setting past at added bytes event one other a b valid same g h =
+    g ∙ ap (λ (l : List Event). listened added at bytes l) same ∙ sym h
 event_once true setting past at added bytes event one other a b valid same g h =
-    g.2 ∙ ap (λ (p : Told). with_picture at bytes p one) (new_once setting past added event g.0 h.0 valid g.1 h.1)
-    ∙ ap (λ (l : List Event). with_picture at bytes h.0 l) same ∙ sym h.2
+    g.2 ∙ ap (λ (p : Told). with_picture at bytes p (listened added at bytes one)) (new_once setting past added event g.0 h.0 valid g.1 h.1)
+    ∙ ap (λ (l : List Event). with_picture at bytes h.0 (listened added at bytes l)) same ∙ sym h.2
 
 pub tells_once : TellsOnce
 tells_once setting [] a b valid g h = g ∙ sym h

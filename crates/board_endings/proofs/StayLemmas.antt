@@ -3,7 +3,7 @@ use Rattle.std.proofs.Common.{◌≡◌, ◌&&◌, ℕ, Bool, true, false, not, 
 use Rattle.std.specs.Prelude.{is_some}
 use Rattle.game_over.specs.declared.happened.Event.{Event}
 use Rattle.game_over.specs.declared.happened.Happening.{Happening}
-use Rattle.game_over.specs.declared.happened.Happening.TheVariants.{Moves, Agrees, Differs, Shows, Ends, Declares, Reopens, Resumes, GoesBack, Passes}
+use Rattle.game_over.specs.declared.happened.Happening.TheVariants.{Moves, Agrees, Differs, Shows, Ends, Declares, Reopens, Resumes, GoesBack, Passes, Hears}
 use Rattle.game_over.specs.declared.said.Over.{Over}
 use Rattle.game_over.specs.declared.said.Said.{Said}
 use Rattle.game_over.specs.declared.said.Said.TheVariants.{Nothing, BeginsNow, GoesOn}
@@ -48,8 +48,8 @@ over_step at bytes (Moves played) past before said earlier s h = held (why_over 
 over_step at bytes Agrees past before said earlier s h = held (why_over past) None said (happens at bytes Agrees) past before earlier refl s h
 over_step at bytes Differs past before said earlier s h = held (why_over past) None said (happens at bytes Differs) past before earlier refl s h
 over_step at bytes (Shows shown) past before said earlier s h = held (why_over past) (why_by (Shows shown) at past) said (happens at bytes (Shows shown)) past before earlier refl s h
-over_step at bytes (Ends outcome) past before said earlier s h = held (why_over past) None said (happens at bytes (Ends outcome)) past before earlier refl s h
-over_step at bytes (Declares outcome) past before said earlier s h = held (why_over past) None said (happens at bytes (Declares outcome)) past before earlier refl s h
+over_step at bytes (Ends outcome added) past before said earlier s h = held (why_over past) None said (happens at bytes (Ends outcome added)) past before earlier refl s h
+over_step at bytes (Declares outcome added) past before said earlier s h = held (why_over past) None said (happens at bytes (Declares outcome added)) past before earlier refl s h
 over_step at bytes Reopens past before said earlier s h =
     let W : Option Why → Type 0 = λ why. IsSaidFor why said (happens at bytes Reopens) past in
     let nothing : said ≡ Nothing = subst W (no_why (is_over past)) s ∙ none_by (is_over past) in
@@ -57,6 +57,7 @@ over_step at bytes Reopens past before said earlier s h =
 over_step at bytes Resumes past before said earlier s h = held (why_over past) None said (happens at bytes Resumes) past before earlier refl s h
 over_step at bytes GoesBack past before said earlier s h = held (why_over past) None said (happens at bytes GoesBack) past before earlier refl s h
 over_step at bytes Passes past before said earlier s h = held (why_over past) (why_by Passes at past) said (happens at bytes Passes) past before earlier refl s h
+over_step at bytes Hears past before said earlier s h = held (why_over past) (why_by Hears at past) said (happens at bytes Hears) past before earlier refl s h
 
 -- A game that is said to be over is over.
 is_over_by : (past : List Event) (end : End) → IsEnd past end → is_some end.over ≡ true → is_over past ≡ true

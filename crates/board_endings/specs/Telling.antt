@@ -22,7 +22,7 @@ use Rattle.game_over.specs.declared.happened.Happening.TheVariants.{Moves, Agree
 use Rattle.game_over.specs.declared.happened.Move.{Move}
 use Rattle.game_over.specs.declared.happened.Outcome.{Outcome}
 use Rattle.game_over.specs.declared.happened.Outcome.TheVariants.{WhiteWins, BlackWins, Draw}
-use Rattle.game_over.specs.Over.{ended_by, passes}
+use Rattle.game_over.specs.Over.{ended_by, hears, passes}
 use Rattle.board_endings.specs.declared.news.News.{News}
 use Rattle.board_endings.specs.declared.news.News.TheVariants.{Begins, GoesBack, Reopens, Passes}
 use Rattle.board_endings.specs.declared.picture.Told.{Told}
@@ -45,26 +45,26 @@ outcome_of WhiteWon = WhiteWins
 outcome_of BlackWon = BlackWins
 outcome_of Drawn = Draw
 
-abbrev pub ends : Option Result → Option Happening
-ends None = None
-ends (Some result) = Some (Ends (outcome_of result))
+abbrev pub ends : Bool → Option Result → Option Happening
+ends added None = None
+ends added (Some result) = Some (Ends (outcome_of result) added)
 
-abbrev pub declares : Option Result → Option Happening
-declares None = None
-declares (Some result) = Some (Declares (outcome_of result))
+abbrev pub declares : Bool → Option Result → Option Happening
+declares added None = None
+declares added (Some result) = Some (Declares (outcome_of result) added)
 
 -- The result after a move is mate or stalemate, and is told anew after a correction. Else the kings show it; that is told where it has
 -- become another one.
-abbrev pub TellsResult : Option Move → Option Result → Option Result → Option Happening → Type 0
-TellsResult (Some move) before after told = told ≡ ends after
-TellsResult None before after told = ((after ≡ before) × (told ≡ None)) ⊎ ((after ≢ before) × (told ≡ declares after))
+abbrev pub TellsResult : Bool → Option Move → Option Result → Option Result → Option Happening → Type 0
+TellsResult added (Some move) before after told = told ≡ ends added after
+TellsResult added None before after told = ((after ≡ before) × (told ≡ None)) ⊎ ((after ≢ before) × (told ≡ declares added after))
 
 -- What a picture tells with which the plies and the result have become the second ones.
 pub record TellsPicture (start : Parts) (added : Bool) (old new : List Ply) (before after : Option Result) (seen : List ℕ) (told : Told) : Type 0 where
   pub moved : Option Move
   pub moves : TellsMove start added old new moved
   pub game : told.game ≡ game_by moved (bytes_eq seen (position start new))
-  pub ended : TellsResult moved before after told.ended
+  pub ended : TellsResult added moved before after told.ended
   pub fits : told.shown.off < 2 ^ 64
   pub off : IsDiff told.shown.off (picture start) seen
   pub at_start : told.shown.at_start ≡ bytes_eq (position start new) (picture start)
@@ -90,6 +90,15 @@ happens at bytes what = record { at = at; bytes = bytes; what = what }
 abbrev pub timed : ℕ → ℕ → List Event → List Event
 timed at bytes past = if is_some (ended_by (passes at bytes) past) then passes at bytes ∷ past else past
 
+-- The board is heard then, and what it shows is told behind this: its result has stood by then, if that ends the game.
+abbrev pub heard : ℕ → ℕ → List Event → List Event
+heard at bytes past = if is_some (ended_by (hears at bytes) past) then hears at bytes ∷ past else past
+
+-- An event comes. If it was added by hand, the board isn't heard by it.
+abbrev pub listened : Bool → ℕ → ℕ → List Event → List Event
+listened true at bytes past = timed at bytes past
+listened false at bytes past = heard at bytes (timed at bytes past)
+
 abbrev pub with_ended : ℕ → ℕ → Option Happening → List Event → List Event
 with_ended at bytes None past = past
 with_ended at bytes (Some what) past = happens at bytes what ∷ past
@@ -97,13 +106,13 @@ with_ended at bytes (Some what) past = happens at bytes what ∷ past
 -- First what the picture says of the game; then its result; last the picture.
 abbrev pub with_picture : ℕ → ℕ → Told → List Event → List Event
 with_picture at bytes told past =
-    happens at bytes (Shows told.shown) ∷ with_ended at bytes told.ended (happens at bytes told.game ∷ timed at bytes past)
+    happens at bytes (Shows told.shown) ∷ with_ended at bytes told.ended (happens at bytes told.game ∷ past)
 
--- This is told of an event, if it shows another picture; else nothing.
+-- This is told of an event: what the time says at which it comes, and then its picture, if that is another one.
 abbrev pub TellsEvent : Bool → Setting → List BoardEvent → ℕ → Bool → ℕ → BoardEvent → List Event → List Event → Type 0
-TellsEvent false setting past at added bytes event earlier told = told ≡ earlier
+TellsEvent false setting past at added bytes event earlier told = told ≡ listened added at bytes earlier
 TellsEvent true setting past at added bytes event earlier told = (picture : Told) × TellsNew setting past added event picture
-    × (told ≡ with_picture at bytes picture earlier)
+    × (told ≡ with_picture at bytes picture (listened added at bytes earlier))
 
 -- What news tell, if more than that time has passed. Nobody listened before a recorder begins: no time has ended the game by then.
 abbrev pub happening_of : News → Option Happening

@@ -92,13 +92,22 @@ impl Endings {
             → OnOk result (StandsFor self.new setting (Sent when.at when.is_added bytes event ∷ items)) }
     {
         self.bytes = bytes;
+        self.judging.listen(when.at, bytes, when.is_added)?;
         if !sight.is_another() {
             return Ok(());
         }
         let settler = session.settler();
         let moved = self.course.go_on(sight.moves(), when.is_added, settler);
         let differs = settler.differs();
-        let told = told_of(&self.course, moved, differs, picture, self.result, outcome);
+        let told = told_of(
+            &self.course,
+            when.is_added,
+            moved,
+            differs,
+            picture,
+            self.result,
+            outcome,
+        );
         self.result = outcome;
         self.judging.take_picture(when.at, bytes, &told)
     }

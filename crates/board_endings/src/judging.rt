@@ -6,7 +6,7 @@ ghost use Rattle.game_over.specs.Over.{ended_by, passes};
 ghost use Rattle.game_over.specs.Result.{has_come};
 ghost use Rattle.board_endings.specs.Keeping.{HasJudged};
 ghost use Rattle.board_endings.specs.Saying.{IsEnd, end_by, no_end, reopened as reopened_of};
-ghost use Rattle.board_endings.specs.Telling.{happens, timed, with_ended, with_news, with_picture};
+ghost use Rattle.board_endings.specs.Telling.{happens, heard, listened, timed, with_ended, with_news, with_picture};
 
 use crate::news::End;
 use crate::picture::Told;
@@ -88,6 +88,31 @@ impl Judging {
         }
     }
 
+    /// The board is heard.
+    fn hear(&mut self, at: u64, bytes: u64) -> Result<(), AllocError>
+        ensures { (past : List EventOf) → HasJudged self.old past → OnOk result (HasJudged self.new (heard at bytes past)) }
+    {
+        if !self.ending.ends_heard(at) {
+            return Ok(());
+        }
+        self.take(Event {
+            at,
+            bytes,
+            what: Happening::Hears,
+        })
+    }
+
+    /// Tells the time at which an event comes. The board is heard by it, or it was added by hand.
+    pub fn listen(&mut self, at: u64, bytes: u64, is_added: bool) -> Result<(), AllocError>
+        ensures { (past : List EventOf) → HasJudged self.old past → OnOk result (HasJudged self.new (listened is_added at bytes past)) }
+    {
+        self.pass(at, bytes)?;
+        if is_added {
+            return Ok(());
+        }
+        self.hear(at, bytes)
+    }
+
     /// Tells the result, if it is told.
     fn take_ended(
         &mut self,
@@ -157,7 +182,6 @@ impl Judging {
     pub fn take_picture(&mut self, at: u64, bytes: u64, told: &Told) -> Result<(), AllocError>
         ensures { (past : List EventOf) → HasJudged self.old past → OnOk result (HasJudged self.new (with_picture at bytes told.now past)) }
     {
-        self.pass(at, bytes)?;
         self.take_game(at, bytes, told.game)?;
         self.take_ended(at, bytes, told.ended)?;
         self.show(at, bytes, told.shown)

@@ -1,5 +1,5 @@
 //! What one picture tells.
-ghost use Rattle.std.specs.Prelude.{◌≡◌, ◌↔◌, ◌<◌, ◌^◌, ℕ, Bool, List, IsTrue, length};
+ghost use Rattle.std.specs.Prelude.{◌≡◌, ◌↔◌, ◌<◌, ◌^◌, ℕ, List, IsTrue, length};
 ghost use Rattle.std.specs.Str.{bytes_eq};
 ghost use Rattle.chess_rules.specs.declared.parts.Parts.{Parts};
 ghost use Rattle.settle_core.specs.declared.plies.Outcome.{Outcome as OutcomeOf};
@@ -48,21 +48,27 @@ fn outcome_at(given: GameOutcome) -> Outcome
     }
 }
 
-fn ends(outcome: Option<GameOutcome>) -> Option<Happening>
-    ensures { result ≡ ends_of outcome }
+fn ends(is_added: bool, outcome: Option<GameOutcome>) -> Option<Happening>
+    ensures { result ≡ ends_of is_added outcome }
 {
     match outcome {
         None => None,
-        Some(outcome) => Some(Happening::Ends(outcome_at(outcome))),
+        Some(outcome) => {
+            let outcome = outcome_at(outcome);
+            Some(Happening::Ends { outcome, is_added })
+        }
     }
 }
 
-fn declares(outcome: Option<GameOutcome>) -> Option<Happening>
-    ensures { result ≡ declares_of outcome }
+fn declares(is_added: bool, outcome: Option<GameOutcome>) -> Option<Happening>
+    ensures { result ≡ declares_of is_added outcome }
 {
     match outcome {
         None => None,
-        Some(outcome) => Some(Happening::Declares(outcome_at(outcome))),
+        Some(outcome) => {
+            let outcome = outcome_at(outcome);
+            Some(Happening::Declares { outcome, is_added })
+        }
     }
 }
 
@@ -74,19 +80,20 @@ fn is_outcome(one: Option<GameOutcome>, other: Option<GameOutcome>) -> bool
 
 /// What is told of the result.
 fn ended(
+    is_added: bool,
     moved: Option<Move>,
     before: Option<GameOutcome>,
     after: Option<GameOutcome>,
 ) -> Option<Happening>
-    ensures { TellsResult moved before after result }
+    ensures { TellsResult is_added moved before after result }
 {
     if moved.is_some() {
-        return ends(after);
+        return ends(is_added, after);
     }
     if is_outcome(after, before) {
         None
     } else {
-        declares(after)
+        declares(is_added, after)
     }
 }
 
@@ -99,14 +106,15 @@ fn count_bits(squares: u64)
 /// one. It differs from the game's position on these squares.
 pub fn told_of(
     course: &Course,
+    is_added: bool,
     moved: Option<Move>,
     differs: u64,
     picture: &[u8; 64],
     before: Option<GameOutcome>,
     after: Option<GameOutcome>,
 ) -> Told
-    ensures { (start : Parts) (added : Bool) (old new : List PlyOf) → KeepsCourse course.now start new → TellsMove start added old new moved
-        → IsDiff differs course.now.here picture.now → TellsPicture start added old new before after picture.now result }
+    ensures { (start : Parts) (old new : List PlyOf) → KeepsCourse course.now start new → TellsMove start is_added old new moved
+        → IsDiff differs course.now.here picture.now → TellsPicture start is_added old new before after picture.now result }
 {
     let off = diff_mask(&course.start, picture);
     // For its clause: a mask has 64 bits.
@@ -114,7 +122,7 @@ pub fn told_of(
     let agrees = course.agrees(differs, picture);
     Told {
         game: game(moved, agrees),
-        ended: ended(moved, before, after),
+        ended: ended(is_added, moved, before, after),
         shown: Shown {
             off,
             at_start: course.is_at_start(),

@@ -383,7 +383,7 @@ since_alike now Wrong a b same silent = ap (λ (s : Stood). named_since now s.sh
 since_alike now NoStart a b same silent = ap (λ (s : Stood). named_since now s.shown) same
 
 abbrev hint_on : Stood → Option Hint
-hint_on s = if s.other then Some OtherBoard else if s.turned && not s.played then Some TurnedRound else None
+hint_on s = if s.turned && not s.played then Some TurnedRound else if s.other then Some OtherBoard else None
 
 read_alike : (now : ℕ) (a b : List Told) → stood a ≡ stood b → silent_since a ≡ silent_since b → ReadAlike now a b
 read_alike now a b same silent =

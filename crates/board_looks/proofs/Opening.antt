@@ -1,16 +1,17 @@
 -- Which alarms are open.
-use Rattle.std.proofs.Common.{◌≡◌, ◌⊎◌, ◌&&◌, not, ℕ, inl, inr, Bool, true, false, List, [], ◌∷◌, ◌++◌, Some, None, refl, sym, ap, ◌∙◌, append_assoc, append-nil}
+use Rattle.std.proofs.Common.{◌≡◌, ◌≢◌, ◌⊎◌, ◌&&◌, not, ℕ, inl, inr, Bool, true, false, List, [], ◌∷◌, ◌++◌, Some, None, refl, sym, ap, ◌∙◌, append_assoc, append-nil}
 use Rattle.std.specs.Prelude.{if◌then◌else◌}
 use Rattle.board_doubts.specs.declared.heard.Event.{Event}
 use Rattle.board_doubts.specs.declared.heard.Heard.{Heard}
 use Rattle.board_doubts.specs.declared.heard.Heard.TheVariants.{Shows, Moves, Corrects, Agrees, Ends, Reopens, PutsBack, PutsIn, Away, Clock, Plays, Replaces, Presses, Counts, Looked}
 use Rattle.board_doubts.specs.Clock.{ago, is_after, is_stopped, tried, tries_by, tries_of}
 use Rattle.board_doubts.specs.Doubts.{doubt_by}
+use Rattle.board_doubts.specs.Unplayed.{unplayed_by, unplayed_of}
 use Rattle.board_looks.specs.declared.look.Look.{Look}
 use Rattle.board_looks.specs.declared.look.Told.{Told}
 use Rattle.board_looks.specs.declared.look.Told.TheVariants.{Hears, Suspects}
-use Rattle.board_looks.specs.Laws.{AddedRaisesNone, Has, IsOpenExactly, IsRaised, LookingEndsAll, StaysOpen}
-use Rattle.board_looks.specs.Looks.{alarms, doubtful, ends, heard, listed, raised, stopped}
+use Rattle.board_looks.specs.Laws.{AddedRaisesNone, Has, IsOpenExactly, IsRaised, LookingEndsAll, ResultAsksForLast, StaysOpen}
+use Rattle.board_looks.specs.Looks.{alarms, doubtful, ends, heard, listed, raised, stopped, unplayed}
 
 in_either : (look : Look) (one other : List Look) → Has look (one ++ other) → Has look one ⊎ Has look other
 in_either look [] other h = inr h
@@ -106,7 +107,35 @@ none_tried (Replaces ply) event past h = refl
 none_tried Presses event past h = refl
 none_tried (Counts black) event past h = refl
 
+none_unplayed : (what : Heard) (past : List Event) → what ≢ Ends → unplayed_by what past ≡ None
+none_unplayed Ends past h = absurd (h refl)
+none_unplayed (Moves repeats) past h = refl
+none_unplayed Looked past h = refl
+none_unplayed (Shows seen) past h = refl
+none_unplayed (Corrects repeats) past h = refl
+none_unplayed Agrees past h = refl
+none_unplayed Reopens past h = refl
+none_unplayed PutsIn past h = refl
+none_unplayed PutsBack past h = refl
+none_unplayed (Away gap) past h = refl
+none_unplayed (Clock runs) past h = refl
+none_unplayed (Plays ply) past h = refl
+none_unplayed (Replaces ply) past h = refl
+none_unplayed Presses past h = refl
+none_unplayed (Counts black) past h = refl
+
+-- What is added raises no doubt, and no alarm about the clock.
+added_raises : (event : Event) (plies : ℕ) (past : List Told) → event.is_added ≡ true
+    → raised (Hears event plies) past ≡ listed (unplayed plies (unplayed_of event (heard past)))
+added_raises event plies past h =
+    let last : List Look = listed (unplayed plies (unplayed_of event (heard past))) in
+    ap (λ b. listed (doubtful plies (if b then None else doubt_by event.what event.at (heard past))) ++ (listed (stopped plies (tries_of event (heard past))) ++ last)) h
+    ∙ ap (λ tried. listed (stopped plies tried) ++ last) (none_tried event.what event (heard past) h)
+
 pub added_raises_none : AddedRaisesNone
-added_raises_none event plies past h =
-    ap (λ b. listed (doubtful plies (if b then None else doubt_by event.what event.at (heard past))) ++ listed (stopped plies (tries_of event (heard past)))) h
-    ∙ ap (λ tried. listed (stopped plies tried)) (none_tried event.what event (heard past) h)
+added_raises_none event plies past h other =
+    added_raises event plies past h ∙ ap (λ tried. listed (unplayed plies tried)) (none_unplayed event.what (heard past) other)
+
+pub result_asks_for_last : ResultAsksForLast
+result_asks_for_last event plies past h ends =
+    added_raises event plies past h ∙ ap (λ what. listed (unplayed plies (unplayed_by what (heard past)))) ends

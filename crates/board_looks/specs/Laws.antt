@@ -1,10 +1,12 @@
 -- What holds of each history. What was told is listed with the latest first, alarms in the order in which they came.
-use Rattle.std.specs.Prelude.{◌≡◌, ◌↔◌, ◌⊎◌, ℕ, true, false, List, [], ◌∷◌, ◌++◌, ⊤}
+use Rattle.std.specs.Prelude.{◌≡◌, ◌≢◌, ◌↔◌, ◌⊎◌, ℕ, true, false, List, [], ◌∷◌, ◌++◌, ⊤}
 use Rattle.board_doubts.specs.declared.heard.Event.{Event}
 use Rattle.board_looks.specs.declared.look.Look.{Look}
 use Rattle.board_looks.specs.declared.look.Told.{Told}
 use Rattle.board_looks.specs.declared.look.Told.TheVariants.{Hears}
-use Rattle.board_looks.specs.Looks.{alarms, ends, raised}
+use Rattle.board_doubts.specs.declared.heard.Heard.TheVariants.{Ends}
+use Rattle.board_doubts.specs.Unplayed.{unplayed}
+use Rattle.board_looks.specs.Looks.{alarms, ends, heard, listed, raised, unplayed as unplayed_look}
 
 -- The list has this alarm.
 abbrev pub Has : Look → List Look → Type 0
@@ -33,6 +35,11 @@ StaysOpen = (past later : List Told) → NobodyLooks later → (more : List Look
 abbrev pub LookingEndsAll : Type 0
 LookingEndsAll = (told : Told) (past : List Told) → ends told ≡ true → alarms (told ∷ past) ≡ []
 
--- What an arbiter has added raises no alarm.
+-- What an arbiter has added raises no alarm, but for a result.
 abbrev pub AddedRaisesNone : Type 0
-AddedRaisesNone = (event : Event) (plies : ℕ) (past : List Told) → event.is_added ≡ true → raised (Hears event plies) past ≡ []
+AddedRaisesNone = (event : Event) (plies : ℕ) (past : List Told) → event.is_added ≡ true → event.what ≢ Ends → raised (Hears event plies) past ≡ []
+
+-- A result that an arbiter gives raises one alarm at most: about the last moves, if nobody may have played them.
+abbrev pub ResultAsksForLast : Type 0
+ResultAsksForLast = (event : Event) (plies : ℕ) (past : List Told) → event.is_added ≡ true → event.what ≡ Ends
+    → raised (Hears event plies) past ≡ listed (unplayed_look plies (unplayed (heard past)))

@@ -7,8 +7,9 @@ use Rattle.board_doubts.specs.declared.heard.Heard.TheVariants.{Looked}
 use Rattle.board_doubts.specs.declared.stopped_clock.Tried.{Tried}
 use Rattle.board_doubts.specs.Clock.{tries_of}
 use Rattle.board_doubts.specs.Doubts.{doubt_of}
+use Rattle.board_doubts.specs.Unplayed.{unplayed_of}
 use Rattle.board_looks.specs.declared.look.Look.{Look}
-use Rattle.board_looks.specs.declared.look.Look.TheVariants.{Doubtful, Stopped, Suspected}
+use Rattle.board_looks.specs.declared.look.Look.TheVariants.{Doubtful, Stopped, Unplayed, Suspected}
 use Rattle.board_looks.specs.declared.look.Told.{Told}
 use Rattle.board_looks.specs.declared.look.Told.TheVariants.{Hears, Suspects}
 
@@ -28,13 +29,19 @@ abbrev pub stopped : ℕ → Option Tried → Option Look
 stopped plies None = None
 stopped plies (Some tried) = Some (Stopped (plies - tried.plies) tried.moves)
 
+-- the alarm of moves that nobody may have played before the result: it names the last ply before them
+abbrev pub unplayed : ℕ → Option Tried → Option Look
+unplayed plies None = None
+unplayed plies (Some moves) = Some (Unplayed (plies - moves.plies) moves.moves)
+
 abbrev pub listed : Option Look → List Look
 listed None = []
 listed (Some look) = look ∷ []
 
 -- the alarms that something raises, which is told after the past
 abbrev pub raised : Told → List Told → List Look
-raised (Hears event plies) past = listed (doubtful plies (doubt_of event (heard past))) ++ listed (stopped plies (tries_of event (heard past)))
+raised (Hears event plies) past = listed (doubtful plies (doubt_of event (heard past))) ++ (listed (stopped plies (tries_of event (heard past)))
+    ++ listed (unplayed plies (unplayed_of event (heard past))))
 raised (Suspects n) past = Suspected n ∷ []
 
 -- Somebody has looked.

@@ -18,6 +18,8 @@ pub enum Look {
     Doubtful { plies: u64, doubt: Doubt },
     /// After so many plies so many moves were made one after the other while the clock was stopped.
     Stopped { plies: u64, moves: u64 },
+    /// The result was given, and nobody may have played the moves after so many plies.
+    Unplayed { plies: u64, moves: u64 },
     /// This is suspected.
     Suspected(u64),
 }

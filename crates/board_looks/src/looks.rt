@@ -3,11 +3,12 @@ ghost use Rattle.std.specs.Prelude.{◌≡◌, ◌∷◌, ◌++◌, [], List, On
 ghost use Rattle.board_doubts.specs.declared.heard.Event.{Event as EventOf};
 ghost use Rattle.board_doubts.specs.declared.heard.Heard.TheVariants.{Agrees, Shows};
 ghost use Rattle.board_looks.specs.declared.look.Told.{Told as ToldOf};
+ghost use Rattle.board_doubts.specs.Unplayed.{unplayed as unplayed_of_past, unplayed_by};
 ghost use Rattle.board_looks.specs.Keeping.{StandsFor};
-ghost use Rattle.board_looks.specs.Looks.{alarms, doubtful, is_looked, listed, stopped};
+ghost use Rattle.board_looks.specs.Looks.{alarms, doubtful, heard, is_looked, listed, stopped, unplayed as unplayed_look};
 
 use crate::look::{Look, Told};
-use board_doubts::{Doubt, Doubts, Event, Heard, Seen, StoppedClock, Tried};
+use board_doubts::{AfterWrong, Doubt, Doubts, Event, Heard, Seen, StoppedClock, Tried, first_of, some_moves};
 use std::alloc::{AllocError, Global};
 
 /// Whether somebody has looked.
@@ -38,6 +39,28 @@ fn stopped(plies: u64, tried: Option<Tried>) -> Option<Look>
     }
 }
 
+fn unplayed(plies: u64, moves: Option<Tried>) -> Option<Look>
+    ensures { result ≡ unplayed_look plies moves }
+{
+    match moves {
+        None => None,
+        Some(moves) => Some(Look::Unplayed {
+            plies: plies.saturating_sub(moves.plies),
+            moves: moves.moves,
+        }),
+    }
+}
+
+/// What is named when this is heard, if nobody may have played these moves.
+fn named(what: Heard, moves: Option<Tried>) -> Option<Tried>
+    ensures { (past : List EventOf) → moves ≡ unplayed_of_past past → result ≡ unplayed_by what past }
+{
+    match what {
+        Heard::Ends => moves,
+        _ => None,
+    }
+}
+
 /// Adds an alarm, if there is one.
 fn add(looks: &mut Vec<Look>, look: Option<Look>) -> Result<(), AllocError>
     ensures { OnOk result (looks.new.items ≡ looks.old.items ++ listed look) }
@@ -62,6 +85,7 @@ fn forget(looks: &mut Vec<Look>, what: Heard)
 pub struct Looks {
     doubts: Doubts,
     clock: StoppedClock,
+    after_wrong: AfterWrong,
     /// In the order in which they came.
     alarms: Vec<Look>,
 }
@@ -73,10 +97,12 @@ impl Looks {
     {
         let doubts = Doubts::new();
         let clock = StoppedClock::new();
+        let after_wrong = AfterWrong::new();
         let alarms = Vec::new(alloc);
         Looks {
             doubts,
             clock,
+            after_wrong,
             alarms,
         }
     }
@@ -111,6 +137,7 @@ impl Looks {
             → StandsFor self.old past → OnOk result (StandsFor self.new (ToldOf.Hears event plies ∷ past)) }
     {
         let doubt = self.doubts.see(at, is_added, seen);
+        self.after_wrong.see(at);
         add(&mut self.alarms, doubtful(plies, doubt))
     }
 
@@ -124,17 +151,33 @@ impl Looks {
             → StandsFor self.old past → OnOk result (StandsFor self.new (ToldOf.Hears event plies ∷ past)) }
     {
         let doubt = self.doubts.agree(at, is_added);
+        self.after_wrong.agree();
         add(&mut self.alarms, doubtful(plies, doubt))
     }
 
     fn hear(&mut self, event: Event, plies: u64) -> Result<(), AllocError>
         ensures { (past : List ToldOf) → StandsFor self.old past → OnOk result (StandsFor self.new (ToldOf.Hears event plies ∷ past)) }
     {
+        let named = named(event.what, self.unplayed());
         let doubt = self.doubts.take(event);
         let tried = self.clock.take(event);
+        self.after_wrong.take(event);
         forget(&mut self.alarms, event.what);
         add(&mut self.alarms, doubtful(plies, doubt))?;
-        add(&mut self.alarms, stopped(plies, tried))
+        add(&mut self.alarms, stopped(plies, tried))?;
+        add(&mut self.alarms, unplayed(plies, named))
+    }
+
+    /// The last moves that nobody may have played.
+    fn unplayed(&self) -> Option<Tried>
+        ensures { (past : List ToldOf) → StandsFor self.now past → result ≡ unplayed_of_past (heard past) }
+    {
+        let tried = self.clock.tried();
+        let odd = self.after_wrong.odd();
+        let unpressed = self.doubts.unpressed_last();
+        let stopped = some_moves(tried.moves, tried.plies);
+        let others = first_of(some_moves(odd, odd), some_moves(unpressed, unpressed));
+        first_of(stopped, others)
     }
 
     /// The alarms that are open, in the order in which they came.

@@ -50,20 +50,24 @@ is_other (event ∷ past) = other_by event.what past (is_other past)
 abbrev pub is_turned : Picture → Bool
 is_turned picture = nat_le (count_ones picture.turned) one_move && nat_le 16 (count_ones picture.differs)
 
+-- On a board that is turned round it is right on more squares than as the board is read. So it is while the first moves are made on it.
+abbrev pub explains_more : Picture → Bool
+explains_more picture = nat_lt (count_ones picture.turned) (count_ones picture.differs)
+
 abbrev pub turned_by : Heard → Bool → Bool
-turned_by (Shows picture) before = is_turned picture
+turned_by (Shows picture) before = is_turned picture || (before && explains_more picture)
 turned_by Moves before = false
 turned_by Ends before = false
 turned_by Reopens before = false
 turned_by other before = before
 
--- The last picture is.
+-- A picture was such a start, and each since then is right on more squares if the board is turned round.
 abbrev pub lies_turned : List Event → Bool
 lies_turned [] = false
 lies_turned (event ∷ past) = turned_by event.what (lies_turned past)
 
 -- what may be wrong with the board
 abbrev pub hint_of : List Event → Option Hint
-hint_of past = if is_other past then Some OtherBoard
-    else if lies_turned past && not (has_played past) then Some TurnedRound
+hint_of past = if lies_turned past && not (has_played past) then Some TurnedRound
+    else if is_other past then Some OtherBoard
     else None

@@ -4,7 +4,7 @@ ghost use Rattle.square_runs.specs.Shown.{Shown};
 ghost use Rattle.square_runs.specs.Squares.{Marks};
 ghost use Rattle.board_standing.specs.declared.heard.Event.{Event as EventOf};
 ghost use Rattle.board_standing.specs.declared.heard.Heard.TheVariants.{Shows};
-ghost use Rattle.board_standing.specs.Hints.{has_pictures, hint_of, is_opened as is_opened_of, is_swapped, is_turned as is_turned_of, opened_by, other_by, turned_by};
+ghost use Rattle.board_standing.specs.Hints.{has_pictures, explains_more as explains_more_of, hint_of, is_opened as is_opened_of, is_swapped, is_turned as is_turned_of, opened_by, other_by, turned_by};
 ghost use Rattle.board_standing.specs.Keeping.{Keeps, StandsFor};
 ghost use Rattle.board_standing.specs.Line.{ended_by, pictures, played_by, silent_by, unplugged_by, waits_by, with_picture};
 ghost use Rattle.board_standing.specs.Pictures.{is_old};
@@ -112,11 +112,25 @@ fn is_turned(picture: Picture) -> bool
     HALF_OF_PIECES <= picture.differs.count_ones() && picture.turned.count_ones() <= ONE_MOVE
 }
 
+/// Whether a picture is right on more squares if the board is turned round.
+fn explains_more(picture: Picture) -> bool
+    ensures { result ≡ explains_more_of picture }
+{
+    picture.turned.count_ones() < picture.differs.count_ones()
+}
+
+/// Whether the board lies turned round with this picture, if it did so before or not.
+fn lies_turned(picture: Picture, before: bool) -> bool
+    ensures { result ≡ turned_by (Shows picture) before }
+{
+    is_turned(picture) || (before && explains_more(picture))
+}
+
 fn turned_after(what: Heard, before: bool) -> bool
     ensures { result ≡ turned_by what before }
 {
     match what {
-        Heard::Shows(picture) => is_turned(picture),
+        Heard::Shows(picture) => lies_turned(picture, before),
         Heard::Moves | Heard::Ends | Heard::Reopens => false,
         _ => before,
     }
@@ -210,7 +224,7 @@ impl Standing {
             let was_shown = self.seen.has_pictures();
             self.is_other = is_other(picture, self.is_opened, was_shown, self.is_other);
             self.is_opened = false;
-            self.lies_turned = is_turned(picture);
+            self.lies_turned = lies_turned(picture, self.lies_turned);
             self.waits = false;
             self.seen.show(event.at, picture.differs);
             return;
@@ -315,11 +329,11 @@ impl Standing {
         if !is_seen(kind) {
             return None;
         }
-        if self.is_other {
-            return Some(Hint::OtherBoard);
-        }
         if self.lies_turned && !self.has_played {
             return Some(Hint::TurnedRound);
+        }
+        if self.is_other {
+            return Some(Hint::OtherBoard);
         }
         None
     }

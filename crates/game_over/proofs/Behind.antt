@@ -8,7 +8,7 @@ use Rattle.game_ends.specs.declared.made.Made.{Made}
 use Rattle.game_ends.specs.Ends.{LosesTail, home_stands, may_go}
 use Rattle.game_over.specs.declared.happened.Event.{Event}
 use Rattle.game_over.specs.declared.happened.Happening.{Happening}
-use Rattle.game_over.specs.declared.happened.Happening.TheVariants.{Moves, Agrees, Differs, Shows, Ends, Declares, Reopens, Resumes, GoesBack, Passes}
+use Rattle.game_over.specs.declared.happened.Happening.TheVariants.{Moves, Agrees, Differs, Shows, Ends, Declares, Reopens, Resumes, GoesBack, Passes, Hears}
 use Rattle.game_over.specs.declared.happened.Move.{Move}
 use Rattle.game_over.specs.declared.moves.Last.{Last}
 use Rattle.game_over.specs.declared.moves.Place.{Place}
@@ -51,12 +51,13 @@ places_step (Moves move) n bytes last given all behind h = appended n bytes all 
 places_step Agrees n bytes last given all behind h = behind
 places_step Differs n bytes last given all behind h = behind
 places_step (Shows shown) n bytes last given all behind h = behind
-places_step (Ends outcome) n bytes last given all behind h = behind
-places_step (Declares outcome) n bytes last given all behind h = behind
+places_step (Ends outcome added) n bytes last given all behind h = behind
+places_step (Declares outcome added) n bytes last given all behind h = behind
 places_step Reopens n bytes last given all behind h = behind
 places_step Resumes n bytes last given all behind h = behind
 places_step GoesBack n bytes last given all behind h = behind
 places_step Passes n bytes last given all behind h = behind
+places_step Hears n bytes last given all behind h = behind
 
 showed_behind : (bytes at : ℕ) (agrees : Bool) (last : Option Last) → LastBehind bytes last → LastBehind bytes (showed_by agrees at last)
 unfolding LastBehind
@@ -69,12 +70,13 @@ last_step (Moves move) at more bytes last later h = later
 last_step Agrees at more bytes last later h = showed_behind bytes at true last h
 last_step Differs at more bytes last later h = showed_behind bytes at false last h
 last_step (Shows shown) at more bytes last later h = h
-last_step (Ends outcome) at more bytes last later h = h
-last_step (Declares outcome) at more bytes last later h = h
+last_step (Ends outcome added) at more bytes last later h = h
+last_step (Declares outcome added) at more bytes last later h = h
 last_step Reopens at more bytes last later h = h
 last_step Resumes at more bytes last later h = h
 last_step GoesBack at more bytes last later h = h
 last_step Passes at more bytes last later h = h
+last_step Hears at more bytes last later h = h
 
 resumed_behind : (at more bytes : ℕ) (given : Option Given) → GivenBehind bytes given → GivenBehind bytes (given_by Resumes at more given)
 unfolding GivenBehind
@@ -88,12 +90,13 @@ given_step (Moves move) at more bytes given later h = tt
 given_step Agrees at more bytes given later h = h
 given_step Differs at more bytes given later h = h
 given_step (Shows shown) at more bytes given later h = h
-given_step (Ends outcome) at more bytes given later h = later
-given_step (Declares outcome) at more bytes given later h = later
+given_step (Ends outcome added) at more bytes given later h = later
+given_step (Declares outcome added) at more bytes given later h = later
 given_step Reopens at more bytes given later h = tt
 given_step Resumes at more bytes given later h = resumed_behind at more bytes given h
 given_step GoesBack at more bytes given later h = h
 given_step Passes at more bytes given later h = h
+given_step Hears at more bytes given later h = h
 
 -- There are as many places as moves.
 listed_alike : (last : Option Last) (given : Option Given) → length (listed_place last given) ≡ length (listed_move last)
@@ -114,12 +117,13 @@ as_many_by (Moves move) at last given all earlier h =
 as_many_by Agrees at last given all earlier h = h
 as_many_by Differs at last given all earlier h = h
 as_many_by (Shows shown) at last given all earlier h = h
-as_many_by (Ends outcome) at last given all earlier h = h
-as_many_by (Declares outcome) at last given all earlier h = h
+as_many_by (Ends outcome added) at last given all earlier h = h
+as_many_by (Declares outcome added) at last given all earlier h = h
 as_many_by Reopens at last given all earlier h = h
 as_many_by Resumes at last given all earlier h = h
 as_many_by GoesBack at last given all earlier h = h
 as_many_by Passes at last given all earlier h = h
+as_many_by Hears at last given all earlier h = h
 
 as_many : (past : List Event) → length (earlier_places past) ≡ length (earlier_moves past)
 as_many [] = refl

@@ -3,14 +3,14 @@ use Rattle.std.proofs.Common.{◌≡◌, ◌&&◌, ℕ, Bool, true, false, List,
 use Rattle.std.specs.Prelude.{if◌then◌else◌, is_some}
 use Rattle.game_over.specs.declared.happened.Event.{Event}
 use Rattle.game_over.specs.declared.happened.Happening.{Happening}
-use Rattle.game_over.specs.declared.happened.Happening.TheVariants.{Moves, Agrees, Differs, Shows, Ends, Declares, Reopens, Resumes, GoesBack, Passes}
+use Rattle.game_over.specs.declared.happened.Happening.TheVariants.{Moves, Agrees, Differs, Shows, Ends, Declares, Reopens, Resumes, GoesBack, Passes, Hears}
 use Rattle.game_over.specs.declared.happened.Move.{Move}
 use Rattle.game_over.specs.declared.result.Given.{Given}
 use Rattle.game_over.specs.declared.said.Why.{Why}
 use Rattle.game_over.specs.declared.said.Why.TheVariants.{Stood, SetUp, Unfinished}
 use Rattle.game_over.specs.Laws.{EndsOnce, EndsWithResult, NobodyReopens, NoneIsGiven, TakenBackEndsNothing, gives, takes_back}
 use Rattle.game_over.specs.Over.{ended_by, has_begun, has_result, is_over, over_by, reopens, starts_again, why_by, why_moves, why_over}
-use Rattle.game_over.specs.Result.{given_by, has_stood, last_given}
+use Rattle.game_over.specs.Result.{given_by, has_passed, has_stood, last_given}
 use Rattle.game_over.specs.Said.{IsSaidFor}
 use Rattle.game_over.specs.declared.said.Over.{Over}
 use Rattle.game_over.specs.declared.said.Said.TheVariants.{IsOver}
@@ -31,12 +31,13 @@ no_reopening (Moves move) at past h = refl
 no_reopening Agrees at past h = refl
 no_reopening Differs at past h = refl
 no_reopening (Shows shown) at past h = refl
-no_reopening (Ends outcome) at past h = refl
-no_reopening (Declares outcome) at past h = refl
+no_reopening (Ends outcome added) at past h = refl
+no_reopening (Declares outcome added) at past h = refl
 no_reopening Reopens at past h = absurd cc
 no_reopening Resumes at past h = refl
 no_reopening GoesBack at past h = refl
 no_reopening Passes at past h = refl
+no_reopening Hears at past h = refl
 
 over_now : (before why : Option Why) (r : Bool) → (is_some why ≡ true → r ≡ false) → is_some (if is_some before then None else why) ≡ true
     → is_some (over_by r before why) ≡ true
@@ -59,25 +60,27 @@ still_none (Moves move) at bytes before h none = refl
 still_none Agrees at bytes before h none = none
 still_none Differs at bytes before h none = none
 still_none (Shows shown) at bytes before h none = none
-still_none (Ends outcome) at bytes before h none = absurd (true≢false h)
-still_none (Declares outcome) at bytes before h none = absurd (true≢false h)
+still_none (Ends outcome added) at bytes before h none = absurd (true≢false h)
+still_none (Declares outcome added) at bytes before h none = absurd (true≢false h)
 still_none Reopens at bytes before h none = refl
 still_none Resumes at bytes None h none = refl
 still_none Resumes at bytes (Some one) h none = absurd cc
 still_none GoesBack at bytes before h none = none
 still_none Passes at bytes before h none = none
+still_none Hears at bytes before h none = none
 
 taken_back : (what : Happening) (at bytes : ℕ) (before : Option Given) → takes_back what ≡ true → given_by what at bytes before ≡ None
 taken_back (Moves move) at bytes before h = refl
 taken_back Agrees at bytes before h = absurd cc
 taken_back Differs at bytes before h = absurd cc
 taken_back (Shows shown) at bytes before h = absurd cc
-taken_back (Ends outcome) at bytes before h = absurd cc
-taken_back (Declares outcome) at bytes before h = absurd cc
+taken_back (Ends outcome added) at bytes before h = absurd cc
+taken_back (Declares outcome added) at bytes before h = absurd cc
 taken_back Reopens at bytes before h = refl
 taken_back Resumes at bytes before h = absurd cc
 taken_back GoesBack at bytes before h = absurd cc
 taken_back Passes at bytes before h = absurd cc
+taken_back Hears at bytes before h = absurd cc
 
 stays_none : (later base : List Event) → last_given base ≡ None → NoneIsGiven later → last_given (later ++ base) ≡ None
 stays_none [] base h none = h
@@ -101,6 +104,10 @@ stands_not : (now : ℕ) (given : Option Given) → given ≡ None → has_stood
 stands_not now None h = refl
 stands_not now (Some one) h = absurd cc
 
+passes_not : (now : ℕ) (given : Option Given) → given ≡ None → has_passed now given ≡ false
+passes_not now None h = refl
+passes_not now (Some one) h = absurd cc
+
 is_none : (given : Option Given) → given ≡ None → is_some given ≡ false
 is_none None h = refl
 is_none (Some one) h = absurd cc
@@ -111,12 +118,13 @@ no_result Agrees at past none = refl
 no_result Differs at past none = refl
 no_result (Shows shown) at past none =
     no_start (starts_again at shown past && has_begun past) (is_some (last_given past)) (is_none (last_given past) none)
-no_result (Ends outcome) at past none = refl
-no_result (Declares outcome) at past none = refl
+no_result (Ends outcome added) at past none = refl
+no_result (Declares outcome added) at past none = refl
 no_result Reopens at past none = refl
 no_result Resumes at past none = refl
 no_result GoesBack at past none = refl
-no_result Passes at past none = no_time (has_stood at (last_given past)) (stands_not at (last_given past) none)
+no_result Passes at past none = no_time (has_passed at (last_given past)) (passes_not at (last_given past) none)
+no_result Hears at past none = no_time (has_stood at (last_given past)) (stands_not at (last_given past) none)
 
 unless_over : (b : Bool) (why : Option Why) → has_result why ≡ false → has_result (if b then None else why) ≡ false
 unless_over true why h = refl

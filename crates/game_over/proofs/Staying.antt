@@ -6,7 +6,7 @@ use Rattle.square_runs.specs.Lasting.{carry}
 use Rattle.game_ends.specs.declared.made.Made.{Made}
 use Rattle.game_ends.specs.Ends.{home_stands, may_go, stood_for}
 use Rattle.game_over.specs.declared.happened.Happening.{Happening}
-use Rattle.game_over.specs.declared.happened.Happening.TheVariants.{Moves, Agrees, Differs, Shows, Ends, Declares, Reopens, Resumes, GoesBack, Passes}
+use Rattle.game_over.specs.declared.happened.Happening.TheVariants.{Moves, Agrees, Differs, Shows, Ends, Declares, Reopens, Resumes, GoesBack, Passes, Hears}
 use Rattle.game_over.specs.declared.happened.Move.{Move}
 use Rattle.game_over.specs.declared.moves.Last.{Last}
 use Rattle.game_over.specs.Laws.{changes}
@@ -119,12 +119,13 @@ step (Moves move) at bytes added n until before earlier late h = moved added n u
 step Agrees at bytes added n until before earlier late h = agreed added n until at before earlier h
 step Differs at bytes added n until before earlier late h = differed added n until at before earlier (late refl) h
 step (Shows shown) at bytes added n until before earlier late h = h
-step (Ends outcome) at bytes added n until before earlier late h = h
-step (Declares outcome) at bytes added n until before earlier late h = h
+step (Ends outcome by_hand) at bytes added n until before earlier late h = h
+step (Declares outcome by_hand) at bytes added n until before earlier late h = h
 step Reopens at bytes added n until before earlier late h = h
 step Resumes at bytes added n until before earlier late h = h
 step GoesBack at bytes added n until before earlier late h = h
 step Passes at bytes added n until before earlier late h = h
+step Hears at bytes added n until before earlier late h = h
 
 -- at the end: the move is among all, and may not go
 pub found : (added : Bool) (n until : ℕ) (before : Option Last) (earlier : List Made) → IsIn added n until before earlier

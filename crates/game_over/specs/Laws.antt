@@ -3,7 +3,7 @@ use Rattle.std.specs.Prelude.{◌≡◌, ◌+◌, ◌-◌, ◌≤◌, ◌⊎◌,
 use Rattle.game_ends.specs.Ends.{LosesTail, home_stands}
 use Rattle.game_over.specs.declared.happened.Event.{Event}
 use Rattle.game_over.specs.declared.happened.Happening.{Happening}
-use Rattle.game_over.specs.declared.happened.Happening.TheVariants.{Moves, Differs, Ends, Declares, Reopens}
+use Rattle.game_over.specs.declared.happened.Happening.TheVariants.{Moves, Differs, Ends, Declares, Passes, Reopens}
 use Rattle.game_over.specs.declared.happened.Move.{Move}
 use Rattle.game_over.specs.declared.moves.Place.{Place}
 use Rattle.game_over.specs.declared.result.Given.{Given}
@@ -40,6 +40,11 @@ abbrev pub StandsTenSeconds : Type 0
 StandsTenSeconds = (event : Event) (past : List Event) → ended_by event past ≡ Some Stood
     → (given : Given) × (last_given past ≡ Some given) × (given.at + ten_seconds ≤ event.at)
 
+-- What time alone ends, nobody saw standing: that is sure exactly if an arbiter gave the result.
+abbrev pub UnseenIsUnsure : Type 0
+UnseenIsUnsure = (over : Over) (given : Given) (event : Event) (past : List Event) → IsSaid (IsOver over) event past → event.what ≡ Passes
+    → last_given past ≡ Some given → over.is_sure ≡ given.is_added
+
 -- Once a time was told, up to it no time ends the game any more.
 abbrev pub PassesOnce : Type 0
 PassesOnce = (earlier now bytes later : ℕ) (past : List Event) → earlier ≤ now → ended_by (passes earlier bytes) (passes now later ∷ past) ≡ None
@@ -51,8 +56,8 @@ takes_back Reopens = true
 takes_back other = false
 
 abbrev pub gives : Happening → Bool
-gives (Ends outcome) = true
-gives (Declares outcome) = true
+gives (Ends outcome added) = true
+gives (Declares outcome added) = true
 gives other = false
 
 -- No result is given.

@@ -4,14 +4,14 @@ use Rattle.square_runs.specs.Lasting.{has_lasted}
 use Rattle.game_ends.specs.Again.{ends_by}
 use Rattle.game_over.specs.declared.happened.Event.{Event}
 use Rattle.game_over.specs.declared.happened.Happening.{Happening}
-use Rattle.game_over.specs.declared.happened.Happening.TheVariants.{Moves, Agrees, Shows, Reopens, Resumes, GoesBack, Passes}
+use Rattle.game_over.specs.declared.happened.Happening.TheVariants.{Moves, Agrees, Shows, Reopens, Resumes, GoesBack, Passes, Hears}
 use Rattle.game_over.specs.declared.happened.Move.{Move}
 use Rattle.game_over.specs.declared.happened.Shown.{Shown}
 use Rattle.game_over.specs.declared.result.Given.{Given}
 use Rattle.game_over.specs.declared.said.Why.{Why}
 use Rattle.game_over.specs.declared.said.Why.TheVariants.{Stood, PlaysOn, Corrected, SetUp, Unfinished}
 use Rattle.game_over.specs.Moves.{last_move}
-use Rattle.game_over.specs.Result.{has_stood, last_given}
+use Rattle.game_over.specs.Result.{has_passed, has_stood, last_given}
 
 -- the pictures of the board, each as the squares that are off the start
 abbrev pub pictures_by : Happening → List ℕ → List ℕ
@@ -71,7 +71,8 @@ why_moves move (Some given) =
 
 -- why a game ends that isn't over
 abbrev pub why_by : Happening → ℕ → List Event → Option Why
-why_by Passes now past = if has_stood now (last_given past) then Some Stood else None
+why_by Passes now past = if has_passed now (last_given past) then Some Stood else None
+why_by Hears now past = if has_stood now (last_given past) then Some Stood else None
 why_by (Moves move) now past = why_moves move (last_given past)
 why_by (Shows shown) now past =
     if starts_again now shown past && has_begun past then Some (if is_some (last_given past) then SetUp else Unfinished) else None
@@ -105,6 +106,10 @@ happens at bytes what = record { at = at; bytes = bytes; what = what }
 -- time passes
 abbrev pub passes : ℕ → ℕ → Event
 passes at bytes = record { at = at; bytes = bytes; what = Passes }
+
+-- the board is heard
+abbrev pub hears : ℕ → ℕ → Event
+hears at bytes = record { at = at; bytes = bytes; what = Hears }
 
 -- How many bytes were written when the game went back. It ends nowhere before them.
 abbrev pub front_by : Happening → ℕ → ℕ → ℕ

@@ -3,6 +3,8 @@ use Rattle.std.specs.Prelude.{◌≡◌, ◌-◌, ◌||◌, ℕ, max, nat_lt, Bo
 use Rattle.game_ends.specs.declared.made.Made.{Made}
 use Rattle.game_ends.specs.Ends.{IsEnd, LosesTail}
 use Rattle.game_over.specs.declared.happened.Event.{Event}
+use Rattle.game_over.specs.declared.happened.Happening.{Happening}
+use Rattle.game_over.specs.declared.happened.Happening.TheVariants.{Passes}
 use Rattle.game_over.specs.declared.moves.Place.{Place}
 use Rattle.game_over.specs.declared.result.Given.{Given}
 use Rattle.game_over.specs.declared.said.Over.{Over}
@@ -23,15 +25,30 @@ pub record IsFoundAt (kept : ℕ) (place : Option Place) (is_sure : Bool) (moves
 abbrev pub IsFound : Option Place → Bool → List Made → List Place → Type 0
 IsFound place is_sure moves places = (kept : ℕ) × IsFoundAt kept place is_sure moves places
 
--- Somebody must look at its last move, if that was corrected after the result.
-abbrev pub is_sure_by : Why → Bool
-is_sure_by Corrected = false
-is_sure_by other = true
+-- An arbiter gave the result.
+abbrev pub is_given : Option Given → Bool
+is_given None = false
+is_given (Some given) = given.is_added
+
+-- Nobody saw the result standing, since time alone ends the game: that is sure only if an arbiter gave it.
+abbrev pub is_seen : Happening → Option Given → Bool
+is_seen Passes given = is_given given
+is_seen other given = true
 
 -- A game that ends with a result. What was written when it went back is the game's.
-abbrev pub with_result : Why → Option Given → ℕ → Over
-with_result why None front = record { why = why; result = None; bytes = front; is_sure = is_sure_by why }
-with_result why (Some given) front = record { why = why; result = Some given.outcome; bytes = max front given.bytes; is_sure = is_sure_by why }
+abbrev pub with_result : Why → Bool → Option Given → ℕ → Over
+with_result why sure None front = record { why = why; result = None; bytes = front; is_sure = sure }
+with_result why sure (Some given) front = record { why = why; result = Some given.outcome; bytes = max front given.bytes; is_sure = sure }
+
+-- Somebody must look at its last move, if that was corrected after the result.
+abbrev pub is_sure_by : Why → Happening → Option Given → Bool
+is_sure_by Corrected what given = false
+is_sure_by Stood what given = is_seen what given
+is_sure_by other what given = true
+
+-- how a game ends with a result
+abbrev pub ended_with : Why → Happening → List Event → Over
+ended_with why what past = with_result why (is_sure_by why what (last_given past)) (last_given past) (front past)
 
 -- a game that ends without one
 abbrev pub unfinished : Option Place → Bool → ℕ → Over
@@ -50,10 +67,10 @@ said_else event past = if begins_now event past then BeginsNow else if goes_on e
 abbrev pub IsSaidFor : Option Why → Said → Event → List Event → Type 0
 IsSaidFor None said event past = said ≡ said_else event past
 IsSaidFor (Some Unfinished) said event past = IsUnfinished said past
-IsSaidFor (Some Stood) said event past = said ≡ IsOver (with_result Stood (last_given past) (front past))
-IsSaidFor (Some PlaysOn) said event past = said ≡ IsOver (with_result PlaysOn (last_given past) (front past))
-IsSaidFor (Some Corrected) said event past = said ≡ IsOver (with_result Corrected (last_given past) (front past))
-IsSaidFor (Some SetUp) said event past = said ≡ IsOver (with_result SetUp (last_given past) (front past))
+IsSaidFor (Some Stood) said event past = said ≡ IsOver (ended_with Stood event.what past)
+IsSaidFor (Some PlaysOn) said event past = said ≡ IsOver (ended_with PlaysOn event.what past)
+IsSaidFor (Some Corrected) said event past = said ≡ IsOver (ended_with Corrected event.what past)
+IsSaidFor (Some SetUp) said event past = said ≡ IsOver (ended_with SetUp event.what past)
 
 -- This is said to an event, by all that happened before it.
 abbrev pub IsSaid : Said → Event → List Event → Type 0

@@ -2,17 +2,17 @@
 ghost use Rattle.std.specs.Prelude.{◌≡◌, ◌∷◌, ◌<◌, ◌^◌, ◌||◌, [], ℕ, IfOk, IfSome, IsTrue, List, None, OnOk, Some, if◌then◌else◌, is_some};
 ghost use Rattle.game_ends.specs.Again.{StandsFor as AgainStandsFor};
 ghost use Rattle.game_over.specs.declared.happened.Event.{Event as EventOf};
-ghost use Rattle.game_over.specs.declared.happened.Happening.TheVariants.{Agrees, Differs, Shows};
+ghost use Rattle.game_over.specs.declared.happened.Happening.TheVariants.{Agrees, Differs, Hears, Shows};
 ghost use Rattle.game_over.specs.declared.said.Said.TheVariants.{IsOver, Nothing};
 ghost use Rattle.game_over.specs.declared.said.Why.{Why as WhyOf};
 ghost use Rattle.game_over.specs.Keeping.{StandsFor};
 ghost use Rattle.game_over.specs.Over.{begins_now, begun_by, ended_by, front_by, goes_on, happens, has_played, has_result as has_result_of, is_another, is_enough as is_enough_of, is_next as is_next_of, is_on_board as is_on_board_of, left_by, over_by, passes, pictures_at, pictures_by, played, played_by, reopens as reopens_of, shows_start as shows_start_of, starts_again as starts_again_of, stays_out as stays_out_of, was_left as was_left_of, why_by, why_moves as why_moves_of, why_over};
 ghost use Rattle.game_over.specs.Result.{has_come};
-ghost use Rattle.game_over.specs.Said.{IsSaid, is_sure_by, said_else, unfinished as unfinished_of, with_result as with_result_of};
+ghost use Rattle.game_over.specs.Said.{IsSaid, is_given as is_given_of, is_seen as is_seen_of, is_sure_by, said_else, unfinished as unfinished_of, with_result as with_result_of};
 
 use crate::happened::{Event, Happening, Move, Shown};
 use crate::moves::{Found, Moves};
-use crate::result::{Given, given_after, has_stood, stands_until};
+use crate::result::{Given, given_after, has_passed, has_stood, stands_until};
 use crate::said::{Over, Said, Why};
 use game_ends::StartAgain;
 use square_runs::lasted;
@@ -124,29 +124,53 @@ fn is_enough(count: u64, has_played: bool) -> bool
     (has_played && 2 <= count) || 3 <= count
 }
 
-/// Whether nobody need look at the last move.
-fn is_sure_by(why: Why) -> bool
-    ensures { result ≡ is_sure_by why }
+/// Whether an arbiter gave the result.
+fn is_given(given: Option<Given>) -> bool
+    ensures { result ≡ is_given_of given }
 {
-    !matches!(why, Why::Corrected)
+    match given {
+        None => false,
+        Some(given) => given.is_added,
+    }
+}
+
+/// Whether the result was seen standing, or needs nobody who sees it.
+fn is_seen(what: Happening, given: Option<Given>) -> bool
+    ensures { result ≡ is_seen_of what given }
+{
+    match what {
+        Happening::Passes => is_given(given),
+        _ => true,
+    }
+}
+
+/// Whether nobody need look at the end.
+fn is_sure_by(why: Why, what: Happening, given: Option<Given>) -> bool
+    ensures { result ≡ is_sure_by why what given }
+{
+    match why {
+        Why::Corrected => false,
+        Why::Stood => is_seen(what, given),
+        _ => true,
+    }
 }
 
 /// A game that ends with this result, and not before these bytes.
-fn with_result(why: Why, given: Option<Given>, front: u64) -> Over
-    ensures { result ≡ with_result_of why given front }
+fn with_result(why: Why, is_sure: bool, given: Option<Given>, front: u64) -> Over
+    ensures { result ≡ with_result_of why is_sure given front }
 {
     match given {
         None => Over {
             why,
             result: None,
             bytes: front,
-            is_sure: is_sure_by(why),
+            is_sure,
         },
         Some(given) => Over {
             why,
             result: Some(given.outcome),
             bytes: front.max(given.bytes),
-            is_sure: is_sure_by(why),
+            is_sure,
         },
     }
 }
@@ -331,10 +355,18 @@ impl Ending {
         ensures comes { (past : List EventOf) (bytes : ℕ) → StandsFor self.now past → is_some result ≡ is_some (ended_by (passes now bytes) past) }
         ensures said { (past : List EventOf) (bytes : ℕ) → StandsFor self.now past → IfSome result (λ over. IsSaid (IsOver over) (passes now bytes) past) }
     {
-        if self.over.is_some() || !has_stood(now, self.given) {
+        if self.over.is_some() || !has_passed(now, self.given) {
             return None;
         }
-        Some(with_result(Why::Stood, self.given, self.front))
+        let is_sure = is_sure_by(Why::Stood, Happening::Passes, self.given);
+        Some(with_result(Why::Stood, is_sure, self.given, self.front))
+    }
+
+    /// Whether the game ends if the board is heard now: `Hears` would say so, and says nothing else.
+    pub fn ends_heard(&self, now: u64) -> bool
+        ensures { (past : List EventOf) (bytes : ℕ) → StandsFor self.now past → result ≡ is_some (ended_by (happens now bytes Hears) past) }
+    {
+        self.over.is_none() && has_stood(now, self.given)
     }
 
     /// Whether nobody had listened for an hour.
@@ -385,7 +417,8 @@ impl Ending {
         ensures { (past : List EventOf) → StandsFor self.now past → result ≡ why_by event.what event.at past }
     {
         match event.what {
-            Happening::Passes => stood(has_stood(event.at, self.given)),
+            Happening::Passes => stood(has_passed(event.at, self.given)),
+            Happening::Hears => stood(has_stood(event.at, self.given)),
             Happening::Moves(played) => why_moves(played, self.given),
             Happening::Shows(shown) => self.why_shows(event.at, shown),
             _ => None,
@@ -486,7 +519,11 @@ impl Ending {
                 let found = self.moves.end(self.given)?;
                 Ok(Said::IsOver(unfinished(found, self.front)))
             }
-            _ => Ok(Said::IsOver(with_result(why, self.given, self.front))),
+            _ => {
+                let is_sure = is_sure_by(why, event.what, self.given);
+                let over = with_result(why, is_sure, self.given, self.front);
+                Ok(Said::IsOver(over))
+            }
         }
     }
 

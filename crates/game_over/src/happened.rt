@@ -40,10 +40,11 @@ pub enum Happening {
     Differs,
     /// The board's picture. It comes after what the picture says of the game: a move, or that the board agrees or differs.
     Shows(Shown),
-    /// The game's position is mate or stalemate, which is this result. After a correction that is told anew.
-    Ends(Outcome),
+    /// The game's position is mate or stalemate, which is this result. After a correction that is told anew. An arbiter may have added
+    /// the move.
+    Ends { outcome: Outcome, is_added: bool },
     /// The kings show this result, or an arbiter gives it.
-    Declares(Outcome),
+    Declares { outcome: Outcome, is_added: bool },
     /// An arbiter takes the result off, or says that the game isn't over.
     Reopens,
     /// The board is heard again after a time in which nobody listened, as when a recorder begins. What came before is told with its
@@ -53,6 +54,8 @@ pub enum Happening {
     GoesBack,
     /// Time passes. What came by then is told before.
     Passes,
+    /// The board is heard: what stands on it stands there now. If it shows anything else, that is told behind this.
+    Hears,
 }
 
 /// What happens at a time. Events come in order of time.

@@ -1,5 +1,5 @@
 //! What holds of each history. Each law is the contract of a function, which does nothing.
-ghost use Rattle.game_over.specs.Laws.{AddedEndsNothing, EndsBehindFront, EndsOnce, EndsWithResult, GoesOnAfterEnd, IsOverExactly, MovesStay, OnlySetUpGoes, PassesOnce, SaidInOneWay, StandsTenSeconds, TakenBackEndsNothing};
+ghost use Rattle.game_over.specs.Laws.{AddedEndsNothing, EndsBehindFront, EndsOnce, EndsWithResult, GoesOnAfterEnd, IsOverExactly, MovesStay, OnlySetUpGoes, PassesOnce, SaidInOneWay, StandsTenSeconds, TakenBackEndsNothing, UnseenIsUnsure};
 
 /// One thing is said to an event, by those before it.
 pub fn said_in_one_way()
@@ -19,6 +19,11 @@ pub fn ends_once()
 /// Where time ends a game, its result has stood for ten seconds.
 pub fn stands_ten_seconds()
     ensures { StandsTenSeconds }
+{}
+
+/// What time alone ends is sure exactly if an arbiter gave the result.
+pub fn unseen_is_unsure()
+    ensures { UnseenIsUnsure }
 {}
 
 /// Once a time was told, up to it no time ends the game any more.

@@ -1,12 +1,15 @@
 //! The result that stands.
 ghost use Rattle.std.specs.Prelude.{◌≡◌, ◌<◌, ◌^◌, ℕ};
-ghost use Rattle.game_over.specs.Result.{given_by, has_come, has_stood as has_stood_of, new_given, resumed as resumed_of};
+ghost use Rattle.game_over.specs.Result.{given_by, has_come, has_passed as has_passed_of, has_stood as has_stood_of, new_given, resumed as resumed_of, waits as waits_of};
 
 use crate::happened::{Event, Happening, Outcome};
 use square_runs::lasted;
 
 /// A result ends the game when it has stood for this, in milliseconds.
 const STANDS: u64 = 10_000;
+
+/// A result that the board has shown ends the game after this, if the board isn't heard.
+const UNHEARD: u64 = 17_000;
 
 /// A result that the game has.
 #[derive(Clone, Copy)]
@@ -18,16 +21,19 @@ pub struct Given {
     pub bytes: u64,
     /// The kings or an arbiter gave it; else it is mate or stalemate.
     pub is_declared: bool,
+    /// An arbiter gave it, or added the move with which it came.
+    pub is_added: bool,
 }
 
-fn give(outcome: Outcome, is_declared: bool, event: Event) -> Given
-    ensures { result ≡ new_given outcome is_declared event.at event.bytes }
+fn give(outcome: Outcome, is_declared: bool, is_added: bool, event: Event) -> Given
+    ensures { result ≡ new_given outcome is_declared is_added event.at event.bytes }
 {
     Given {
         outcome,
         at: event.at,
         bytes: event.bytes,
         is_declared,
+        is_added,
     }
 }
 
@@ -46,8 +52,8 @@ pub fn given_after(event: Event, before: Option<Given>) -> Option<Given>
     ensures { result ≡ given_by event.what event.at event.bytes before }
 {
     match event.what {
-        Happening::Ends(outcome) => Some(give(outcome, false, event)),
-        Happening::Declares(outcome) => Some(give(outcome, true, event)),
+        Happening::Ends { outcome, is_added } => Some(give(outcome, false, is_added, event)),
+        Happening::Declares { outcome, is_added } => Some(give(outcome, true, is_added, event)),
         Happening::Moves(_) | Happening::Reopens => None,
         Happening::Resumes => resumed(event.at, before),
         _ => before,
@@ -64,12 +70,29 @@ pub fn has_stood(now: u64, given: Option<Given>) -> bool
     }
 }
 
-/// When it will have.
+/// How long a result must stand that nobody sees standing.
+fn waits(given: Given) -> u64
+    ensures { result ≡ waits_of given }
+{
+    if given.is_added { STANDS } else { UNHEARD }
+}
+
+/// Whether it ends the game by time alone.
+pub fn has_passed(now: u64, given: Option<Given>) -> bool
+    ensures { result ≡ has_passed_of now given }
+{
+    match given {
+        None => false,
+        Some(given) => lasted(waits(given), now, Some(given.at)),
+    }
+}
+
+/// When it will.
 pub fn stands_until(given: Option<Given>) -> Option<u64>
-    ensures { (time : ℕ) → time < 2 ^ 64 → has_come time result ≡ has_stood_of time given }
+    ensures { (time : ℕ) → time < 2 ^ 64 → has_come time result ≡ has_passed_of time given }
 {
     match given {
         None => None,
-        Some(given) => given.at.checked_add(STANDS),
+        Some(given) => given.at.checked_add(waits(given)),
     }
 }

@@ -20,7 +20,7 @@ use Rattle.game_over.specs.declared.said.Over.{Over}
 use Rattle.answer_lines.specs.Looks.{LooksFit, look_words, looks_text}
 use Rattle.answer_lines.proofs.LookLemmas.{looks_and_said_once}
 use Rattle.board_looks.specs.declared.look.Look.{Look}
-use Rattle.board_looks.specs.declared.look.Look.TheVariants.{Doubtful, Stopped, Suspected}
+use Rattle.board_looks.specs.declared.look.Look.TheVariants.{Doubtful, Stopped, Unplayed, Suspected}
 use Rattle.answer_lines.proofs.AnswerLemmas.{from_done, from_number, from_request, from_room, from_state, in_parts}
 use Rattle.answer_lines.proofs.CutLemmas.{cut_once, decimal_lacks_feed, lacks_append}
 use Rattle.answer_lines.proofs.WordLemmas.{behind, first_of}
@@ -197,11 +197,13 @@ says said more =
 opens_line : (look : Look) (text : List ℕ) → Opens (look_words look ++ text)
 opens_line (Doubtful plies doubt) text = (omega arith, omega arith)
 opens_line (Stopped plies moves) text = (omega arith, omega arith)
+opens_line (Unplayed plies moves) text = (omega arith, omega arith)
 opens_line (Suspected n) text = (omega arith, omega arith)
 
 says_line : (look : Look) (text : List ℕ) → Says (look_words look ++ text)
 says_line (Doubtful plies doubt) text = inr (omega arith)
 says_line (Stopped plies moves) text = inr (omega arith)
+says_line (Unplayed plies moves) text = inr (omega arith)
 says_line (Suspected n) text = inr (omega arith)
 
 look_first : (look : Look) (looks : List Look) (text : List ℕ)
@@ -260,6 +262,7 @@ says_end end text h = subst Says_of (sym (end_parts end text)) (says_over end.ov
 line_rank : (look : Look) (text : List ℕ) → 4 ≤ rank (look_words look ++ text)
 line_rank (Doubtful plies doubt) text = omega arith
 line_rank (Stopped plies moves) text = omega arith
+line_rank (Unplayed plies moves) text = omega arith
 line_rank (Suspected n) text = omega arith
 
 looks_rank : (looks : List Look) (text : List ℕ) → 4 ≤ rank text → 4 ≤ rank (looks_text looks ++ text)

@@ -100,8 +100,8 @@ const MATE: &str = "rnb1kbnr/pppp1ppp/8/4p3/6Pq/5P2/PPPPP2P/RNBQKBNR";
 /// The queen stands one square before that.
 const NO_MATE: &str = "rnb1kbnr/pppp1ppp/8/4p1q1/6P1/5P2/PPPPP2P/RNBQKBNR";
 
-static CASES: [Case<'static>; 26] = [
-    // Mate has stood for ten seconds. And for less.
+static CASES: [Case<'static>; 30] = [
+    // Mate has stood for ten seconds when the board is heard. And for less.
     Case {
         steps: &[
             (0, Sends(START)),
@@ -109,6 +109,7 @@ static CASES: [Case<'static>; 26] = [
             (2_000, Sends(F3_E5)),
             (3_000, Sends(G4)),
             (4_000, Sends(MATE)),
+            (14_000, Sends(MATE)),
         ],
         now: 14_000,
         over: Some((Stood, Some(BlackWins), 335, true)),
@@ -122,8 +123,66 @@ static CASES: [Case<'static>; 26] = [
             (2_000, Sends(F3_E5)),
             (3_000, Sends(G4)),
             (4_000, Sends(MATE)),
+            (13_999, Sends(MATE)),
         ],
         now: 13_999,
+        over: None,
+        goes_on: None,
+        begins: None,
+    },
+    // The board isn't heard: seven seconds later it ends all the same, and somebody must look. And not before.
+    Case {
+        steps: &[
+            (0, Sends(START)),
+            (1_000, Sends(F3)),
+            (2_000, Sends(F3_E5)),
+            (3_000, Sends(G4)),
+            (4_000, Sends(MATE)),
+        ],
+        now: 21_000,
+        over: Some((Stood, Some(BlackWins), 335, false)),
+        goes_on: None,
+        begins: None,
+    },
+    Case {
+        steps: &[
+            (0, Sends(START)),
+            (1_000, Sends(F3)),
+            (2_000, Sends(F3_E5)),
+            (3_000, Sends(G4)),
+            (4_000, Sends(MATE)),
+        ],
+        now: 20_999,
+        over: None,
+        goes_on: None,
+        begins: None,
+    },
+    // It is heard only then.
+    Case {
+        steps: &[
+            (0, Sends(START)),
+            (1_000, Sends(F3)),
+            (2_000, Sends(F3_E5)),
+            (3_000, Sends(G4)),
+            (4_000, Sends(MATE)),
+            (21_000, Sends(MATE)),
+        ],
+        now: 21_000,
+        over: Some((Stood, Some(BlackWins), 335, false)),
+        goes_on: None,
+        begins: None,
+    },
+    // What is added isn't heard.
+    Case {
+        steps: &[
+            (0, Sends(START)),
+            (1_000, Sends(F3)),
+            (2_000, Sends(F3_E5)),
+            (3_000, Sends(G4)),
+            (4_000, Sends(MATE)),
+            (14_000, Adds(MATE)),
+        ],
+        now: 14_000,
         over: None,
         goes_on: None,
         begins: None,
@@ -181,6 +240,7 @@ static CASES: [Case<'static>; 26] = [
             (3_000, Sends(G4)),
             (4_000, Sends(MATE)),
             (60_000, Notes(News::Begins)),
+            (70_000, Sends(MATE)),
         ],
         now: 70_000,
         over: Some((Stood, Some(BlackWins), 335, true)),
@@ -195,11 +255,11 @@ static CASES: [Case<'static>; 26] = [
             (2_000, Sends(F3_E5)),
             (3_000, Sends(G4)),
             (4_000, Sends(MATE)),
-            (14_000, Notes(News::Passes)),
+            (21_000, Notes(News::Passes)),
             (60_000, Notes(News::Begins)),
         ],
         now: 60_000,
-        over: Some((Stood, Some(BlackWins), 335, true)),
+        over: Some((Stood, Some(BlackWins), 335, false)),
         goes_on: None,
         begins: None,
     },
@@ -211,7 +271,7 @@ static CASES: [Case<'static>; 26] = [
             (2_000, Sends(F3_E5)),
             (3_000, Sends(G4)),
             (4_000, Sends(MATE)),
-            (13_999, Notes(News::Passes)),
+            (20_999, Notes(News::Passes)),
             (60_000, Notes(News::Begins)),
         ],
         now: 69_999,
@@ -227,7 +287,7 @@ static CASES: [Case<'static>; 26] = [
             (2_000, Sends(F3_E5)),
             (3_000, Sends(G4)),
             (4_000, Sends(MATE)),
-            (14_000, Notes(News::Passes)),
+            (14_000, Sends(MATE)),
             (20_000, Notes(News::Reopens)),
             (60_000, Notes(News::Begins)),
         ],
@@ -238,7 +298,12 @@ static CASES: [Case<'static>; 26] = [
     },
     // The kings show the result.
     Case {
-        steps: &[(0, Sends(START)), (1_000, Sends(OUT)), (2_000, Sends(SIGN))],
+        steps: &[
+            (0, Sends(START)),
+            (1_000, Sends(OUT)),
+            (2_000, Sends(SIGN)),
+            (12_000, Sends(SIGN)),
+        ],
         now: 12_000,
         over: Some((Stood, Some(WhiteWins), 201, true)),
         goes_on: None,
@@ -252,6 +317,7 @@ static CASES: [Case<'static>; 26] = [
             (2_000, Sends(SIGN)),
             (3_000, Sends(OUT)),
             (9_000, Sends(SIGN)),
+            (12_000, Sends(SIGN)),
         ],
         now: 12_000,
         over: Some((Stood, Some(WhiteWins), 201, true)),
@@ -316,6 +382,7 @@ static CASES: [Case<'static>; 26] = [
             (0, Sends(START)),
             (1_000, Sends(OUT)),
             (2_000, Sends(SIGN)),
+            (13_000, Sends(SIGN)),
             (20_000, Sends(OUT_E5)),
         ],
         now: 20_000,
@@ -328,6 +395,7 @@ static CASES: [Case<'static>; 26] = [
             (0, Sends(START)),
             (1_000, Sends(OUT)),
             (2_000, Sends(SIGN)),
+            (13_000, Sends(SIGN)),
             (20_000, Sends(OUT_E5)),
             (25_000, Sends(NF3)),
         ],
@@ -342,6 +410,7 @@ static CASES: [Case<'static>; 26] = [
             (0, Sends(START)),
             (1_000, Sends(OUT)),
             (2_000, Sends(SIGN)),
+            (13_000, Sends(SIGN)),
             (20_000, Sends(OUT_E5)),
             (25_000, Sends(NF3)),
             (30_000, Notes(News::Reopens)),

@@ -43,13 +43,35 @@ const AGREES: Happening = Happening::Agrees;
 
 const DIFFERS: Happening = Happening::Differs;
 /// Mate or stalemate.
-const MATES: Happening = Happening::Ends(Outcome::WhiteWins);
+const MATES: Happening = Happening::Ends {
+    outcome: Outcome::WhiteWins,
+    is_added: false,
+};
 
-const STALEMATES: Happening = Happening::Ends(Outcome::Draw);
-/// The kings, or an arbiter.
-const ONE_NIL: Happening = Happening::Declares(Outcome::WhiteWins);
+const STALEMATES: Happening = Happening::Ends {
+    outcome: Outcome::Draw,
+    is_added: false,
+};
+/// A mate that is typed.
+const TYPES_MATE: Happening = Happening::Ends {
+    outcome: Outcome::WhiteWins,
+    is_added: true,
+};
+/// The kings.
+const ONE_NIL: Happening = Happening::Declares {
+    outcome: Outcome::WhiteWins,
+    is_added: false,
+};
 
-const NIL_ONE: Happening = Happening::Declares(Outcome::BlackWins);
+const NIL_ONE: Happening = Happening::Declares {
+    outcome: Outcome::BlackWins,
+    is_added: false,
+};
+/// An arbiter.
+const TYPES_ONE_NIL: Happening = Happening::Declares {
+    outcome: Outcome::WhiteWins,
+    is_added: true,
+};
 
 const REOPENS: Happening = Happening::Reopens;
 
@@ -58,6 +80,8 @@ const RESUMES: Happening = Happening::Resumes;
 const GOES_BACK: Happening = Happening::GoesBack;
 
 const PASSES: Happening = Happening::Passes;
+
+const HEARS: Happening = Happening::Hears;
 /// Five squares are off the start.
 const FAR: Happening = Happening::Shows(Shown {
     off: 0x1F << 56,
@@ -397,16 +421,16 @@ use Expected::{Begins, Ends, GoesOn};
 /// What happens; to which of it something is said, and what; when the game then ends by time alone.
 type Course<'a> = (&'a [Row], &'a [(usize, Expected)], Option<u64>);
 
-static COURSES: [Course<'static>; 32] = [
+static COURSES: [Course<'static>; 35] = [
     // the kings show a result
     (
         &[
             (9_000, 82, PLAYS),
             (20_000, 90, DIFFERS),
             (20_000, 90, ONE_NIL),
-            (29_999, 90, PASSES),
-            (30_000, 90, PASSES),
-            (40_000, 90, PASSES),
+            (29_999, 90, HEARS),
+            (30_000, 90, HEARS),
+            (40_000, 90, HEARS),
         ],
         &[(4, Ends(Why::Stood, Some(Outcome::WhiteWins), 90, true))],
         None,
@@ -416,10 +440,42 @@ static COURSES: [Course<'static>; 32] = [
         &[
             (9_000, 82, PLAYS),
             (20_000, 90, ONE_NIL),
-            (25_000, 90, PASSES),
+            (25_000, 90, HEARS),
         ],
         &[],
-        Some(30_000),
+        Some(37_000),
+    ),
+    // the board isn't heard: time alone ends the game seven seconds later, and somebody must look
+    (
+        &[
+            (9_000, 82, PLAYS),
+            (20_000, 90, ONE_NIL),
+            (36_999, 90, PASSES),
+            (37_000, 90, PASSES),
+        ],
+        &[(3, Ends(Why::Stood, Some(Outcome::WhiteWins), 90, false))],
+        None,
+    ),
+    // an arbiter gives the result: no board is needed
+    (
+        &[
+            (9_000, 82, PLAYS),
+            (20_000, 90, TYPES_ONE_NIL),
+            (29_999, 90, PASSES),
+            (30_000, 90, PASSES),
+        ],
+        &[(3, Ends(Why::Stood, Some(Outcome::WhiteWins), 90, true))],
+        None,
+    ),
+    // he adds the move that mates
+    (
+        &[
+            (9_000, 82, ADDS),
+            (9_000, 82, TYPES_MATE),
+            (19_000, 82, PASSES),
+        ],
+        &[(2, Ends(Why::Stood, Some(Outcome::WhiteWins), 82, true))],
+        None,
     ),
     // it is taken off
     (
@@ -427,8 +483,8 @@ static COURSES: [Course<'static>; 32] = [
             (9_000, 82, PLAYS),
             (20_000, 90, ONE_NIL),
             (29_999, 95, REOPENS),
-            (30_000, 95, PASSES),
-            (90_000, 95, PASSES),
+            (30_000, 95, HEARS),
+            (90_000, 95, HEARS),
         ],
         &[],
         None,
@@ -439,7 +495,7 @@ static COURSES: [Course<'static>; 32] = [
             (9_000, 82, PLAYS),
             (20_000, 90, ONE_NIL),
             (33_000, 95, REOPENS),
-            (33_000, 95, PASSES),
+            (33_000, 95, HEARS),
         ],
         &[],
         None,
@@ -450,8 +506,8 @@ static COURSES: [Course<'static>; 32] = [
             (9_000, 82, PLAYS),
             (20_000, 90, ONE_NIL),
             (25_000, 97, NIL_ONE),
-            (30_000, 97, PASSES),
-            (35_000, 97, PASSES),
+            (30_000, 97, HEARS),
+            (35_000, 97, HEARS),
         ],
         &[(4, Ends(Why::Stood, Some(Outcome::BlackWins), 97, true))],
         None,
@@ -462,7 +518,7 @@ static COURSES: [Course<'static>; 32] = [
             (9_000, 82, PLAYS),
             (20_000, 90, PLAYS),
             (20_000, 90, STALEMATES),
-            (30_000, 90, PASSES),
+            (30_000, 90, HEARS),
         ],
         &[(3, Ends(Why::Stood, Some(Outcome::Draw), 90, true))],
         None,
@@ -474,8 +530,8 @@ static COURSES: [Course<'static>; 32] = [
             (20_000, 90, PLAYS),
             (20_000, 90, MATES),
             (21_000, 95, CORRECTS),
-            (30_000, 95, PASSES),
-            (60_000, 95, PASSES),
+            (30_000, 95, HEARS),
+            (60_000, 95, HEARS),
         ],
         &[],
         None,
@@ -488,8 +544,8 @@ static COURSES: [Course<'static>; 32] = [
             (20_000, 90, MATES),
             (21_000, 95, CORRECTS),
             (21_000, 95, MATES),
-            (30_000, 95, PASSES),
-            (31_000, 95, PASSES),
+            (30_000, 95, HEARS),
+            (31_000, 95, HEARS),
         ],
         &[(6, Ends(Why::Stood, Some(Outcome::WhiteWins), 95, true))],
         None,
@@ -517,7 +573,7 @@ static COURSES: [Course<'static>; 32] = [
         &[
             (9_000, 82, PLAYS),
             (20_000, 90, ONE_NIL),
-            (30_000, 90, PASSES),
+            (30_000, 90, HEARS),
             (31_000, 95, HOME),
             (32_000, 99, HOME),
             (33_000, 103, HOME),
@@ -533,7 +589,7 @@ static COURSES: [Course<'static>; 32] = [
         &[
             (9_000, 82, PLAYS),
             (20_000, 90, ONE_NIL),
-            (30_000, 90, PASSES),
+            (30_000, 90, HEARS),
             (31_000, 95, HOME),
             (32_000, 99, PLAYS),
         ],
@@ -548,7 +604,7 @@ static COURSES: [Course<'static>; 32] = [
         &[
             (9_000, 82, PLAYS),
             (20_000, 90, ONE_NIL),
-            (30_000, 90, PASSES),
+            (30_000, 90, HEARS),
             (31_000, 95, ADDS),
             (32_000, 99, ADDS),
             (33_000, 103, ADDS),
@@ -561,7 +617,7 @@ static COURSES: [Course<'static>; 32] = [
         &[
             (9_000, 82, PLAYS),
             (20_000, 90, ONE_NIL),
-            (30_000, 90, PASSES),
+            (30_000, 90, HEARS),
             (60_000, 150, FAR),
             (61_000, 170, START),
             (70_000, 180, PLAYS),
@@ -576,8 +632,8 @@ static COURSES: [Course<'static>; 32] = [
             (9_000, 82, PLAYS),
             (20_000, 90, ONE_NIL),
             (25_000, 120, ADDS),
-            (30_000, 120, PASSES),
-            (60_000, 120, PASSES),
+            (30_000, 120, HEARS),
+            (60_000, 120, HEARS),
         ],
         &[],
         None,
@@ -588,7 +644,7 @@ static COURSES: [Course<'static>; 32] = [
             (9_000, 82, PLAYS),
             (20_000, 90, ONE_NIL),
             (22_000, 95, CORRECTS),
-            (40_000, 95, PASSES),
+            (40_000, 95, HEARS),
         ],
         &[(2, Ends(Why::Corrected, Some(Outcome::WhiteWins), 90, false))],
         None,
@@ -658,13 +714,13 @@ static COURSES: [Course<'static>; 32] = [
         &[
             (9_000, 82, PLAYS),
             (20_000, 90, ONE_NIL),
-            (30_000, 90, PASSES),
+            (30_000, 90, HEARS),
             (31_000, 90, NIL_ONE),
-            (41_000, 90, PASSES),
+            (41_000, 90, HEARS),
             (50_000, 95, REOPENS),
             (60_000, 99, PLAYS),
             (70_000, 110, NIL_ONE),
-            (80_000, 110, PASSES),
+            (80_000, 110, HEARS),
         ],
         &[
             (2, Ends(Why::Stood, Some(Outcome::WhiteWins), 90, true)),
@@ -691,7 +747,7 @@ static COURSES: [Course<'static>; 32] = [
             (1_000, 150, ADDS),
             (1_000, 160, ONE_NIL),
             (1_000, 200, GOES_BACK),
-            (11_000, 200, PASSES),
+            (11_000, 200, HEARS),
         ],
         &[(3, Ends(Why::Stood, Some(Outcome::WhiteWins), 200, true))],
         None,
@@ -769,10 +825,10 @@ static COURSES: [Course<'static>; 32] = [
             (9_000, 82, PLAYS),
             (20_000, 90, ONE_NIL),
             (25_000, 90, RESUMES),
-            (34_000, 90, PASSES),
+            (34_000, 90, HEARS),
         ],
         &[],
-        Some(35_000),
+        Some(42_000),
     ),
     // and then it stands
     (
@@ -780,7 +836,7 @@ static COURSES: [Course<'static>; 32] = [
             (9_000, 82, PLAYS),
             (20_000, 90, ONE_NIL),
             (25_000, 90, RESUMES),
-            (35_000, 90, PASSES),
+            (35_000, 90, HEARS),
         ],
         &[(3, Ends(Why::Stood, Some(Outcome::WhiteWins), 90, true))],
         None,

@@ -10,7 +10,7 @@ use Rattle.board_alarms.specs.Hearing.{AreMoved, is_another}
 use Rattle.board_endings.specs.Items.{events_of}
 use Rattle.board_endings.specs.Keeping.{KeepsCourse}
 use Rattle.board_endings.specs.Moves.{TellsMove}
-use Rattle.board_endings.specs.Telling.{TellsEvent, TellsPicture, with_picture}
+use Rattle.board_endings.specs.Telling.{TellsEvent, TellsPicture, listened, with_picture}
 use Rattle.board_endings.proofs.CourseLemmas.{last_is_new}
 use Rattle.board_endings.proofs.endings.Endings.take.Goals as goal
 
@@ -38,8 +38,9 @@ returns c = λ setting items event h shown becomes taken outcome.
     let here = ap (λ (p : Parts). picture (reached p (moves_of score.plies))) settled.start_is ∙ sym course.here_is in
     let H : List ℕ → Type 0 = λ board. IsDiff mask board c.args.picture.now in
     let P : List ℕ → Type 0 = λ seen. TellsPicture start added old score.plies c.args.self.now.result c.args.outcome seen told in
-    let tells = subst P (shown.seen_is another) (c.told_of-told.ensures start added old score.plies course moved (subst H here differs)) in
-    let now = with_picture c.args.when.at c.args.bytes told h.told in
+    let tells = subst P (shown.seen_is another) (c.told_of-told.ensures start old score.plies course moved (subst H here differs)) in
+    let heard = listened added c.args.when.at c.args.bytes h.told in
+    let now = with_picture c.args.when.at c.args.bytes told heard in
     let T : Bool → Type 0 = λ given. TellsEvent given setting past c.args.when.at added c.args.bytes event h.told now in
     on_ok_weaker c.take_picture.result (λ judged. record {
       valid = h.valid;
@@ -69,4 +70,4 @@ returns c = λ setting items event h shown becomes taken outcome.
       course = course;
       result_is = outcome;
       counted = refl;
-    }) (c.take_picture.ensures h.told h.judged)
+    }) (c.take_picture.ensures heard (c.in_ok-listen.ensures h.told h.judged))

@@ -1,4 +1,4 @@
-use Rattle.std.proofs.Common.{◌≡◌, ◌∙◌, Option, Some, List, ℕ, refl, sym, ap, subst}
+use Rattle.std.proofs.Common.{◌≡◌, ◌∙◌, Bool, Option, Some, List, ℕ, refl, sym, ap, subst}
 use Rattle.game_over.specs.declared.happened.Event.{Event}
 use Rattle.game_over.specs.declared.result.Given.{Given}
 use Rattle.game_over.specs.declared.said.Over.{Over}
@@ -8,11 +8,11 @@ use Rattle.game_over.specs.declared.said.Why.{Why}
 use Rattle.game_over.specs.declared.said.Why.TheVariants.{Stood, PlaysOn, Corrected, SetUp, Unfinished}
 use Rattle.game_over.specs.Over.{front}
 use Rattle.game_over.specs.Result.{last_given}
-use Rattle.game_over.specs.Said.{IsSaidFor, with_result}
+use Rattle.game_over.specs.Said.{IsSaidFor, ended_with, is_sure_by, with_result}
 use Rattle.game_over.proofs.ending.Ending.say.Goals as goal
 
 said_for : (why : Why) (said : Said) (event : Event) (past : List Event) → (why ≡ Unfinished → ⊥)
-    → said ≡ IsOver (with_result why (last_given past) (front past)) → IsSaidFor (Some why) said event past
+    → said ≡ IsOver (ended_with why event.what past) → IsSaidFor (Some why) said event past
 said_for Stood said event past other is = is
 said_for PlaysOn said event past other is = is
 said_for Corrected said event past other is = is
@@ -22,8 +22,10 @@ said_for Unfinished said event past other is = absurd (other refl)
 pub returns-in_default-why-clause-said : goal.returns-in_default-why-clause-said
 returns-in_default-why-clause-said c = λ past h.
     let why : Why = c.in-Some.why in
-    let P : Option Why → Type 0 = λ w. IsSaidFor w (IsOver c.with_result.result) c.args.event past in
-    let over : c.with_result.result ≡ with_result why (last_given past) (front past) = c.with_result.ensures
-    ∙ ap (λ (g : Option Given). with_result why g c.args.self.now.front) h.given_is ∙ ap (λ (f : ℕ). with_result why (last_given past) f) h.front_is in
+    let P : Option Why → Type 0 = λ w. IsSaidFor w (IsOver c.with_result-over.result) c.args.event past in
+    let over : c.with_result-over.result ≡ ended_with why c.args.event.what past = c.with_result-over.ensures
+    ∙ ap (λ (sure : Bool). with_result why sure c.args.self.now.given c.args.self.now.front) c.is_sure_by-is_sure.ensures
+    ∙ ap (λ (g : Option Given). with_result why (is_sure_by why c.args.event.what g) g c.args.self.now.front) h.given_is
+    ∙ ap (λ (f : ℕ). with_result why (is_sure_by why c.args.event.what (last_given past)) (last_given past) f) h.front_is in
     subst P (sym c.in-Some.is ∙ c.ended.ensures past h)
-    (said_for why (IsOver c.with_result.result) c.args.event past c.in_default-why.not-Unfinished (ap (λ (o : Over). IsOver o) over))
+    (said_for why (IsOver c.with_result-over.result) c.args.event past c.in_default-why.not-Unfinished (ap (λ (o : Over). IsOver o) over))
