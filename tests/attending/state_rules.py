@@ -69,6 +69,8 @@ class BoardState:
     _picture: Optional[Picture] = None
     _replugged: bool = False
     _hint: str = ""
+    _is_other: bool = False
+    _lies_turned: bool = False
     _goes_on: bool = False  # the game goes on, and the board has shown nothing since this call began
     _agreement: Agreement = field(default_factory=Agreement)
 
@@ -99,6 +101,7 @@ class BoardState:
         else:
             self._agreement.agrees()
             self._setting_up, self._hint = False, ""
+            self._is_other = self._lies_turned = False
         if count > MOST_IN_HAND:
             self._setting_up = True
         if not self._result and not (self._seen and before and self._squares):
@@ -109,10 +112,11 @@ class BoardState:
         """A dump has shown this picture. Returns whether the hint has changed."""
         before = self._hint
         if self._replugged and self._picture and len(differing(self._picture, picture)) > ONE_MOVE:
-            self._hint = OTHER_BOARD
-        elif self._hint != OTHER_BOARD:
-            turned = self.start and not self._played and turned_round(picture, self.start)
-            self._hint = self.turned_hint if turned else ""
+            self._is_other = True
+        if self.start:
+            self._lies_turned = turned_round(picture, self.start) or (self._lies_turned and more_if_turned(picture, self.start))
+        turned = self.turned_hint if self._lies_turned and not self._played else ""
+        self._hint = turned or (OTHER_BOARD if self._is_other else "")
         self._picture, self._replugged = picture, False
         return self._hint != before
 
@@ -190,3 +194,8 @@ def turned_round(picture: Picture, start: Picture) -> bool:
     """Whether this is the start on a board that is turned round, except for a piece or two that are still missing."""
     turned = len(differing(picture[::-1], start))
     return turned <= ONE_MOVE < 16 <= len(differing(picture, start))
+
+
+def more_if_turned(picture: Picture, start: Picture) -> bool:
+    """Whether more squares are as at the start if the board is turned round."""
+    return len(differing(picture[::-1], start)) < len(differing(picture, start))

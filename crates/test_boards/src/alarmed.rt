@@ -44,10 +44,12 @@ enum Alarm {
     After(u64, Why),
     /// Since this ply so many moves were made while the clock was stopped.
     Since(u64, u64),
+    /// So many moves after this ply nobody may have played.
+    NotPlayed(u64, u64),
     Suspect(u64),
 }
 
-use Alarm::{After, At, Since, Suspect};
+use Alarm::{After, At, NotPlayed, Since, Suspect};
 
 struct Case<'a> {
     steps: &'a [(u64, Step<'a>)],
@@ -68,6 +70,11 @@ const E5: &str = "rnbqkbnr/pppp1ppp/8/4p3/4P3/8/PPPP1PPP/RNBQKBNR";
 const NF3: &str = "rnbqkbnr/pppp1ppp/8/4p3/4P3/5N2/PPPP1PPP/RNBQKB1R";
 
 const NC6: &str = "r1bqkbnr/pppp1ppp/2n5/4p3/4P3/5N2/PPPP1PPP/RNBQKB1R";
+
+/// After 1. e4 e5 the kings show that Black wins, and after 2. Nf3.
+const WON: &str = "rnbq1bnr/pppp1ppp/8/4k3/3KP3/8/PPPP1PPP/RNBQ1BNR";
+
+const WON_LATER: &str = "rnbq1bnr/pppp1ppp/8/4k3/3KP3/5N2/PPPP1PPP/RNBQ1B1R";
 
 const BB5: &str = "r1bqkbnr/pppp1ppp/2n5/1B2p3/4P3/5N2/PPPP1PPP/RNBQK2R";
 
@@ -100,7 +107,7 @@ const STANDS: u8 = 0x00;
 /// A dump has so many bytes.
 const DUMP: u64 = 67;
 
-static CASES: [Case<'static>; 25] = [
+static CASES: [Case<'static>; 32] = [
     // A correction is late after more than 10 s.
     Case {
         steps: &[
@@ -339,6 +346,94 @@ static CASES: [Case<'static>; 25] = [
             (5_000, Time(59, 59, STANDS)),
             (6_000, Sends(NF3)),
             (6_500, Notes(News::Looked)),
+        ],
+        open: &[],
+    },
+    // The clock is stopped, and a piece is pushed; then the result is typed. And shown by the kings.
+    Case {
+        steps: &[
+            (0, Sends(START)),
+            (100, Time(59, 59, RUNS)),
+            (1_000, Sends(E4)),
+            (2_000, Sends(E5)),
+            (3_000, Time(59, 59, STANDS)),
+            (4_000, Sends(NF3)),
+            (9_000, Adds(WON_LATER)),
+        ],
+        open: &[NotPlayed(2, 1)],
+    },
+    Case {
+        steps: &[
+            (0, Sends(START)),
+            (100, Time(59, 59, RUNS)),
+            (1_000, Sends(E4)),
+            (2_000, Sends(E5)),
+            (3_000, Time(59, 59, STANDS)),
+            (4_000, Sends(NF3)),
+            (5_500, Sends(WON_LATER)),
+        ],
+        open: &[NotPlayed(2, 1)],
+    },
+    // Nothing is pushed.
+    Case {
+        steps: &[
+            (0, Sends(START)),
+            (100, Time(59, 59, RUNS)),
+            (1_000, Sends(E4)),
+            (2_000, Sends(E5)),
+            (3_000, Time(59, 59, STANDS)),
+            (5_500, Adds(WON)),
+        ],
+        open: &[],
+    },
+    // Nobody presses for the last three plies. The first of them may be the game's last. And for the last one alone.
+    Case {
+        steps: &[
+            (0, Sends(START)),
+            (100, Time(59, 59, RUNS)),
+            (200, Time(59, 59, RUNS_UP)),
+            (1_000, Sends(E4)),
+            (2_500, Sends(E5)),
+            (4_000, Sends(NF3)),
+            (9_000, Adds(WON_LATER)),
+        ],
+        open: &[NotPlayed(1, 2)],
+    },
+    Case {
+        steps: &[
+            (0, Sends(START)),
+            (100, Time(59, 59, RUNS)),
+            (200, Time(59, 59, RUNS_UP)),
+            (1_000, Sends(E4)),
+            (2_500, Sends(E5)),
+            (3_300, Time(59, 59, RUNS)),
+            (4_000, Sends(NF3)),
+            (9_000, Adds(WON_LATER)),
+        ],
+        open: &[],
+    },
+    // The board is WRONG, and then a move is made. And for less than ten seconds.
+    Case {
+        steps: &[
+            (0, Sends(START)),
+            (1_000, Sends(E4)),
+            (2_000, Sends(LIFTED)),
+            (5_000, Sends(LIFTED)),
+            (9_000, Sends(LIFTED)),
+            (12_000, Sends(E5)),
+            (13_000, Adds(WON)),
+        ],
+        open: &[NotPlayed(1, 1)],
+    },
+    Case {
+        steps: &[
+            (0, Sends(START)),
+            (1_000, Sends(E4)),
+            (2_000, Sends(LIFTED)),
+            (5_000, Sends(LIFTED)),
+            (9_000, Sends(LIFTED)),
+            (11_999, Sends(E5)),
+            (13_000, Adds(WON)),
         ],
         open: &[],
     },
@@ -585,6 +680,7 @@ fn alarm_of(look: &Look) -> Alarm {
             Place::AfterLast => After(plies, doubt.why),
         },
         Look::Stopped { plies, moves } => Since(plies, moves),
+        Look::Unplayed { plies, moves } => NotPlayed(plies, moves),
         Look::Suspected(n) => Suspect(n),
     }
 }

@@ -23,6 +23,8 @@ const FIVE: u64 = 0x1F << 56;
 
 const E1: u64 = 1 << 60;
 
+const SIX: u64 = 0x3F << 24;
+
 const START: Heard = Shows(Picture {
     differs: 0,
     changed: 0,
@@ -34,6 +36,13 @@ const TURNED: Heard = Shows(Picture {
     differs: PIECES,
     changed: PIECES,
     turned: 0,
+});
+
+/// Three moves were made on it.
+const TURNED_IN_PLAY: Heard = Shows(Picture {
+    differs: PIECES | SIX,
+    changed: PIECES,
+    turned: SIX,
 });
 
 /// The start without its first five pieces, four, and with all but the fifth.
@@ -58,8 +67,20 @@ const WITH_FOUR: Heard = Shows(Picture {
 /// A name, what is heard, and what may be wrong then.
 type Row<'a> = (&'a str, &'a [Heard], Option<Hint>);
 
-static TURNED_ROUND: [Row<'static>; 7] = [
+static TURNED_ROUND: [Row<'static>; 11] = [
     ("turned round", &[TURNED], Some(TurnedRound)),
+    (
+        "and played on",
+        &[TURNED, TURNED_IN_PLAY],
+        Some(TurnedRound),
+    ),
+    ("only then", &[TURNED_IN_PLAY], None),
+    ("put right", &[TURNED, START, TURNED_IN_PLAY], None),
+    (
+        "while the line was gone",
+        &[START, Unplugs, Plugs, TURNED],
+        Some(TurnedRound),
+    ),
     (
         "a piece is still to come",
         &[Shows(Picture {
