@@ -4,6 +4,7 @@
 // The game follows from NAME.dgt alone: what is lost here costs times, and never a move.
 
 export const HEADED = 4096; // bytes of a capture that a new heading has the digest of, at most
+const DIGESTED = 64; // the same in a part of one
 export const [BEGIN, AWAY, OPENED, ANSWERED, GONE, CALLED] = ['begin', 'away', 'opened', 'answered', 'gone', 'called'];
 export const [HEARD, BROUGHT, ADDED] = ['heard', 'brought', 'added']; // the capture got so many bytes
 export const [STOPPED, ASKED, TOOK, OVER] = ['stopped', 'asked', 'took', 'over'];
@@ -112,6 +113,33 @@ export function cut(text, found, size, first) {
     if (event.what !== OVER) parts.push(text.slice(event.begins, event.ends));
   }
   return parts.join('');
+}
+
+/**
+ * A capture with its times in parts of so many bytes or a little more, [{ text, bytes }]; the text is empty if there are no times. Told one
+ * after the other they tell what they tell whole. All bytes of an event stand in one part.
+ */
+export function inParts(text, capture, most) {
+  if (capture.length <= most) return [{ text, bytes: capture }];
+  const parts = [];
+  const found = kept(text);
+  let [from, to, covered, events] = [0, 0, 0, ''];
+  const end = () => {
+    const bytes = capture.subarray(from, to);
+    parts.push({ text: events && heading(found.generation, bytes.subarray(0, DIGESTED)) + events, bytes });
+    [from, events] = [to, ''];
+  };
+  for (const event of isOf(found, capture) ? eventsOf(text, found.begins) : []) {
+    const before = covered;
+    covered = covers(before, event);
+    to += Math.max(0, covered - before);
+    events += event.what === BEGIN ? line([event.at, BEGIN, to - from]) : text.slice(event.begins, event.ends);
+    if (to - from >= most && to < capture.length) end();
+  }
+  for (to = Math.max(to, from + most); to < capture.length; to = from + most) end();
+  to = capture.length;
+  end();
+  return parts;
 }
 
 /**

@@ -2,7 +2,7 @@
 // suspended while nothing happens there; all other calls end at once.
 
 import { start } from '../../hosts/process.mjs';
-import { run } from '../../hosts/wasm.mjs';
+import { joined, run } from '../../hosts/wasm.mjs';
 import { Answers } from '../game/attended.js';
 
 // A browser has room for some 62 instances of the program; the rest is for those that ask boards who they are, and for short calls.
@@ -19,6 +19,11 @@ async function begin({ module }) {
   const packed = Uint8Array.from(atob(module), (letter) => letter.charCodeAt(0));
   const stream = new Blob([packed]).stream().pipeThrough(new DecompressionStream('gzip'));
   program = await WebAssembly.compile(await new Response(stream).arrayBuffer());
+}
+
+/** Their memory is free at once, and not when the browser looks for what nobody has. */
+function free(bytes) {
+  bytes.buffer.transfer(0);
 }
 
 /** A board that is attended: its process, and those who wait for its answers, in order. */
@@ -49,7 +54,7 @@ class Attended {
     if (this.why) throw new Error(this.why);
     return new Promise((done, failed) => {
       this.waiting.push({ done, failed });
-      this.process.push(entry);
+      this.process.push(entry).then(() => free(entry));
     });
   }
 
@@ -85,11 +90,31 @@ function leave({ key }) {
   attended.delete(key);
 }
 
+// A call whose input comes in parts: no more of it than one part is here at a time.
+
+let inParts = null; // its process
+
+async function runInParts({ words }) {
+  const parts = [];
+  inParts = start(program, words, (bytes) => parts.push(bytes));
+  const { status, errors } = await inParts.ended;
+  return { status, output: joined(parts), errors: new TextEncoder().encode(errors) };
+}
+
+/** The next part of its input; none is left if that is null. Ends when it has read that, or has ended. */
+async function give({ part }) {
+  await Promise.race([part ? inParts.push(part) : inParts.end(), inParts.ended]);
+  if (part) free(part);
+  return null;
+}
+
 const CALLS = {
   attend,
   tell,
   leave,
   run: ({ words, input }) => run(program, words, input),
+  runInParts,
+  give,
 };
 
 onmessage = async ({ data: { number, name, given } }) => {
