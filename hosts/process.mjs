@@ -23,7 +23,8 @@ export function suspends() {
  *
  * @param {WebAssembly.Module} program
  * @param {string[]} words the arguments: a subcommand and its options
- * @param {(bytes: Uint8Array) => void} wrote gets what it writes on standard output; an exception there ends the process
+ * @param {(bytes: Uint8Array) => void} wrote gets what it writes on standard output, in its own memory, which is other bytes' soon; an
+ *   exception there ends the process
  * @param {number} most the bytes of memory that it may have: where it needs more, its status is 4
  * @returns `push(bytes)`, which it reads next: the promise ends when it has read them; `end()`, after which no more come; `kill()`; and
  *   `ended`, with { status, errors } when it has ended. It fails where the process was killed, or its stack of 1 MiB doesn't suffice
@@ -68,7 +69,7 @@ export function start(program, words, wrote, most = 2 ** 32) {
       return BigInt(taken.length);
     }),
     write(stream, at, length) {
-      const written = bytes(at, length).slice();
+      const written = bytes(at, length);
       if (stream === OUTPUT) {
         wrote(written);
       } else {

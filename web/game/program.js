@@ -133,7 +133,7 @@ export class Program {
 
   /**
    * The same, in a worker that ends with the call: so what a large input takes is free at once, and it holds up no other call. It gets
-   * the input in parts, the next one when the program has read the one before.
+   * the input in parts, all in the same memory, which comes back when the program has read a part.
    */
   async runAlone(words, input) {
     const alone = new Program(this.code, this.module);
@@ -141,9 +141,11 @@ export class Program {
       await alone.ready();
       const answer = alone.call('runInParts', { words });
       answer.catch(() => {}); // whoever waits for it gets that
+      let room = new Uint8Array(PART);
       for (let at = 0; at < input.length; at += PART) {
-        const part = input.slice(at, at + PART);
-        await alone.call('give', { part }, part);
+        const part = room.subarray(0, input.length - at);
+        part.set(input.subarray(at, at + PART));
+        room = await alone.call('give', { part }, room);
       }
       await alone.call('give', { part: null });
       return await answer;

@@ -52,12 +52,7 @@ export class Capture {
   /** What the database has of a game. */
   static async read(database, game) {
     const capture = new Capture(database, game);
-    for await (const chunks of database.chunks(game)) {
-      for (const chunk of chunks) {
-        capture.take(chunk);
-        chunk.bytes.buffer.transfer(0); // its memory is free at once
-      }
-    }
+    for await (const chunks of database.chunks(game)) chunks.forEach((chunk) => capture.take(chunk));
     return capture;
   }
 

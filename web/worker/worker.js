@@ -21,11 +21,6 @@ async function begin({ module }) {
   program = await WebAssembly.compile(await new Response(stream).arrayBuffer());
 }
 
-/** Their memory is free at once, and not when the browser looks for what nobody has. */
-function free(bytes) {
-  bytes.buffer.transfer(0);
-}
-
 /** A board that is attended: its process, and those who wait for its answers, in order. */
 class Attended {
   constructor(asks) {
@@ -54,7 +49,7 @@ class Attended {
     if (this.why) throw new Error(this.why);
     return new Promise((done, failed) => {
       this.waiting.push({ done, failed });
-      this.process.push(entry).then(() => free(entry));
+      this.process.push(entry);
     });
   }
 
@@ -96,16 +91,15 @@ let inParts = null; // its process
 
 async function runInParts({ words }) {
   const parts = [];
-  inParts = start(program, words, (bytes) => parts.push(bytes));
+  inParts = start(program, words, (bytes) => parts.push(bytes.slice()));
   const { status, errors } = await inParts.ended;
   return { status, output: joined(parts), errors: new TextEncoder().encode(errors) };
 }
 
-/** The next part of its input; none is left if that is null. Ends when it has read that, or has ended. */
+/** The next part of its input; none is left if that is null. The part's memory goes back when it is read, or when the process has ended. */
 async function give({ part }) {
   await Promise.race([part ? inParts.push(part) : inParts.end(), inParts.ended]);
-  if (part) free(part);
-  return null;
+  return part && new Uint8Array(part.buffer);
 }
 
 const CALLS = {
@@ -117,12 +111,18 @@ const CALLS = {
   give,
 };
 
+/** The memory that goes to the page with an answer, without a copy. */
+function memoryOf(answer) {
+  const given = answer ? [answer, answer.output, answer.kept, answer.game] : [];
+  return given.filter((bytes) => bytes instanceof Uint8Array).map(({ buffer }) => buffer);
+}
+
 onmessage = async ({ data: { number, name, given } }) => {
   try {
     if (name === 'begin') ready = begin(given);
     await ready;
     const answer = name === 'begin' ? null : await CALLS[name](given);
-    postMessage({ number, answer }, answer && answer.output ? [answer.output.buffer] : []);
+    postMessage({ number, answer }, memoryOf(answer));
   } catch (error) {
     postMessage({ number, error: String(error && error.message ? error.message : error) });
   }
