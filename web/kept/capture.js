@@ -19,9 +19,9 @@ export class Front {
     this.length = capture.size;
   }
 
-  /** Its bytes from an offset on. */
-  bytes(from = 0) {
-    return this.capture.content.slice(from, this.length);
+  /** Its bytes from one offset to another, to be read. */
+  subarray(from, to) {
+    return this.capture.view(Math.min(to, this.length)).subarray(from);
   }
 
   /** Whether it begins with this. */
