@@ -116,8 +116,8 @@ export function cut(text, found, size, first) {
 }
 
 /**
- * A capture with its times in parts of so many bytes or a little more, [{ text, bytes }]; the text is empty if there are no times. Told one
- * after the other they tell what they tell whole. All bytes of an event stand in one part.
+ * A capture with its times in parts of so many bytes or up to twice as many, [{ text, bytes }]; the text is empty if there are no times. Told
+ * one after the other they tell what they tell whole. Bytes that came before a call are told before it, without a time.
  */
 export function inParts(text, capture, most) {
   if (capture.length <= most) return [{ text, bytes: capture }];
@@ -132,8 +132,15 @@ export function inParts(text, capture, most) {
   for (const event of isOf(found, capture) ? eventsOf(text, found.begins) : []) {
     const before = covered;
     covered = covers(before, event);
-    to += Math.max(0, covered - before);
-    events += event.what === BEGIN ? line([event.at, BEGIN, to - from]) : text.slice(event.begins, event.ends);
+    let coming = Math.max(0, covered - before);
+    for (; coming > most && from + most < capture.length; end()) {
+      const now = from + most - to;
+      if (event.what !== BEGIN) events += line([event.at, event.what, now]);
+      [to, coming] = [to + now, coming - now];
+    }
+    to += coming;
+    if (event.what === BEGIN) events += line([event.at, BEGIN, to - from]);
+    else events += coming > 0 ? line([event.at, event.what, coming]) : text.slice(event.begins, event.ends);
     if (to - from >= most && to < capture.length) end();
   }
   for (to = Math.max(to, from + most); to < capture.length; to = from + most) end();
