@@ -2,8 +2,8 @@
  * Runs the program as a WebAssembly module (bin/wasm/dgt_replay.wasm) that goes on while bytes come: where it reads and nothing is
  * there, it is suspended until there is. The host of hosts/wasm.c, for a browser with JavaScript Promise Integration.
  *
- *     const { push, kill, ended } = start(program, ["live"], (bytes) => show(bytes));
- *     push(bytes);
+ *     const { push, end, kill, ended } = start(program, ["live"], (bytes) => show(bytes));
+ *     await push(bytes);
  *
  * Each process has an instance, a memory and a stack of its own. A suspended one that is forgotten is never collected: kill it.
  */
@@ -23,17 +23,19 @@ export function suspends() {
  *
  * @param {WebAssembly.Module} program
  * @param {string[]} words the arguments: a subcommand and its options
- * @param {(bytes: Uint8Array) => void} wrote gets what it writes on standard output; an exception there ends the process
+ * @param {(bytes: Uint8Array) => void} wrote gets what it writes on standard output, in its own memory, which is other bytes' soon; an
+ *   exception there ends the process
  * @param {number} most the bytes of memory that it may have: where it needs more, its status is 4
- * @returns `push(bytes)`, which it reads next; `kill()`; and `ended`, with { status, errors } when it has ended. It fails where the
- *   process was killed, or its stack of 1 MiB doesn't suffice
+ * @returns `push(bytes)`, which it reads next: the promise ends when it has read them; `end()`, after which no more come; `kill()`; and
+ *   `ended`, with { status, errors } when it has ended. It fails where the process was killed, or its stack of 1 MiB doesn't suffice
  */
 export function start(program, words, wrote, most = 2 ** 32) {
   const list = ["dgt_replay", ...words].map((word) => new TextEncoder().encode(word));
   const decoder = new TextDecoder();
-  const given = []; // parts that it hasn't read
+  const given = []; // parts that it hasn't read, { bytes, done }
   let wake = null; // ends the wait of the read that has nothing
   let killed = null;
+  let isWhole = false; // whether no more comes
   let turn = performance.now();
   let errors = "";
   /** Bytes of the module's memory. The memory that it had before it grew is gone, so they are looked up in each call. */
@@ -45,7 +47,7 @@ export function start(program, words, wrote, most = 2 ** 32) {
           turn = performance.now();
         });
       }
-      while (given.length === 0 && !killed) {
+      while (given.length === 0 && !killed && !isWhole) {
         await new Promise((go) => {
           wake = go;
         });
@@ -54,17 +56,20 @@ export function start(program, words, wrote, most = 2 ** 32) {
       if (killed) {
         throw killed;
       }
-      const taken = given[0].subarray(0, Number(length));
-      if (taken.length === given[0].length) {
-        given.shift();
-      } else {
-        given[0] = given[0].subarray(taken.length);
+      if (given.length === 0) {
+        return 0n;
       }
+      const [part] = given;
+      const taken = part.bytes.subarray(0, Number(length));
+      part.bytes = part.bytes.subarray(taken.length);
       bytes(at, taken.length).set(taken);
+      if (part.bytes.length === 0) {
+        given.shift().done();
+      }
       return BigInt(taken.length);
     }),
     write(stream, at, length) {
-      const written = bytes(at, length).slice();
+      const written = bytes(at, length);
       if (stream === OUTPUT) {
         wrote(written);
       } else {
@@ -98,9 +103,17 @@ export function start(program, words, wrote, most = 2 ** 32) {
   return {
     ended,
     push(more) {
-      if (more.length > 0) {
-        given.push(more);
+      if (more.length === 0) {
+        return Promise.resolve();
       }
+      const read = new Promise((done) => {
+        given.push({ bytes: more, done });
+      });
+      rouse();
+      return read;
+    },
+    end() {
+      isWhole = true;
       rouse();
     },
     kill() {

@@ -13,7 +13,7 @@ const NONE = -1n; // there is no such argument
 const TOO_LONG = -2n; // it is longer than the room for it
 
 /** The parts one behind the other. */
-function joined(parts) {
+export function joined(parts) {
   const whole = new Uint8Array(parts.reduce((length, part) => length + part.length, 0));
   let at = 0;
   for (const part of parts) {

@@ -2,9 +2,11 @@
 itself."""
 
 import contextlib
+import json
 import pathlib
+import subprocess
 import threading
-from typing import Dict, Iterator
+from typing import Dict, Iterator, List, Tuple
 
 from browsed import TOP
 from browsed.stage import with_chromium
@@ -90,6 +92,44 @@ def with_modules() -> Iterator[Tab]:
         yield tab
     server.shutdown()
     server.server_close()
+
+
+def answered(parts: List[Tuple[str, bytes]], size: int) -> List[str]:
+    """What `live` reports and says of a capture in these parts, with their times, once the next call has begun."""
+    told = [b"0 kept %d\n%s" % (len(text), text.encode()) if text else b"" for text, _ in parts]
+    captures = [b"0 capture %d\n%s" % (len(sent), sent) for _, sent in parts]
+    entries = b"".join(part for pair in zip(told, captures) for part in pair)
+    begins = b"0 begin %d\n0 away 35000\n5 opened\n12 wake\n20 text\n" % size
+    done = subprocess.run([str(TOP / "bin" / "dgt_replay"), "live"], input=entries + begins, stdout=subprocess.PIPE, check=True)
+    return [line for line in done.stdout.decode().splitlines() if line != "keep" and not line.startswith("done")]
+
+
+@with_chromium
+def told_in_parts(folder: pathlib.Path) -> None:
+    """A long capture is told to the program in parts, with their times: what it says then is what it says of the whole."""
+    capture = (TOP / "samples" / "long-game.dgt").read_bytes()
+    with with_modules() as tab:
+        headed = tab.value(f"import('/web/game/times.js').then(({{ heading }}) => heading(0, Uint8Array.from({list(capture[:67])})))")
+        events, size, at = ["0 begin 0", "3 opened"], 0, 0
+        while size < len(capture):
+            count = min(50 + size % 90, len(capture) - size)
+            at, size = at + 700 * (1 + count % 3), size + count
+            events.append(f"{at} {'added' if count % 11 == 0 else 'heard'} {count}")
+            if count % 7 == 0:
+                events += [f"{at} gone", f"{at + 9000} opened", f"{at + 9500} ok"]
+                at += 9500
+            if count % 13 == 0:
+                size = min(size + 200, len(capture))
+                events += [f"0 begin {size}", "0 away 60000", "2 opened"]
+                at = 2
+        text = f"{headed}" + "".join(f"{event}\n" for event in events)
+        whole = answered([(text, capture)], len(capture))
+        for given, most in ((text, 90), (text, 700), ("", 700)):
+            made = f"inParts({json.dumps(given)}, Uint8Array.from({list(capture)}), {most}).map(({{ text, bytes }}) => [text, [...bytes]])"
+            parts = tab.value(f"import('/web/game/times.js').then(({{ inParts }}) => {made})")
+            assert isinstance(parts, list) and len(parts) > 2, parts
+            found = answered([(part, bytes(sent)) for part, sent in parts], len(capture))
+            same(found, whole if given else answered([("", capture)], len(capture)))
 
 
 @with_chromium

@@ -29,9 +29,11 @@ FILLED = """
   database.close();
 })()
 """
-# How many bytes the workers got as copies, in large messages; and how many workers there are.
+# How many bytes the workers got as copies, in large messages; the most that was handed or copied at a time; and how many workers there
+# are.
 HANDED = """
 window.copied = 0;
+window.largest = 0;
 window.workers = 0;
 const [post, terminate, Begun] = [Worker.prototype.postMessage, Worker.prototype.terminate, Worker];
 window.Worker = class extends Begun {
@@ -45,10 +47,17 @@ Begun.prototype.terminate = function () {
   terminate.call(this);
 };
 Begun.prototype.postMessage = function (message, ...given) {
-  const bytes = message?.given?.input ?? message?.given?.entry ?? [];
-  const isLarge = bytes.length > 2 ** 20;
+  const bytes = message?.given?.input ?? message?.given?.entry ?? message?.given?.part ?? [];
+  const isLarge = bytes.length >= 2 ** 20;
+  largest = Math.max(largest, bytes.length);
   post.call(this, message, ...given);
   if (isLarge) copied += bytes.length;
+};
+const slice = Uint8Array.prototype.slice;
+Uint8Array.prototype.slice = function (...given) {
+  const bytes = slice.apply(this, given);
+  largest = Math.max(largest, bytes.length);
+  return bytes;
 };
 """
 # How many bytes of the first board's game are on the disk.
@@ -66,8 +75,8 @@ def fill(stage: Hall, page: Page, total: int) -> None:
 @with_chromium
 def limits(folder: pathlib.Path) -> None:
     """A game may have 63 MiB. Then it is over, the page says why, and keeps all that came until then. What comes behind it has room: the
-    next game begins when the pieces are set up. The program gets so many bytes without a copy of them, and what it takes for its text is
-    given back."""
+    next game begins when the pieces are set up. The program gets so many bytes in parts, nothing copies more than one of them, and what it
+    takes for its text is given back."""
     with Hall(folder) as stage:
         port = stage.board()
         page = stage.tab([HANDED])
@@ -92,6 +101,7 @@ def limits(folder: pathlib.Path) -> None:
         stage.until_moves(page, [])
         until_agrees(stage, page)
         play(stage, page, port, QUEENS[:1], QUEENS_SANS[:1])
+        same((page.value("copied"), page.value("largest") < 2 * MIB), (0, True))
 
 
 def until_short(stage: Hall, page: Page, when: str) -> None:

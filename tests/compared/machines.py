@@ -235,7 +235,8 @@ def an_evening(chance: random.Random, sample: bytes) -> List[bytes]:
 
 
 def module_goes_on_as_x86_64() -> None:
-    """`live` is told a game by parts, and waits for each: with moves that are recovered, and without."""
+    """`live` is told a game by parts, and waits for each: with moves that are recovered, and without. `record` reads one in parts, up to
+    its end."""
     chance = random.Random(SEED)
     sample = (TOP / "samples" / "long-game.dgt").read_bytes()
     with page() as browser:
@@ -243,6 +244,8 @@ def module_goes_on_as_x86_64() -> None:
             evening = an_evening(chance, sample)
             cuts = [b"".join(evening[at : at + 3]) for at in range(0, len(evening), 3)]
             same([Call(words, b"".join(evening))], [browser.goes_on(words, cuts)])
+        cuts = [sample[at : at + 100] for at in range(0, len(sample), 100)]
+        same([Call(("record",), sample)], [browser.goes_on(("record",), cuts)])
 
 
 def module_has_processes() -> None:

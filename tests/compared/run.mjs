@@ -46,15 +46,16 @@ export async function answers() {
   });
 }
 
-/** What a process answers that is given parts of its input one after the other, and ends by itself at the last one. */
+/** What a process answers that is given parts of its input, each when it has read the one before, and ends by itself or behind the last. */
 export async function goes_on() {
   const { words, parts } = await (await fetch("/parts")).json();
   const written = [];
   const going = start(await program, words, (bytes) => written.push(...bytes));
   for (const part of parts) {
-    going.push(bytes_of(part));
+    await Promise.race([going.push(bytes_of(part)), going.ended]);
     await new Promise((next) => setTimeout(next));
   }
+  going.end();
   const { status, errors } = await going.ended;
   return { status, output: base64_of(Uint8Array.from(written)), errors };
 }

@@ -1,5 +1,5 @@
 /** The lines of NAME.times, and a clock that counts on. */
-import { cut, digest, heading, isEarlier, isOf, kept, lineAfter, lines, toldOf, toldOfOther, withAdded } from "/web/game/times.js";
+import { cut, digest, heading, inParts, isEarlier, isOf, kept, lineAfter, lines, toldOf, toldOfOther, withAdded } from "/web/game/times.js";
 import { stoodStill } from "/web/time_away.js";
 
 const OF_A = "1 times 0\n1 digest 12638187200555641996\n"; // the capture began with the letter a
@@ -39,6 +39,30 @@ export function cuts(counts, cases) {
   const text = `${OF_A}0 begin 1\n12 heard 67\n20 asked 1\n30 heard 10\n40 over 78\n50 heard 5\n60 ok\n`;
   for (const [size, left] of cases("cuts")) {
     counts.same(`${size} bytes`, cut(text, kept(text), size, bytesOf("a".slice(0, size))), whole(left));
+  }
+}
+
+export function parts(counts) {
+  const front = "0 begin 1\n12 heard 4\n";
+  const of = (events, bytes) => [events && heading(0, bytesOf(bytes)) + events, bytes];
+  for (const [name, text, capture, expected] of [
+    ["a short capture", `${OF_A}${front}`, "abcd", [[`${OF_A}${front}`, "abcd"]]],
+    ["an event with more bytes", `${OF_A}0 begin 1\n12 heard 9\n`, "abcdefghij", [of("0 begin 1\n12 heard 3\n", "abcd"), of("12 heard 4\n", "efgh"), of("12 heard 2\n", "ij")]],
+    ["a call with more before it", `${OF_A}0 begin 1\n0 begin 10\n`, "abcdefghij", [of("0 begin 1\n", "abcd"), ["", "efgh"], of("0 begin 2\n", "ij")]],
+    ["an event with a few more", `${OF_A}${front}`, "abcdefg", [of(front, "abcde"), ["", "fg"]]],
+    [
+      "a call that begins with more bytes",
+      `${OF_A}${front}20 gone\n0 begin 8\n0 away 500\n5 heard 3\n`,
+      "abcdefghijk",
+      [of(front, "abcde"), of("20 gone\n0 begin 3\n0 away 500\n5 heard 3\n", "fghijk")],
+    ],
+    ["one that begins with fewer", `${OF_A}${front}0 begin 2\n5 heard 2\n`, "abcdefg", [of(front, "abcde"), of("0 begin 0\n5 heard 2\n", "fg")]],
+    ["what happens behind all bytes", `${OF_A}${front}20 over 5\n`, "abcde", [of(`${front}20 over 5\n`, "abcde")]],
+    ["without times", "", "abcdefghij", [["", "abcd"], ["", "efgh"], ["", "ij"]]],
+    ["with those of another capture", "1 times 0\n1 digest 5\n", "abcde", [["", "abcd"], ["", "e"]]],
+  ]) {
+    const seen = inParts(text, bytesOf(capture), 4);
+    counts.same(name, seen.map((part) => [part.text, new TextDecoder().decode(part.bytes)]), expected);
   }
 }
 

@@ -3,6 +3,8 @@
 
 import { STOPPED } from '../game/times.js';
 
+const LARGE = 1 << 16; // bytes: so many are given when all before them is answered, since they are copied then
+
 export class Attendant {
   /**
    * `hears` gets told(entry) for what is told, { word, given, at, now, isNoted }; answered(entry, answer) in the same order; and wake() when
@@ -18,6 +20,7 @@ export class Attendant {
     this.wasAway = guard.away();
     this.timer = null;
     this.isLeft = false;
+    this.turn = Promise.resolve(); // ends when the last large entry is answered
     this.key = program.attend(options, asks);
   }
 
@@ -37,7 +40,9 @@ export class Attendant {
     this.last = Math.max(at, this.last);
     const entry = { word, given, at: this.last, now: this.guard.now(), isNoted };
     this.hears.told(entry);
-    const asked = this.program.tell(this.key, this.last - this.began, word, given);
+    const since = this.last - this.began;
+    const asked = this.turn.then(() => this.program.tell(this.key, since, word, given));
+    if (given instanceof Uint8Array && given.length > LARGE) this.turn = asked.then(() => {}, () => {});
     this.guard.call(() => asked.then((answer) => this.answered(entry, answer), (error) => this.fails(error)));
   }
 

@@ -4,12 +4,13 @@
 // What it is told has its line in the game's times, with the same time, and in the order in which the program takes it. So a line waits
 // until all that was told before is answered, since the game may get bytes then.
 
-import { ADDED, AWAY, BEGIN, GONE, HEARD, OPENED } from '../game/times.js';
+import { ADDED, AWAY, BEGIN, GONE, HEARD, OPENED, inParts } from '../game/times.js';
 import { KEEP, KEPT, LENT, NUMBER, OTHER, TEXT, WAKE } from '../game/attended.js';
 import { lineOf } from '../game/report.js';
 import { Attendant } from './attendant.js';
 
 const MOST_HELD = 1 << 20; // bytes that no game has, as in the program
+const PART = 1 << 20; // bytes of a capture that the program gets at a time, with their times
 const OPENS = 0.2; // seconds in which a recorder that is begun may get its line
 const CAPTURE = 'capture';
 const OF_THE_PAST = [KEPT, CAPTURE, BEGIN, AWAY]; // with the answers to these no game gets bytes
@@ -131,8 +132,10 @@ export class Attending {
     const { number } = this.hears;
     const { began, before, begun } = this.times;
     const sent = this.capture.view();
-    if (isHistory && before && sent.length > 0) attendant.send(KEPT, textBytes(before));
-    if (isHistory && sent.length > 0) attendant.send(CAPTURE, sent);
+    for (const { text, bytes } of isHistory && sent.length > 0 ? inParts(before, sent, PART) : []) {
+      if (text) attendant.send(KEPT, textBytes(text));
+      attendant.send(CAPTURE, bytes);
+    }
     const tells = ([what, count]) => attendant.send(what, what === ADDED ? sent : count, began, true);
     const isFirst = ([what]) => OF_THE_PAST.includes(what);
     begun.filter(isFirst).forEach(tells);
@@ -217,7 +220,8 @@ export class Attending {
     if (answer.handling === OTHER) this.lend(answer.other);
     if (answer.asks) this.hears.asks(answer.asks, entry.at);
     this.noteLines();
-    this.pending.push({ number: entry.number, mark: this.capture.size, entry, answer });
+    const isRead = !this.unanswered.some(({ word }) => word === CAPTURE); // all of the calls before
+    this.pending.push({ number: entry.number, mark: this.capture.size, entry, answer, isRead });
     this.show();
   }
 
@@ -238,9 +242,9 @@ export class Attending {
     if (this.held.length < count) this.tell(LENT);
   }
 
-  /** These bytes are kept: they may be shown. */
-  isKept(bytes) {
-    this.kept += bytes.length;
+  /** So many bytes more are kept: they may be shown. */
+  isKept(count) {
+    this.kept += count;
     this.show();
   }
 
@@ -249,12 +253,11 @@ export class Attending {
     if (this.isShowing) return;
     this.isShowing = true;
     while (this.pending.length > 0 && this.pending[0].mark <= this.kept && !this.guard.ended) {
-      const { number, mark, entry, answer } = this.pending.shift();
+      const { number, mark, entry, answer, isRead } = this.pending.shift();
       for (const line of answer.report) this.lines.push(line);
       this.known = Math.max(this.known, mark);
       if (answer.end) this.hears.endsSoon(answer.end);
-      const isToHear = answer.report.length > 0 && entry.word !== KEPT; // its capture comes with the next answer
-      if (isToHear || !entry || entry.word === BEGIN) this.hear();
+      if ((answer.report.length > 0 && isRead) || !entry || entry.word === BEGIN) this.hear();
       if (answer.end) this.hears.ends(answer.end);
       if (answer.looks.length > 0) this.hears.raises(answer.looks);
       if (answer.state) this.hears.stands(answer.state, entry);

@@ -48,8 +48,8 @@ const WHY = {
 
 export class Recorder {
   /**
-   * `kept` is what the database has: { board, game, chunks, times }; or, from a recorder that an error has ended before all
-   * was kept, { board, game, capture, times }. `hears` gets says(text), changed(isNews), placed() when the PGN
+   * `kept` is what the database has: { board, game, capture, times }; or what a recorder has left that an error has ended before all
+   * was kept, of which it may lack some, as `mayLack` says. `hears` gets says(text), changed(isNews), placed() when the PGN
    * has changed, begun(game) with the last game when another one begins, and keeps(before) with the old capture when a
    * new one was made; and cameBack() when its board was away and is heard again. It answers owner(number) and lends(number, heard),
    * and gets takes(number) when this game gets the board that another one has had.
@@ -84,9 +84,9 @@ export class Recorder {
     this.attending = new Attending(hall, guard, this);
     this.cable = new Cable(guard, kept.board.serial || '', this);
     guard.opened(() => this.keepUnanswered());
-    const capture = kept.capture || new Capture(this.database, kept.game.id, kept.chunks);
-    this.takeGame(kept.game, capture, new Times(this.database, guard, kept.game, capture, this));
-    this.times.open(kept.times, Boolean(kept.capture));
+    const { game, capture } = kept;
+    this.takeGame(game, capture, new Times(this.database, guard, game, capture, this));
+    this.times.open(kept.times, Boolean(kept.mayLack));
     this.tick = guard.after(TICK, () => this.eachSecond());
     this.reread();
   }
@@ -97,7 +97,7 @@ export class Recorder {
     this.capture = capture;
     this.times = times;
     capture.hearBy({
-      kept: (bytes) => this.guard.call(() => this.attending.isKept(bytes)),
+      kept: (count) => this.guard.call(() => this.attending.isKept(count)),
       changed: () => this.guard.call(() => this.diskChanged()),
     });
     this.attending.take(capture, times);
@@ -137,7 +137,7 @@ export class Recorder {
   /** What a recorder begins with, after this one, if the database may lack some of it. */
   get kept() {
     const { board, game, capture, times } = this;
-    return { board, game, capture, times: times.rows };
+    return { board, game, capture, times: times.rows, mayLack: true };
   }
 
   // Reading the capture.
@@ -228,7 +228,7 @@ export class Recorder {
     this.away += unheard;
     if (unheard > 0) this.sayUnheard(unheard);
     this.boardIsThere(now, unheard > 0);
-    const taken = bytes.slice(0, room);
+    const taken = bytes.length > room ? bytes.slice(0, room) : bytes;
     this.capture.append(taken, now);
     if (!isBrought) this.times.note(HEARD, taken.length, at);
     this.room.close();

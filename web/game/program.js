@@ -8,6 +8,7 @@ import { ofBoard, ofLive, ofTyping } from './options.js';
 export class ProgramError extends Error {}
 
 const LARGE = 4 << 20; // bytes that a call isn't given beside others
+const PART = 1 << 20; // bytes of a large input that are copied at a time
 
 // A module with a memory and a table of 64-bit addresses, as the program has them.
 const WIDE = Uint8Array.of(0, 0x61, 0x73, 0x6d, 1, 0, 0, 0, 4, 4, 1, 0x70, 4, 0, 5, 3, 1, 4, 0);
@@ -130,12 +131,24 @@ export class Program {
     return this.call('run', { words, input: copy }, copy);
   }
 
-  /** The same, in a worker that ends with the call: so what a large input takes is free at once, and it holds up no other call. */
+  /**
+   * The same, in a worker that ends with the call: so what a large input takes is free at once, and it holds up no other call. It gets
+   * the input in parts, all in the same memory, which comes back when the program has read a part.
+   */
   async runAlone(words, input) {
     const alone = new Program(this.code, this.module);
     try {
       await alone.ready();
-      return await alone.runHere(words, input);
+      const answer = alone.call('runInParts', { words });
+      answer.catch(() => {}); // whoever waits for it gets that
+      let room = new Uint8Array(PART);
+      for (let at = 0; at < input.length; at += PART) {
+        const part = room.subarray(0, input.length - at);
+        part.set(input.subarray(at, at + PART));
+        room = await alone.call('give', { part }, room);
+      }
+      await alone.call('give', { part: null });
+      return await answer;
     } finally {
       alone.worker.terminate();
     }

@@ -11,6 +11,7 @@ import { published } from './tags.js';
 import { readBack, refuseBack } from './way_back.js';
 
 export const NO_PLIES = '0';
+const SHOWN = 1 << 20; // bytes in which a board says again and again how it stands
 
 /** The course of a game of these bytes. */
 export async function gameOf(program, options, sent) {
@@ -33,7 +34,7 @@ export async function hasAlone(program, options, sent, plies) {
  * nothing. `shows` has words for a first move that the board shows; or for a result, and with that no game begins: the dump is null.
  */
 export async function standsAt(program, options, sent) {
-  const said = readBack(await program.back({ ...options, recover: null }, sent, NO_PLIES)); // pairs don't change how it stands
+  const said = await takenOff(program, { ...options, recover: null }, sent); // pairs don't change how it stands
   const { kind, rest, put } = said;
   if (put) return { dump: dumpsIn(put).at(-1), shows: '' };
   if (kind === 'unseen') return { dump: new Uint8Array(0), shows: '' };
@@ -44,9 +45,16 @@ export async function standsAt(program, options, sent) {
 
 /** A dump of the start, as the program makes it of what the board has shown in the first so many bytes, and what came behind them. */
 export async function fromStart(program, options, sent, bytes) {
-  const { kind, put } = readBack(await program.back(options, sent.subarray(0, bytes), NO_PLIES));
+  const { kind, put } = await takenOff(program, options, sent.subarray(0, bytes));
   if (!put) throw new ProgramError(`back has refused the start: ${kind}`);
   return joined(dumpsIn(put).at(-1), sent.subarray(bytes));
+}
+
+/** What `back` answers if all plies are to go. How the board stands is in its last bytes; if it isn't, all are read. */
+async function takenOff(program, options, sent) {
+  const said = readBack(await program.back(options, sent.subarray(-SHOWN), NO_PLIES));
+  if (said.kind !== 'unseen' || sent.length <= SHOWN) return said;
+  return readBack(await program.back(options, sent, NO_PLIES));
 }
 
 /** A dump of the board after this first move. */

@@ -4,6 +4,7 @@
 // The game follows from NAME.dgt alone: what is lost here costs times, and never a move.
 
 export const HEADED = 4096; // bytes of a capture that a new heading has the digest of, at most
+const DIGESTED = 64; // the same in a part of one
 export const [BEGIN, AWAY, OPENED, ANSWERED, GONE, CALLED] = ['begin', 'away', 'opened', 'answered', 'gone', 'called'];
 export const [HEARD, BROUGHT, ADDED] = ['heard', 'brought', 'added']; // the capture got so many bytes
 export const [STOPPED, ASKED, TOOK, OVER] = ['stopped', 'asked', 'took', 'over'];
@@ -112,6 +113,40 @@ export function cut(text, found, size, first) {
     if (event.what !== OVER) parts.push(text.slice(event.begins, event.ends));
   }
   return parts.join('');
+}
+
+/**
+ * A capture with its times in parts of so many bytes or up to twice as many, [{ text, bytes }]; the text is empty if there are no times. Told
+ * one after the other they tell what they tell whole. Bytes that came before a call are told before it, without a time.
+ */
+export function inParts(text, capture, most) {
+  if (capture.length <= most) return [{ text, bytes: capture }];
+  const parts = [];
+  const found = kept(text);
+  let [from, to, covered, events] = [0, 0, 0, ''];
+  const end = () => {
+    const bytes = capture.subarray(from, to);
+    parts.push({ text: events && heading(found.generation, bytes.subarray(0, DIGESTED)) + events, bytes });
+    [from, events] = [to, ''];
+  };
+  for (const event of isOf(found, capture) ? eventsOf(text, found.begins) : []) {
+    const before = covered;
+    covered = covers(before, event);
+    let coming = Math.max(0, covered - before);
+    for (; coming > most && from + most < capture.length; end()) {
+      const now = from + most - to;
+      if (event.what !== BEGIN) events += line([event.at, event.what, now]);
+      [to, coming] = [to + now, coming - now];
+    }
+    to += coming;
+    if (event.what === BEGIN) events += line([event.at, BEGIN, to - from]);
+    else events += coming > 0 ? line([event.at, event.what, coming]) : text.slice(event.begins, event.ends);
+    if (to - from >= most && to < capture.length) end();
+  }
+  for (to = Math.max(to, from + most); to < capture.length; to = from + most) end();
+  to = capture.length;
+  end();
+  return parts;
 }
 
 /**

@@ -98,6 +98,8 @@ export class Folders {
   async takeUp({ recorder }, folder) {
     const { filed } = recorder.game;
     if (!filed || filed.folder !== folder.name) return;
+    const size = await folder.sizeOf(`${filed.name}.dgt`).catch(() => 0);
+    if (size <= recorder.opened) return;
     const bytes = await folder.bytesOf(`${filed.name}.dgt`).catch(() => null);
     const times = await folder.textOf(`${filed.name}.times`).catch(() => null);
     if (bytes) await recorder.takeUp(bytes, times || '', `${filed.name}.dgt`);

@@ -16,13 +16,13 @@ export function unended(finished) {
 
 /** Gives a result to a game that is over. Throws Refused if the game can't have it. */
 export async function giveResult(hall, game, outcome) {
-  const sent = game.bytes.slice(0, game.end);
+  const sent = game.bytes.subarray(0, game.end);
   const said = readAnswer('add', await hall.calls.add(game.options, sent, outcome));
   const { put } = said;
   if (!put) throw refuse(said, outcome, '');
-  const bytes = joined(sent, put, game.bytes.slice(game.end));
+  const bytes = joined(sent, put, game.bytes.subarray(game.end));
   const end = sent.length + put.length;
-  const text = await textOf(hall.calls, game.options, bytes.slice(0, end));
+  const text = await textOf(hall.calls, game.options, bytes.subarray(0, end));
   const { pgn, bytes: before, times, ...kept } = game;
   const lines = withAdded(times, sent.length, put.length, bytes);
   const row = { number: 0, at: Date.now(), text: lines };

@@ -2,7 +2,6 @@
 
 import { Recorder } from '../board/recorder.js';
 import { mendOfOver, resting, standing, viewOf } from '../board/view.js';
-import { joined } from '../device/protocol.js';
 import { lockedDevice, systemOf } from '../device/systems.js';
 import { ISNT_OVER } from '../game/afterwards.js';
 import { Course } from '../game/course.js';
@@ -10,7 +9,7 @@ import { isEmpty, wordsOfForfeit } from '../game/forfeits.js';
 import { dayOf } from '../game/names.js';
 import { optionsOf } from '../game/options.js';
 import { textOf } from '../game/reading.js';
-import { Front } from '../kept/capture.js';
+import { Capture, Front } from '../kept/capture.js';
 import { textOf as textOfTimes } from '../kept/times.js';
 import { Guard } from '../guard.js';
 import { unended } from './results.js';
@@ -61,9 +60,9 @@ export class Seat {
     const board = boards.find(({ id }) => id === this.id);
     const game = games.find(({ id }) => id === board.game);
     if (!game) throw new Error('its game is no more in this browser: remove the board, and add it again');
-    const [chunks, times] = await Promise.all([database.chunks(game.id), this.readTimes(game.id)]);
+    const [capture, times] = await Promise.all([Capture.read(database, game.id), this.readTimes(game.id)]);
     await this.readFinished(games.filter((one) => one.board === this.id && one !== game));
-    return { board, game, chunks, times };
+    return { board, game, capture, times };
   }
 
   /** The rows of a game's times; null if they can't be read, which costs nothing else. */
@@ -77,8 +76,9 @@ export class Seat {
     const today = dayOf(new Date());
     const finished = [];
     for (const game of games.filter(({ options }) => options.began === today)) {
-      const bytes = joined(...(await database.chunks(game.id)).map((chunk) => chunk.bytes));
-      const sent = bytes.slice(0, game.end === null ? bytes.length : game.end);
+      const capture = await Capture.read(database, game.id);
+      const bytes = capture.view();
+      const sent = capture.view(game.end === null ? capture.size : game.end);
       const times = textOfTimes((await this.readTimes(game.id)) || []);
       const pgn = await textOf(calls, game.options, sent, game.forfeit);
       if (!isEmpty(game.forfeit, pgn)) finished.push({ ...game, bytes, times, pgn });

@@ -3,13 +3,14 @@
 // meanwhile, all that it lacks is put into it again.
 
 import { DISK_FULL, NOT_WRITTEN } from '../board/state.js';
-import { joined } from '../device/protocol.js';
 import { LARGEST } from './limit.js';
 
 /** What keeps something from being written, as the state names it. */
 export function troubleOf(error) {
   return error && error.name === 'QuotaExceededError' ? DISK_FULL : NOT_WRITTEN;
 }
+
+const lengthOf = (chunks) => chunks.reduce((sum, { bytes }) => sum + bytes.length, 0);
 
 /** What a capture has by now. It only grows, so these bytes stay what they are. */
 export class Front {
@@ -18,9 +19,9 @@ export class Front {
     this.length = capture.size;
   }
 
-  /** Its bytes from an offset on. */
-  bytes(from = 0) {
-    return this.capture.content.slice(from, this.length);
+  /** Its bytes from one offset to another, to be read. */
+  subarray(from, to) {
+    return this.capture.view(Math.min(to, this.length)).subarray(from);
   }
 
   /** Whether it begins with this. */
@@ -30,11 +31,16 @@ export class Front {
 }
 
 export class Capture {
-  constructor(database, game, chunks) {
+  /** It begins with these chunks, which are kept. */
+  constructor(database, game, chunks = []) {
     this.database = database;
     this.game = game;
     this.hears = null;
-    this.setContent(chunks);
+    this.content = new Uint8Array(0); // with room behind it
+    this.size = 0;
+    this.number = 0; // of the next chunk
+    this.marks = []; // [offset, at]: from this byte on all came then
+    chunks.forEach((chunk) => this.take(chunk));
     this.epoch = database.epoch; // of the database in which all is kept but what waits
     this.waiting = []; // chunks that aren't kept yet
     this.told = 0; // how many of them were reported all the same
@@ -43,8 +49,15 @@ export class Capture {
     this.why = '';
   }
 
+  /** What the database has of a game. */
+  static async read(database, game) {
+    const capture = new Capture(database, game);
+    for await (const chunks of database.chunks(game)) chunks.forEach((chunk) => capture.take(chunk));
+    return capture;
+  }
+
   /**
-   * `kept(bytes)` gets what is kept from now on, in order; `changed()` is called when nothing can be kept any more, or
+   * `kept(count)` gets how many bytes more are kept, from now on; `changed()` is called when nothing can be kept any more, or
    * again. All that has come by now is known.
    */
   hearBy(hears) {
@@ -52,16 +65,18 @@ export class Capture {
     this.told = this.waiting.length;
   }
 
-  setContent(chunks) {
-    this.content = chunks.length === 1 ? chunks[0].bytes : joined(...chunks.map(({ bytes }) => bytes));
-    this.size = this.content.length;
-    this.number = chunks.length > 0 ? chunks[chunks.length - 1].number + 1 : 0;
-    this.marks = []; // [offset, at]: from this byte on all came then
-    let offset = 0;
-    for (const { at, bytes } of chunks) {
-      this.marks.push([offset, at]);
-      offset += bytes.length;
+  /** It goes on with this chunk. */
+  take({ number, at, bytes }) {
+    const size = this.size + bytes.length;
+    if (size > this.content.length) {
+      const larger = new Uint8Array(Math.max(size, Math.min(2 * this.content.length, LARGEST), 4096));
+      larger.set(this.view());
+      this.content = larger;
     }
+    this.content.set(bytes, this.size);
+    this.marks.push([this.size, at]);
+    this.size = size;
+    this.number = number + 1;
   }
 
   /** All that came, or this many bytes. */
@@ -76,17 +91,9 @@ export class Capture {
 
   /** The board has sent this, or somebody has added it. */
   append(bytes, at) {
-    const size = this.size + bytes.length;
-    if (size > this.content.length) {
-      const larger = new Uint8Array(Math.max(size, Math.min(2 * this.content.length, LARGEST), 4096));
-      larger.set(this.content.subarray(0, this.size));
-      this.content = larger;
-    }
-    this.content.set(bytes, this.size);
-    this.marks.push([this.size, at]);
-    this.size = size;
-    this.waiting.push({ number: this.number, at, bytes });
-    this.number += 1;
+    const chunk = { number: this.number, at, bytes };
+    this.take(chunk);
+    this.waiting.push(chunk);
     this.write();
   }
 
@@ -114,7 +121,7 @@ export class Capture {
       this.waiting.splice(0, part.length);
       const news = part.slice(this.told);
       this.told = Math.max(0, this.told - part.length);
-      if (news.length > 0) this.hears.kept(joined(...news.map(({ bytes }) => bytes)));
+      if (news.length > 0) this.hears.kept(lengthOf(news));
     }
     if (this.trouble) {
       this.trouble = '';
@@ -161,6 +168,6 @@ export class Capture {
     this.trouble = this.trouble || troubleOf(error);
     this.why = error && error.message ? error.message : String(error);
     if (isNew) this.hears.changed();
-    if (news.length > 0) this.hears.kept(joined(...news.map(({ bytes }) => bytes)));
+    if (news.length > 0) this.hears.kept(lengthOf(news));
   }
 }

@@ -9,6 +9,7 @@ const VERSION = 1;
 const LAST = Number.MAX_SAFE_INTEGER;
 const STRICT = 'strict';
 const RELAXED = 'relaxed'; // behind what was strict before it, at once or soon
+const MOST_READ = 512; // chunks that are read at a time
 const MOST_APPENDING = 3; // transactions with chunks at a time: the browser goes on with the next one without this page
 
 /** The answer to a request. */
@@ -208,9 +209,15 @@ export class Database {
     });
   }
 
-  /** What was kept of a game, in order: [{ number, at, bytes }]. */
-  chunks(game) {
-    return this.read('chunks', (store) => store.getAll(chunksOf(game)));
+  /** What was kept of a game, in order, so many at a time: [{ number, at, bytes }]. */
+  async *chunks(game) {
+    for (let from = 0, count = MOST_READ; count === MOST_READ; ) {
+      const range = IDBKeyRange.bound([game, from], [game, LAST]);
+      const chunks = await this.read('chunks', (store) => store.getAll(range, MOST_READ));
+      yield chunks;
+      count = chunks.length;
+      if (count > 0) from = chunks[count - 1].number + 1;
+    }
   }
 
   /** How many chunks of a game it has. */

@@ -6,6 +6,7 @@ import { editedName, isEarlier } from './edited.js';
 import { otherName } from './file_names.js';
 import { nextFile, renamedAgain } from './order.js';
 
+const PART = 1 << 20; // bytes that are written at a time, since the browser copies them
 const AGAIN = 5.0; // seconds until a file that couldn't be written is tried again
 
 /** How a file was left: whoever writes it changes that. */
@@ -119,7 +120,10 @@ export class Folder {
     const from = await this.hasFront(name, content, file);
     const stream = await file.createWritable({ keepExistingData: from > 0 }); // another file, which replaces this one when it is closed
     try {
-      await stream.write(content instanceof Front ? { type: 'write', position: from, data: content.bytes(from) } : content);
+      if (typeof content === 'string') await stream.write(content);
+      for (let position = from; typeof content !== 'string' && position < content.length; position += PART) {
+        await stream.write({ type: 'write', position, data: content.subarray(position, position + PART) });
+      }
     } catch (error) {
       await stream.abort().catch(() => {});
       throw error;
@@ -154,8 +158,8 @@ export class Folder {
   /** Keeps a capture that this page hasn't written under another name, before one that has less replaces it. */
   async keepLonger(name, content) {
     if (this.written.has(name)) return;
+    if ((await this.sizeOf(name)) <= content.length) return;
     const found = await this.bytesOf(name);
-    if (found === null || found.length <= content.length) return;
     const kept = await this.freeBefore(name.replace(/\.dgt$/, ''));
     await this.writeOne(kept, found);
     this.hears.says(`${name} had more than this page has of the game: it is kept in ${kept}`);
@@ -188,6 +192,12 @@ export class Folder {
   async bytesOf(name) {
     const file = await this.fileOf(name);
     return file && new Uint8Array(await file.arrayBuffer());
+  }
+
+  /** How many bytes a file has; 0 if it isn't there. */
+  async sizeOf(name) {
+    const file = await this.fileOf(name);
+    return file ? file.size : 0;
   }
 
   /** A file; null if it isn't there. */

@@ -2,7 +2,7 @@
 // suspended while nothing happens there; all other calls end at once.
 
 import { start } from '../../hosts/process.mjs';
-import { run } from '../../hosts/wasm.mjs';
+import { joined, run } from '../../hosts/wasm.mjs';
 import { Answers } from '../game/attended.js';
 
 // A browser has room for some 62 instances of the program; the rest is for those that ask boards who they are, and for short calls.
@@ -85,19 +85,44 @@ function leave({ key }) {
   attended.delete(key);
 }
 
+// A call whose input comes in parts: no more of it than one part is here at a time.
+
+let inParts = null; // its process
+
+async function runInParts({ words }) {
+  const parts = [];
+  inParts = start(program, words, (bytes) => parts.push(bytes.slice()));
+  const { status, errors } = await inParts.ended;
+  return { status, output: joined(parts), errors: new TextEncoder().encode(errors) };
+}
+
+/** The next part of its input; none is left if that is null. The part's memory goes back when it is read, or when the process has ended. */
+async function give({ part }) {
+  await Promise.race([part ? inParts.push(part) : inParts.end(), inParts.ended]);
+  return part && new Uint8Array(part.buffer);
+}
+
 const CALLS = {
   attend,
   tell,
   leave,
   run: ({ words, input }) => run(program, words, input),
+  runInParts,
+  give,
 };
+
+/** The memory that goes to the page with an answer, without a copy. */
+function memoryOf(answer) {
+  const given = answer ? [answer, answer.output, answer.kept, answer.game] : [];
+  return given.filter((bytes) => bytes instanceof Uint8Array).map(({ buffer }) => buffer);
+}
 
 onmessage = async ({ data: { number, name, given } }) => {
   try {
     if (name === 'begin') ready = begin(given);
     await ready;
     const answer = name === 'begin' ? null : await CALLS[name](given);
-    postMessage({ number, answer }, answer && answer.output ? [answer.output.buffer] : []);
+    postMessage({ number, answer }, memoryOf(answer));
   } catch (error) {
     postMessage({ number, error: String(error && error.message ? error.message : error) });
   }
