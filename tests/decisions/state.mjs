@@ -5,6 +5,6 @@ export function times(counts, cases) {
   for (const [seconds, text] of cases("lasting")) {
     counts.same(text, lasting(seconds), text);
   }
-  const alarms = Object.values(Kind).filter((kind) => kind === kind.toUpperCase());
+  const alarms = Object.values(Kind).map(String).filter((kind) => kind === kind.toUpperCase());
   counts.same("kinds that are alarms", alarms, ["WRONG", "NO START", "SILENT", "UNPLUGGED"]);
 }

@@ -1,6 +1,7 @@
 // The folder that somebody has chosen. Each file is written as another one, and moved to its place when it is whole.
 
-import { isEarlier as areEarlierTimes } from '../game/times.js';
+import { NOTHING, isEarlier as areEarlierTimes } from '../game/times.js';
+import { message } from '../words/message.js';
 import { Front } from './capture.js';
 import { editedName, isEarlier } from './edited.js';
 import { otherName } from './file_names.js';
@@ -83,7 +84,7 @@ export class Folder {
       try {
         await this.writeOne(name, content);
       } catch (error) {
-        tried.set(name, `${name} can't be written in the folder ${this.name} (${error.message || error.name})`);
+        tried.set(name, message('filed.unwritten', { file: name, folder: this.name, why: error.message || error.name }));
         if (!this.waiting.has(name)) this.waiting.set(name, content);
       }
     }
@@ -148,7 +149,7 @@ export class Folder {
     const kept = editedName(name, number);
     this.written.set(kept, found);
     await this.writeOne(kept, found);
-    this.hears.says(`${name} had another text, which this page has not written: it is kept in ${kept}`);
+    this.hears.says(message('filed.kept_edited', { file: name, kept }));
   }
 
   /** Keeps a capture that this page hasn't written under another name, before one that has less replaces it. */
@@ -158,7 +159,7 @@ export class Folder {
     if (found === null || found.length <= content.length) return;
     const kept = await this.freeBefore(name.replace(/\.dgt$/, ''));
     await this.writeOne(kept, found);
-    this.hears.says(`${name} had more than this page has of the game: it is kept in ${kept}`);
+    this.hears.says(message('filed.kept_longer', { file: name, kept }));
   }
 
   /** Keeps times that this page hasn't written under another name, before others replace them. */
@@ -170,7 +171,7 @@ export class Folder {
     while (await this.has(otherName(name, number))) number += 1;
     const kept = otherName(name, number);
     await this.writeOne(kept, found);
-    this.hears.says(`${name} had other times than this page has of the game: they are kept in ${kept}. Nothing is to be done`);
+    this.hears.says(message('filed.kept_times', { file: name, kept, nothing: NOTHING }));
   }
 
   /** A free name for a capture as it was before. */

@@ -12,7 +12,7 @@ export function element(kind, name = '', text = '') {
 
 /** Sets a text if it has changed, so that nothing is read out twice. */
 export function say(where, text) {
-  if (where.textContent !== text) where.textContent = text;
+  if (where.textContent !== String(text)) where.textContent = text;
 }
 
 /** From now on the pieces are drawn as in the page's first answer: no other answer is needed for them. */
