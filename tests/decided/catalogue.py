@@ -8,7 +8,8 @@ import re
 import tempfile
 from typing import Dict, FrozenSet, Iterator, List, Mapping, NamedTuple, Set, Tuple
 
-from live.words.catalogue import MANY, ONE, NoCatalogue, faults, path_of, places_of, read, read_like
+from live.web.page import ARBITER, SPECTATORS, index_of
+from live.words.catalogue import LINKS, MANY, ONE, NoCatalogue, faults, path_of, places_of, read, read_like
 from live.words.message import ENGLISH, Message, has, is_of, linked, plural, text_of, written
 
 from decided import javascript
@@ -32,6 +33,7 @@ NO_SENTENCES: Dict[str, Tuple[str, ...]] = {
     "live/round/site.py": ("default-src", "<link"),  # HTML
     "live/round/tournament.py": ("board;white;",),  # the headings of a table
     "live/terminal/editing.py": ("to the end", "to the start"),
+    "live/web/page/message.js": ("the catalogue has no {}",),
     "live/web/http.py": ("Method Not", "Content Too", "URI Too", "Request Header", "HTTP Version", "default-src"),  # as HTTP has them
     # Where there is no catalogue.
     "live/words/catalogue.py": ("{} can't be read", "{} is no JSON", "{} is no object", "{} is no key", "{} has {}"),
@@ -41,9 +43,9 @@ NO_SENTENCES: Dict[str, Tuple[str, ...]] = {
     "web/game/attended.js": ("live wrote:",),  # what the program has written, and can't be read
     "web/game/way_back.js": ("as it is", "input: too long"),
     "web/loop.js": ("\n  onmessage",),  # code
-    "web/words/message.js": ("the catalogue has no {}",),
 }
-MAKING = ("message", "plural", "linked")  # the functions of web/words/ that make messages
+MESSAGE = "live/web/page/message.js"
+MAKING = ("message", "plural", "linked")  # its functions that make messages
 
 
 class Call(NamedTuple):
@@ -60,8 +62,9 @@ def modules() -> List[Tuple[str, ast.Module]]:
 
 
 def scripts() -> List[Tuple[str, List[Token]]]:
-    """The modules of web/ with their paths."""
-    return [(str(path.relative_to(TOP)), javascript.tokens(path.read_text("utf-8"))) for path in sorted(WEB.rglob("*.js"))]
+    """The modules of web/, and of the pages of a round, with their paths."""
+    found = [*sorted(LIVE.rglob("*.js")), *sorted(WEB.rglob("*.js"))]
+    return [(str(path.relative_to(TOP)), javascript.tokens(path.read_text("utf-8"))) for path in found]
 
 
 def constants(node: ast.expr) -> List[str]:
@@ -76,7 +79,7 @@ def calls() -> Iterator[Call]:
 
 def calls_in_javascript() -> Iterator[Call]:
     for path, found in scripts():
-        for name, line, (first, *rest) in () if path.startswith("web/words/") else javascript.calls(found, MAKING):
+        for name, line, (first, *rest) in () if path == MESSAGE else javascript.calls(found, MAKING):
             keys, given = [text for kind, text, _ in first if kind == "text"], frozenset().union(*map(javascript.fields, rest[-1:]))
             if name == "message":
                 yield Call(f"{path}:{line}", tuple(keys), given)
@@ -187,16 +190,27 @@ def how_it_is_written() -> None:
     same("one and many are pairs", [key for key in sorted(ends) if not {key + ONE, key + MANY} <= set(ENGLISH)], [])
 
 
+def pages_have_theirs() -> None:
+    """A page has the sentences that its scripts need, and no other."""
+    for site in (ARBITER, SPECTATORS):
+        _, _, rest = index_of(site).partition(b'id="words">')
+        words = json.loads(rest.partition(b"</script>")[0])
+        own = {f"live/web/page/{name}" for name in site.files}
+        made = {key for call in calls_in_javascript() if call.place.partition(":")[0] in own for key in call.keys}
+        same(f"{site.index}: what its scripts need", sorted(made - set(words)), [])
+        same(f"{site.index}: no other", [key for key in words if key not in made and not key.startswith(LINKS)], [])
+        same(f"{site.index}: as in the catalogue", {key: ENGLISH[key] for key in words}, words)
+
+
 def leftmost() -> None:
-    """The packages of words import nothing of the recorders."""
+    """What makes messages imports nothing of the recorders."""
     for path, tree in modules():
         nodes = list(ast.walk(tree)) if path.startswith("live/words/") else []
         names = [node.module or "" for node in nodes if isinstance(node, ast.ImportFrom)]
         names += [one.name for node in nodes if isinstance(node, ast.Import) for one in node.names]
         same(path, [name for name in names if name.startswith("live") and not name.startswith("live.words.")], [])
     for path, found in scripts():
-        sources = [after.text for before, after in zip(found, found[1:]) if before.text == "from" and after.kind == "text"]
-        same(path, [source for source in sources if path.startswith("web/words/") and not source.endswith(".json")], [])
+        same(path, path == MESSAGE and "import" in [text for kind, text, _ in found if kind == "name"], False)
 
 
 # A language of which nobody knows a word: each sentence is its key and its places.
@@ -235,7 +249,7 @@ def made(key: str, places: Mapping[str, object]) -> Message:
 
 
 def as_in_javascript() -> None:
-    """The same cases play over web/words/."""
+    """The same cases play over message.js."""
     for key, places, text in cases("words", "made"):
         same(key, made(key, places), text)
     for key, count, text in cases("words", "plural"):
@@ -262,4 +276,5 @@ def messages() -> None:
     same("what it says", refused("no key in another language", LookupError, written, {}, "side.white", {}), "the catalogue has no side.white")
 
 
-TABLES = [each_key_is_used, each_place_is_given, no_sentence_in_code, how_it_is_written, leftmost, another_language, as_in_javascript, messages]
+TABLES = [each_key_is_used, each_place_is_given, no_sentence_in_code, how_it_is_written, pages_have_theirs, leftmost, another_language,
+          as_in_javascript, messages]  # fmt: skip

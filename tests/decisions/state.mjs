@@ -1,5 +1,6 @@
 /** How long a state has lasted, in words. What a board's state is, the program decides. */
-import { Kind, lasting } from "/web/board/state.js";
+import { lasting } from "/live/web/page/chess.js";
+import { Kind } from "/web/board/state.js";
 
 export function times(counts, cases) {
   for (const [seconds, text] of cases("lasting")) {

@@ -1,7 +1,7 @@
 // A game whose pieces were still being set up when its capture began: when the program says so, it begins anew with the start.
 
 import { fromStart } from '../game/reading.js';
-import { message } from '../words/message.js';
+import { message } from '../../live/web/page/message.js';
 import { Again } from './again.js';
 
 export class Beginning {

@@ -2,7 +2,7 @@
 // more moves, and keeps all that the game has, somebody is told of it.
 
 import { gameOf } from '../game/reading.js';
-import { plural } from '../words/message.js';
+import { plural } from '../../live/web/page/message.js';
 import { Kind } from './state.js';
 
 const LONG = 15.0; // seconds in which a board is otherwise before it is read so, and from one reading to the next

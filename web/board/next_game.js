@@ -5,7 +5,7 @@ import { isReadAnew, nextBegins } from '../game/afterwards.js';
 import { ofBoard, startOf } from '../game/options.js';
 import { fromStart, standsAt } from '../game/reading.js';
 import { lineOf } from '../game/report.js';
-import { message } from '../words/message.js';
+import { message } from '../../live/web/page/message.js';
 import { Again } from './again.js';
 
 const Reason = { RESULT: message('over.has_a_result'), NEXT: message('over.next_wanted') }; // why the game before is over

@@ -19,14 +19,15 @@ import { Capture } from '../kept/capture.js';
 import { LARGEST } from '../kept/limit.js';
 import { spread, withMore } from '../kept/spread.js';
 import { Times } from '../kept/times.js';
-import { linked, message } from '../words/message.js';
+import { lasting } from '../../live/web/page/chess.js';
+import { linked, message } from '../../live/web/page/message.js';
 import { Attending } from './attending.js';
 import { Beginning } from './beginning.js';
 import { Cable } from './cable.js';
 import { Hidden } from './hidden.js';
 import { NextGame } from './next_game.js';
 import { Room } from './room.js';
-import { DISK_FULL, Kind, lasting, stateOf } from './state.js';
+import { DISK_FULL, Kind, stateOf } from './state.js';
 import { Typing } from './typing.js';
 import { another, back as backAgain, mayTake } from './whose.js';
 

@@ -3,7 +3,7 @@
 
 import { joined } from '../device/protocol.js';
 import { MOST, hasNoRoom, isLong, needless } from '../kept/limit.js';
-import { message } from '../words/message.js';
+import { message } from '../../live/web/page/message.js';
 import { Again } from './again.js';
 
 const LATER = 60.0; // seconds until it is tried again

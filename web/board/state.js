@@ -1,6 +1,7 @@
 // The state of a board in an arbiter's words, which are those of dgt_round. The program decides which it is. Pure.
 
-import { linked, message } from '../words/message.js';
+import { lasting } from '../../live/web/page/chess.js';
+import { linked, message } from '../../live/web/page/message.js';
 
 const MOST_LISTED = 8;
 export const TURNED_ROUND = message('state.turned_round');
@@ -33,14 +34,6 @@ const KINDS = {
 const HINTS = { 'TURNED-ROUND': TURNED_ROUND, 'OTHER-BOARD': OTHER_BOARD };
 const ALARMS = [Kind.WRONG, Kind.NO_START, Kind.SILENT, Kind.UNPLUGGED];
 
-/** A duration in words: `40 s`, `3 min`, `2 h 05 min`. */
-export function lasting(seconds) {
-  const whole = Math.max(0, Math.floor(seconds));
-  const minutes = Math.floor(whole / 60);
-  if (whole < 120) return message('time.seconds', { seconds: whole });
-  if (whole < 7200) return message('time.minutes', { minutes });
-  return message('time.hours', { hours: Math.floor(whole / 3600), minutes: String(minutes % 60).padStart(2, '0') });
-}
 
 /** The state at a moment. `since` is null if it isn't known for how long it has been so. */
 export class State {

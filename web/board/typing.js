@@ -11,7 +11,7 @@ import { shortOf } from '../game/report.js';
 import { ABSENT, Asked, HELP, Refused, readWords, refusal } from '../game/typed.js';
 import { AS_IT_IS, CUT, REFUSED, askedOf, isStillShown, playedSince, question, reached, readBack, refuseBack, refuseNothing, settled, takenUp, wordsOfBack } from '../game/way_back.js';
 import { THIS, UNPLAYED, whichGame } from '../game/which_game.js';
-import { isSame, linked, message } from '../words/message.js';
+import { isSame, linked, message } from '../../live/web/page/message.js';
 import { DISK_FULL } from './state.js';
 
 const TRIES = 4; // calls for one line, if the board sends something while each of them runs; the last one lets it wait

@@ -4,7 +4,7 @@ import { clocksOf } from '../game/course.js';
 import { countingForfeit, scoreOf } from '../game/forfeits.js';
 import { written } from '../game/options.js';
 import { NO_TIME } from '../game/report.js';
-import { linked, message } from '../words/message.js';
+import { linked, message } from '../../live/web/page/message.js';
 import { DISK_FULL, Kind, State, TURNED_ROUND } from './state.js';
 
 /** The clocks as they run; if there is no clock, each player's time after his last move. */

@@ -2,7 +2,7 @@
 // board it is.
 
 import { lookAt } from '../game/looks.js';
-import { linked, message } from '../words/message.js';
+import { linked, message } from '../../live/web/page/message.js';
 
 const WHERE = message('look.at_the_cable');
 

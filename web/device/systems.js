@@ -1,6 +1,6 @@
 // Which device in the browser's list is the board, and what it needs, on each system. Pure.
 
-import { linked, message } from '../words/message.js';
+import { linked, message } from '../../live/web/page/message.js';
 
 /** The system of this browser: 'Windows', 'macOS', 'Linux' or 'ChromeOS'; empty if it is another one. */
 export function systemOf({ userAgentData, platform = '', userAgent = '' }) {

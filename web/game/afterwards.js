@@ -3,7 +3,7 @@
 import { OVER, lookAt } from './looks.js';
 import { codesOf } from './report.js';
 import { same } from '../device/protocol.js';
-import { message } from '../words/message.js';
+import { message } from '../../live/web/page/message.js';
 
 export const ISNT_OVER = message('advice.not_over', { how: message('press.no_result') }); // beside an alarm about moves
 

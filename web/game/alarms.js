@@ -3,7 +3,7 @@
 import { AFTER, SINCE, SUSPECT } from './attended.js';
 import { Looks, OVER, lookAt } from './looks.js';
 import { shortOf } from './report.js';
-import { isSame, linked, message, plural } from '../words/message.js';
+import { isSame, linked, message, plural } from '../../live/web/page/message.js';
 
 const WHY = {
   LATE: message('doubt.late'),

@@ -3,7 +3,7 @@
 
 import { ProgramError, endedWith } from './program.js';
 import { Refused, WAYS, shortened } from './typed.js';
-import { linked, message, plural } from '../words/message.js';
+import { linked, message, plural } from '../../live/web/page/message.js';
 
 const TOO_LONG = 'input: too long';
 const NUMBERED = /^[0-9]+\s+(?:[A-Za-z*]|[01½][-–—−:/.]|[+-][+-])/; // a line that begins as in a round

@@ -3,7 +3,7 @@
 // PGN has a result if one player wins by it, and no result if both are absent. The tag Termination says that the game was
 // not played: `rules infraction`, an administrative forfeit in the words of the standard.
 
-import { message } from '../words/message.js';
+import { message } from '../../live/web/page/message.js';
 
 export const BOTH = '--'; // nobody wins
 const [WHITE, BLACK] = ['+-', '-+']; // White wins, Black wins

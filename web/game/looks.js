@@ -1,6 +1,6 @@
 // Alarms that stay until they are acknowledged, whatever the board shows.
 
-import { isSame, linked, message } from '../words/message.js';
+import { isSame, linked, message } from '../../live/web/page/message.js';
 
 export const OVER = 'over'; // what an alarm about moves after a result is about
 

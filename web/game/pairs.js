@@ -2,7 +2,7 @@
 //
 // A line is taken only if it has two names, whichever way its parts are divided. What could be read in two ways is refused.
 
-import { Complaint, message } from '../words/message.js';
+import { Complaint, message } from '../../live/web/page/message.js';
 
 const MOST_SHOWN = 40; // letters of a line that a message quotes
 const TITLE = /^(?:W?(?:GM|IM|FM|CM)|w?[gmfc])$/; // a cell with a title

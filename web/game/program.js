@@ -3,7 +3,7 @@
 import { suspends } from '../../hosts/process.mjs';
 import { entryOf } from './attended.js';
 import { ofBoard, ofLive, ofTyping } from './options.js';
-import { Complaint, Message, message } from '../words/message.js';
+import { Complaint, Message, message } from '../../live/web/page/message.js';
 
 /** The program can't be run, or has ended as it shouldn't. */
 export class ProgramError extends Complaint {}

@@ -9,7 +9,7 @@ import { ProgramError } from './program.js';
 import { lineOf } from './report.js';
 import { published } from './tags.js';
 import { readBack, refuseBack } from './way_back.js';
-import { message } from '../words/message.js';
+import { message } from '../../live/web/page/message.js';
 
 export const NO_PLIES = '0';
 

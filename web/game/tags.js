@@ -2,7 +2,7 @@
 //
 // `record` writes seven tags in ASCII. Its movetext stays as it is, after tag pairs that are written anew.
 
-import { Complaint, message } from '../words/message.js';
+import { Complaint, message } from '../../live/web/page/message.js';
 
 const ROSTER = ['Event', 'Site', 'Date', 'Round', 'White', 'Black', 'Result']; // the first tags, in order
 const GAME_SAYS = ['Result', 'FEN', 'SetUp', 'PlyCount', 'Termination', 'Variant'];

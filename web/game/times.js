@@ -3,7 +3,7 @@
 //
 // The game follows from NAME.dgt alone: what is lost here costs times, and never a move.
 
-import { message } from '../words/message.js';
+import { message } from '../../live/web/page/message.js';
 
 export const HEADED = 4096; // bytes of a capture that a new heading has the digest of, at most
 export const [BEGIN, AWAY, OPENED, ANSWERED, GONE, CALLED] = ['begin', 'away', 'opened', 'answered', 'gone', 'called'];

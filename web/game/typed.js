@@ -2,7 +2,7 @@
 // is for the program to read, which also says why it can't be. Pure.
 
 import { BOTH, typedForfeit } from './forfeits.js';
-import { Complaint, message } from '../words/message.js';
+import { Complaint, message } from '../../live/web/page/message.js';
 
 const NOUGHTS = '0-0'; // a result, or castling typed with noughts
 export const WAYS = message('typed.ways');

@@ -4,7 +4,7 @@
 import { ProgramError, endedWith } from './program.js';
 import { shortOf } from './report.js';
 import { Refused, WHICH_PLY } from './typed.js';
-import { linked, message } from '../words/message.js';
+import { linked, message } from '../../live/web/page/message.js';
 
 const NO_RESULT = '*';
 const WITHOUT_A_QUESTION = 2; // plies that may go without a question

@@ -2,7 +2,7 @@
 
 import { otherName } from '../kept/file_names.js';
 import { zipped } from '../kept/zip.js';
-import { message } from '../words/message.js';
+import { message } from '../../live/web/page/message.js';
 import { stamped } from './log.js';
 
 const CAPTURE = message('packed.capture');

@@ -3,7 +3,7 @@
 // So no board gets a second card.
 
 import { missingDevice, systemOf, whichDevice } from '../device/systems.js';
-import { Complaint, linked, message } from '../words/message.js';
+import { Complaint, linked, message } from '../../live/web/page/message.js';
 
 const NO_ANSWER = { connection: null, came: [], number: '', isSilent: true };
 

@@ -2,7 +2,7 @@
 
 import { Folder } from '../kept/folder.js';
 import { ROUND, freeName } from '../kept/file_names.js';
-import { linked, message } from '../words/message.js';
+import { linked, message } from '../../live/web/page/message.js';
 
 const MODE = { mode: 'readwrite' };
 const AWAITED = 1.0; // seconds that a file waits until its text is kept in the browser

@@ -8,7 +8,7 @@ import { Database } from '../kept/database.js';
 import { fileName, freeName, nameOfPlayers } from '../kept/file_names.js';
 import { Loop } from '../loop.js';
 import { save } from '../page/saving.js';
-import { linked, message, plural } from '../words/message.js';
+import { linked, message, plural } from '../../live/web/page/message.js';
 import { Devices } from './devices.js';
 import { Exchanges } from './exchanged.js';
 import { Folders } from './folders.js';

@@ -7,7 +7,7 @@ import { KEEP, NUMBER, OTHER, WAKE } from '../game/attended.js';
 import { BEGIN, HEARD, OPENED } from '../game/times.js';
 import { optionsOf } from '../game/options.js';
 import { Guard } from '../guard.js';
-import { isSame, message } from '../words/message.js';
+import { isSame, message } from '../../live/web/page/message.js';
 
 const NOBODY = new TextEncoder().encode('-----'); // no board's number: each one that comes is another board's
 const AGAIN = 2.0; // seconds between two looks for boards that are awaited

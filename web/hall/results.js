@@ -7,7 +7,7 @@ import { forfeitOf } from '../game/forfeits.js';
 import { textOf } from '../game/reading.js';
 import { withAdded } from '../game/times.js';
 import { spread } from '../kept/spread.js';
-import { message } from '../words/message.js';
+import { message } from '../../live/web/page/message.js';
 
 /** The last game of a board before the one that is on, if it has no result; else null. */
 export function unended(finished) {

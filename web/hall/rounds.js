@@ -5,7 +5,7 @@ import { UNKNOWN, withTag, written } from '../game/options.js';
 import { pairsOf } from '../game/pairs.js';
 import { OF_ALL, optionsOfRound, repeated, roundAfter } from '../game/rounds.js';
 import { nameOfPlayers } from '../kept/file_names.js';
-import { isSame, linked, message } from '../words/message.js';
+import { isSame, linked, message } from '../../live/web/page/message.js';
 
 const MOST_NAMED = 4; // games that a question names
 

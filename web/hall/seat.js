@@ -13,7 +13,7 @@ import { textOf } from '../game/reading.js';
 import { Front } from '../kept/capture.js';
 import { textOf as textOfTimes } from '../kept/times.js';
 import { Guard } from '../guard.js';
-import { Complaint, isSame, linked, message } from '../words/message.js';
+import { Complaint, isSame, linked, message } from '../../live/web/page/message.js';
 import { unended } from './results.js';
 
 const AGAIN = 5.0; // seconds until a recorder that an error has ended is begun again

@@ -4,7 +4,7 @@
 import {
   ADDED, ASKED, AWAY, BEGIN, HEADED, HEARD, OVER, adding, cut, heading, isOf, kept, lineAfter, lines, toldOf, toldOfMissing, toldOfOther, toldOfTrouble,
 } from '../game/times.js';
-import { Complaint, isSame, message } from '../words/message.js';
+import { Complaint, isSame, message } from '../../live/web/page/message.js';
 import { otherName } from './file_names.js';
 import { LARGEST } from './limit.js';
 

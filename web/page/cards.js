@@ -1,11 +1,11 @@
 // All boards in a grid of cards, and one of them large if it is opened.
 
-import { numbered, printedResult, spoken } from '../../live/web/page/chess.js';
+import { printedResult, spokenPly } from '../../live/web/page/chess.js';
 import { element, say } from '../../live/web/page/diagram.js';
 import { fit, placeAfter } from '../../live/web/page/grid.js';
 import { Large } from '../../live/web/page/large.js';
 import { Tile } from '../../live/web/page/tile.js';
-import { linked, message, plural } from '../words/message.js';
+import { linked, message, plural } from '../../live/web/page/message.js';
 import { announce } from './announcer.js';
 import { at } from './elements.js';
 
@@ -158,10 +158,8 @@ export class Cards {
     const isNew = count > before.moves.length || (count > 0 && before.moves[count - 1].san !== board.moves[count - 1].san);
     if (count > 0 && isNew) {
       const { san, clock } = board.moves[count - 1];
-      const { number, side } = numbered(board.positions[0], count - 1);
-      const by = linked('comma', [number, side === 'w' ? message('side.white') : message('side.black')]);
       const withClock = clock ? [message('read.clock', { time: clock })] : [];
-      words.push(linked('colon', [by, linked('comma', [spoken(san), ...withClock])]));
+      words.push(linked('comma', [spokenPly(board.positions[0], count - 1, san), ...withClock]));
     }
     if (board.result !== before.result && board.result !== '*') words.push(message('read.result', { result: printedResult(board.result) }));
     if (words.length > 0) announce(linked('colon', [name, linked('stop', words)]));

@@ -1,7 +1,7 @@
 // Small helpers for the page's elements. Texts are set as text, never as markup.
 
 import { element } from '../../live/web/page/diagram.js';
-import { linked, message } from '../words/message.js';
+import { linked, message } from '../../live/web/page/message.js';
 
 export const at = (name) => document.getElementById(name);
 

@@ -4,7 +4,7 @@ import { drawPieces } from '../../live/web/page/diagram.js';
 import { Hall } from '../hall/hall.js';
 import { missingDevice, systemOf, whichDevice } from '../device/systems.js';
 import { lacking } from '../game/program.js';
-import { linked, message } from '../words/message.js';
+import { linked, message } from '../../live/web/page/message.js';
 import { announce } from './announcer.js';
 import { Cards } from './cards.js';
 import { Dropping } from './dropping.js';

@@ -1,7 +1,7 @@
 // Messages: lines with the time of day, the newest first; and notices that stay until somebody has acted on them.
 
 import { element } from '../../live/web/page/diagram.js';
-import { isSame, message } from '../words/message.js';
+import { isSame, message } from '../../live/web/page/message.js';
 import { announce } from './announcer.js';
 import { at, button } from './elements.js';
 

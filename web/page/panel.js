@@ -7,7 +7,7 @@ import { UNKNOWN, written } from '../game/options.js';
 import { OF_ALL } from '../game/rounds.js';
 import { allOf } from '../hall/all_of.js';
 import { giveResult } from '../hall/results.js';
-import { linked, message, plural } from '../words/message.js';
+import { linked, message, plural } from '../../live/web/page/message.js';
 import { at, failed } from './elements.js';
 import { save } from './saving.js';
 

@@ -1,7 +1,7 @@
 // The window in which somebody begins a new round on all boards.
 
 import { element, say } from '../../live/web/page/diagram.js';
-import { linked, message, plural } from '../words/message.js';
+import { linked, message, plural } from '../../live/web/page/message.js';
 import { at } from './elements.js';
 
 const FIELDS = { Event: 'round-event', Site: 'round-site', Round: 'round-number', Date: 'round-date', pairs: 'round-pairs' };

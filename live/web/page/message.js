@@ -1,7 +1,7 @@
-// What a person reads: a key of the catalogue, and what goes into the places of its sentence, as in live/words/. Pure.
+// What a person reads: a key of the catalogue, and what goes into the places of its sentence, as in live/words/. A page has those
+// sentences that its scripts need.
 
-import ENGLISH from '../../shared/words.en.json' with { type: 'json' };
-
+const ENGLISH = new Map(Object.entries(JSON.parse(document.getElementById('words').textContent)));
 const PLACE = /\{([A-Za-z_]+)\}/g;
 
 /** A sentence. As a string it is the English text, which logs keep. Its key and its places make the text in another language. */
@@ -43,10 +43,10 @@ export function isSame(one, other) {
 
 /** The text of a key. What goes into a place whose name begins with a capital begins with a capital too. */
 function written(key, places) {
-  if (!Object.hasOwn(ENGLISH, key)) throw new RangeError(`the catalogue has no ${key}`);
-  return ENGLISH[key].replace(PLACE, (_, name) => {
+  if (!ENGLISH.has(key)) throw new RangeError(`the catalogue has no ${key}`);
+  return ENGLISH.get(key).replace(PLACE, (_, name) => {
     const own = name[0].toLowerCase() + name.slice(1);
-    if (!Object.hasOwn(places, own)) throw new RangeError(`${key} has no ${own}`);
+    if (places[own] === undefined) throw new RangeError(`${key} has no ${own}`);
     const text = String(places[own]);
     return own === name ? text : text.charAt(0).toUpperCase() + text.slice(1);
   });
