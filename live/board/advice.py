@@ -89,7 +89,9 @@ def of_look(look: Look, typed: Typed, moves: Moves) -> str:
 
 def closing(look: Look, typed: Typed) -> str:
     """What to type if it is right as it is. Before the first move `ok` takes the board on a cable for its game: so the cables come first."""
-    return Message("advice.cables", ok=typed(OK)) if look.about == WHERE else Message("advice.look", ok=typed(OK))
+    if look.about == WHERE:
+        return Message("advice.cables", ok=typed(OK))
+    return Message("advice.look", how=Message("typed.line", line=typed(OK)))
 
 
 def if_not(look: Look, typed: Typed, moves: Moves) -> str:
@@ -98,7 +100,7 @@ def if_not(look: Look, typed: Typed, moves: Moves) -> str:
     if look.about == OVER:
         if is_of(look.why, "look.moves_from_the_start") and look.why.endswith(over(NO_RESULT)):
             return Message("advice.begins_now", back=typed(f"{BACK} {NO_PLIES}"))
-        return Message("advice.not_over", reopens=typed(REOPENS))
+        return Message("advice.not_over", how=Message("typed.line", line=typed(REOPENS)))
     if look.why == AFTER_RESULT:
         return Message("advice.this_one_is_right", reopens=typed(REOPENS))
     if is_of(look.why, "look.unheard_after_result"):

@@ -50,7 +50,7 @@ def told(reason: Reason, result: str, goes_on: str, reopens: str, is_alone: bool
         if is_alone:
             goes_on = Message("over.if_it_goes_on_alone", why=reason.value, reopens=reopens)
         else:
-            goes_on = Message("over.if_it_goes_on", why=reason.value, reopens=reopens)
+            goes_on = Message("over.if_it_goes_on", why=reason.value, how=Message("typed.line", line=reopens))
         return Message("over.last_move", goes_on=goes_on, reopens=reopens) if reason is Reason.PLAYS_ON else goes_on
     return str(reason.value)
 

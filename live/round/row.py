@@ -166,7 +166,7 @@ class RowScreen(Screen):
         return f"{self._number} 1-0"
 
     def goes_on(self, name: str, in_series: bool) -> str:
-        return Message("row.type", line=self.reopens())
+        return Message("typed.line", line=self.reopens())
 
     def other_device(self) -> str:
         return Message("row.write_device")

@@ -25,7 +25,7 @@ from live.guard import Guard, traced
 from live.loop import Turns
 from live.refused import REFUSED, Refused
 from live.web.doors import Title
-from live.web.page import FOLDER, PIECES, SPECTATORS
+from live.web.page import FOLDER, SPECTATORS, index_of
 from live.web.view import RoundView, json_text, pgn_path, round_pgn, round_text
 from live.words.message import Message
 
@@ -50,7 +50,7 @@ def page_files() -> Texts:
 
 def round_page() -> bytes:
     """The spectators' page, with paths that lead out of a round's folder, which asks for files."""
-    text = (FOLDER / SPECTATORS.index).read_bytes().replace(PIECES, (FOLDER / "pieces.svg").read_bytes()).decode("utf-8")
+    text = index_of(SPECTATORS).decode("utf-8")
     text = re.sub(r'(href|src)="/(?!round\.pgn)', r'\1="../', text).replace('"/round.pgn"', '"round.pgn"')
     text = text.replace("<nav>", f'<nav><a href="../index.html">{_text(Message("site.all_rounds"))}</a>')
     text = text.replace('<html lang="en">', '<html lang="en" data-files="">')

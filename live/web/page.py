@@ -26,6 +26,8 @@ from live.loop import Timer, Turns
 from live.web.address import Door
 from live.web.serving import PART, Content, Server
 from live.web.view import BoardView, Ply, RoundView, Shows, json_text, pgn_path, round_pgn, round_text
+from live.words.catalogue import used_in
+from live.words.message import ENGLISH
 
 __all__ = ["BoardView", "Page", "Ply", "RoundView"]
 
@@ -39,9 +41,9 @@ KINDS = {
     ".css": "text/css; charset=utf-8",
     ".svg": "image/svg+xml",
 }
-PIECES = b"<!-- pieces.svg -->"  # the place in the page where they are put in
-SHARED = ("boards.js", "card.js", "chess.js", "clock.js", "diagram.js", "game.js", "grid.js", "icon.svg", "names.js", "page.css",
-          "files.js", "pieces.svg", "sheet.js", "source.js", "stream.js")  # fmt: skip
+PIECES, WORDS = b"<!-- pieces.svg -->", b"<!-- words.en.json -->"  # the places in the page where they are put in
+SHARED = ("boards.js", "card.js", "chess.js", "clock.js", "diagram.js", "game.js", "grid.js", "icon.svg", "message.js", "names.js",
+          "page.css", "files.js", "pieces.svg", "sheet.js", "source.js", "stream.js")  # fmt: skip
 PGN = "application/vnd.chess-pgn"
 JSON = "application/json"
 
@@ -98,7 +100,8 @@ class Page:
         self._publishes: Optional[Timer] = None
         self._published_at = loop.now() - PAUSE
         self._key = hashlib.blake2b(door.embed.encode("ascii")).digest()
-        self._files = {path: self._content(KINDS[file.suffix], _read(file)) for path, file in _files(site).items()}
+        self._files = {f"/{name}": self._content(KINDS[pathlib.Path(name).suffix], (FOLDER / name).read_bytes()) for name in site.files}
+        self._files["/"] = self._content(KINDS[".html"], index_of(site))
         self._made: Dict[str, Content] = {}
         self._publish(self._round)
         self._server = Server(loop, door, self, trouble)
@@ -248,11 +251,9 @@ def event(kind: str, data: bytes, identifier: str = "") -> bytes:
     return f"event: {kind}\n{named}data: ".encode("ascii") + data + b"\n\n"
 
 
-def _files(site: Site) -> Dict[str, pathlib.Path]:
-    """The page's own files, by their paths."""
-    return {"/": FOLDER / site.index, **{f"/{name}": FOLDER / name for name in site.files}}
-
-
-def _read(file: pathlib.Path) -> bytes:
-    """A file as it is served. The pieces come with the page, so no board is shown empty if another answer fails."""
-    return file.read_bytes().replace(PIECES, (FOLDER / "pieces.svg").read_bytes() if file.suffix == ".html" else PIECES)
+def index_of(site: Site) -> bytes:
+    """The page at `/`. The pieces come with it, so no board is shown empty if another answer fails; and so do the sentences of its
+    scripts, for which nobody waits then."""
+    code = "".join((FOLDER / name).read_text("utf-8") for name in site.files if name.endswith(".js"))
+    words = json_text(used_in(code, ENGLISH)).replace(b"<", rb"\u003c")
+    return (FOLDER / site.index).read_bytes().replace(PIECES, (FOLDER / "pieces.svg").read_bytes()).replace(WORDS, words)

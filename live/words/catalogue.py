@@ -13,7 +13,9 @@ from typing import Dict, FrozenSet, List, Mapping
 
 PLACE = re.compile(r"\{([A-Za-z_]+)\}")
 FOLDER = os.path.join(os.path.dirname(os.path.dirname(os.path.dirname(os.path.realpath(__file__)))), "shared")
+KEY = re.compile(r"'([a-z_]+\.[a-z_]+)'")  # as it stands in JavaScript, without the end for one or several
 ONE, MANY = ".one", ".many"  # the ends of two keys: one sentence for one thing, another for several
+LINKS = "join."  # how the keys of sentences that link texts begin
 
 
 class NoCatalogue(ImportError):
@@ -42,6 +44,12 @@ def read(path: str) -> Dict[str, str]:
 def places_of(sentence: str) -> FrozenSet[str]:
     """The names of its places."""
     return frozenset(name[:1].lower() + name[1:] for name in PLACE.findall(sentence))
+
+
+def used_in(code: str, sentences: Mapping[str, str]) -> Dict[str, str]:
+    """Those of the sentences whose keys stand in a page's scripts, and those that link texts."""
+    keys = set(KEY.findall(code))
+    return {key: text for key, text in sentences.items() if key in keys or key.rpartition(".")[0] in keys or key.startswith(LINKS)}
 
 
 def faults(sentences: Mapping[str, str], english: Mapping[str, str]) -> List[str]:

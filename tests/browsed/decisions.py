@@ -67,7 +67,9 @@ Promise.all(['hidden', 'state'].map((name) => import(`/web/board/${name}.js`)).c
 def files() -> Dict[str, bytes]:
     """What the browser is given: the modules and the cases."""
     found = [path for folder in FOLDERS for path in (TOP / folder).rglob("*") if path.suffix in (".js", ".mjs", ".json")]
-    return {"/": b"<!doctype html><title>cases</title>", **{f"/{path.relative_to(TOP)}": path.read_bytes() for path in found}}
+    words = (TOP / "shared" / "words.en.json").read_bytes().replace(b"<", rb"\u003c")
+    page = b'<!doctype html><title>cases</title><script type="application/json" id="words">%b</script>' % words
+    return {"/": page, **{f"/{path.relative_to(TOP)}": path.read_bytes() for path in found}}
 
 
 def fails(tab: Tab, name: str) -> int:

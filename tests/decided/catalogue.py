@@ -1,38 +1,51 @@
 """What people read stands in one catalogue: each key is used, each place is given, and no sentence stands in code."""
 
 import ast
+import itertools
 import json
 import pathlib
 import re
 import tempfile
-from typing import Dict, FrozenSet, Iterator, List, NamedTuple, Set, Tuple
+from typing import Dict, FrozenSet, Iterator, List, Mapping, NamedTuple, Set, Tuple
 
-from live.words.catalogue import MANY, ONE, NoCatalogue, faults, path_of, places_of, read, read_like
+from live.web.page import ARBITER, SPECTATORS, index_of
+from live.words.catalogue import LINKS, MANY, ONE, NoCatalogue, faults, path_of, places_of, read, read_like
 from live.words.message import ENGLISH, Message, has, is_of, linked, plural, text_of, written
 
+from decided import javascript
+from decided.cases import cases
+from decided.javascript import Token
 from decided.table import refused, same
 
 TOP = pathlib.Path(__file__).resolve().parents[2]
-LIVE = TOP / "live"
-WORDS = LIVE / "words"
+LIVE, WEB = TOP / "live", TOP / "web"
 WORD = re.compile(r"""(?:^|(?<=[\s("'>]))[A-Za-z][A-Za-z']*(?=$|[\s.,:;?!)"'<])""")
 FEW = 3  # words that make a sentence
 # What reads as a sentence and is none, by the file in which it stands: how each begins.
 NO_SENTENCES: Dict[str, Tuple[str, ...]] = {
-    "device/protocol.py": ("not eight",),  # only who programs sees it
-    "doors/dgt_live.py": ("usage:",),  # its --help
-    "doors/dgt_round.py": ("usage:",),
-    "game/answers.py": ("input: too long",),  # what dgt_replay prints
-    "game/way_back.py": ("as it is",),  # a value, as the next ones
-    "guard.py": ("Traceback", '  File "'),  # as Python prints where an error was raised
-    "round/settings.py": ("# The settings of the tournament",),  # a file that is made
-    "round/site.py": ("default-src", "<link"),  # HTML
-    "round/tournament.py": ("board;white;",),  # the headings of a table
-    "terminal/editing.py": ("to the end", "to the start"),
-    "web/http.py": ("Method Not", "Content Too", "URI Too", "Request Header", "HTTP Version", "default-src"),  # as HTTP has them
-    "words/catalogue.py": ("{} can't be read", "{} is no JSON", "{} is no object", "{} is no key", "{} has {}"),  # where there is no catalogue
-    "words/message.py": ("the catalogue has no {}",),
+    "live/device/protocol.py": ("not eight",),  # only who programs sees it
+    "live/doors/dgt_live.py": ("usage:",),  # its --help
+    "live/doors/dgt_round.py": ("usage:",),
+    "live/game/answers.py": ("input: too long",),  # what dgt_replay prints
+    "live/game/way_back.py": ("as it is",),  # a value, as the next ones
+    "live/guard.py": ("Traceback", '  File "'),  # as Python prints where an error was raised
+    "live/round/settings.py": ("# The settings of the tournament",),  # a file that is made
+    "live/round/site.py": ("default-src", "<link"),  # HTML
+    "live/round/tournament.py": ("board;white;",),  # the headings of a table
+    "live/terminal/editing.py": ("to the end", "to the start"),
+    "live/web/page/message.js": ("the catalogue has no {}",),
+    "live/web/http.py": ("Method Not", "Content Too", "URI Too", "Request Header", "HTTP Version", "default-src"),  # as HTTP has them
+    # Where there is no catalogue.
+    "live/words/catalogue.py": ("{} can't be read", "{} is no JSON", "{} is no object", "{} is no key", "{} has {}"),
+    "live/words/message.py": ("the catalogue has no {}",),
+    "web/device/protocol.js": ("not eight",),
+    "web/game/answers.js": ("input: too long",),
+    "web/game/attended.js": ("live wrote:",),  # what the program has written, and can't be read
+    "web/game/way_back.js": ("as it is", "input: too long"),
+    "web/loop.js": ("\n  onmessage",),  # code
 }
+MESSAGE = "live/web/page/message.js"
+MAKING = ("message", "plural", "linked")  # its functions that make messages
 
 
 class Call(NamedTuple):
@@ -44,8 +57,14 @@ class Call(NamedTuple):
 
 
 def modules() -> List[Tuple[str, ast.Module]]:
-    """The modules of live/ with their paths there."""
-    return [(str(path.relative_to(LIVE)), ast.parse(path.read_text("utf-8"))) for path in sorted(LIVE.rglob("*.py"))]
+    """The modules of live/ with their paths."""
+    return [(str(path.relative_to(TOP)), ast.parse(path.read_text("utf-8"))) for path in sorted(LIVE.rglob("*.py"))]
+
+
+def scripts() -> List[Tuple[str, List[Token]]]:
+    """The modules of web/, and of the pages of a round, with their paths."""
+    found = [*sorted(LIVE.rglob("*.js")), *sorted(WEB.rglob("*.js"))]
+    return [(str(path.relative_to(TOP)), javascript.tokens(path.read_text("utf-8"))) for path in found]
 
 
 def constants(node: ast.expr) -> List[str]:
@@ -54,9 +73,26 @@ def constants(node: ast.expr) -> List[str]:
 
 
 def calls() -> Iterator[Call]:
-    """All messages that are made outside of live/words/."""
+    """All messages that are made, but in the packages of words."""
+    return itertools.chain(calls_in_python(), calls_in_javascript())
+
+
+def calls_in_javascript() -> Iterator[Call]:
+    for path, found in scripts():
+        for name, line, (first, *rest) in () if path == MESSAGE else javascript.calls(found, MAKING):
+            keys, given = [text for kind, text, _ in first if kind == "text"], frozenset().union(*map(javascript.fields, rest[-1:]))
+            if name == "message":
+                yield Call(f"{path}:{line}", tuple(keys), given)
+            elif name == "plural":
+                given = given if len(rest) > 1 else frozenset()
+                yield from (Call(f"{path}:{line}", (key + ONE, key + MANY), given | {"count"}) for key in keys)
+            else:
+                yield from (Call(f"{path}:{line}", (f"join.{how}",), frozenset({"front", "last"})) for how in keys)
+
+
+def calls_in_python() -> Iterator[Call]:
     for path, tree in modules():
-        if path.startswith("words/"):
+        if path.startswith("live/words/"):
             continue
         for node in ast.walk(tree):
             if not isinstance(node, ast.Call) or not isinstance(node.func, ast.Name):
@@ -130,13 +166,13 @@ def each_place_is_given() -> None:
 def no_sentence_in_code() -> None:
     """Three words one after the other are a sentence, unless the list above says what else they are."""
     seen: Set[Tuple[str, str]] = set()
-    for path, tree in modules():
-        known = NO_SENTENCES.get(path, ())
-        for line, text in strings(tree):
-            if len(WORD.findall(text)) >= FEW:
-                begins = next((front for front in known if text.startswith(front)), "")
-                seen.add((path, begins))
-                same(f"live/{path}:{line}: {text[:60]}", bool(begins), True)
+    texts = [(path, line, text) for path, tree in modules() for line, text in strings(tree)]
+    texts += [(path, line, text) for path, found in scripts() for kind, text, line in found if kind == "text"]
+    for path, line, text in texts:
+        if len(WORD.findall(text)) >= FEW:
+            begins = next((front for front in NO_SENTENCES.get(path, ()) if text.startswith(front)), "")
+            seen.add((path, begins))
+            same(f"{path}:{line}: {text[:60]}", bool(begins), True)
     listed = {(path, begins) for path, fronts in NO_SENTENCES.items() for begins in fronts}
     same("what is listed and isn't there", sorted(listed - seen), [])
 
@@ -154,13 +190,27 @@ def how_it_is_written() -> None:
     same("one and many are pairs", [key for key in sorted(ends) if not {key + ONE, key + MANY} <= set(ENGLISH)], [])
 
 
+def pages_have_theirs() -> None:
+    """A page has the sentences that its scripts need, and no other."""
+    for site in (ARBITER, SPECTATORS):
+        _, _, rest = index_of(site).partition(b'id="words">')
+        words = json.loads(rest.partition(b"</script>")[0])
+        own = {f"live/web/page/{name}" for name in site.files}
+        made = {key for call in calls_in_javascript() if call.place.partition(":")[0] in own for key in call.keys}
+        same(f"{site.index}: what its scripts need", sorted(made - set(words)), [])
+        same(f"{site.index}: no other", [key for key in words if key not in made and not key.startswith(LINKS)], [])
+        same(f"{site.index}: as in the catalogue", {key: ENGLISH[key] for key in words}, words)
+
+
 def leftmost() -> None:
-    """The package of words imports nothing of the recorders."""
-    for path in sorted(WORDS.glob("*.py")):
-        nodes = list(ast.walk(ast.parse(path.read_text("utf-8"))))
+    """What makes messages imports nothing of the recorders."""
+    for path, tree in modules():
+        nodes = list(ast.walk(tree)) if path.startswith("live/words/") else []
         names = [node.module or "" for node in nodes if isinstance(node, ast.ImportFrom)]
         names += [one.name for node in nodes if isinstance(node, ast.Import) for one in node.names]
-        same(path.name, [name for name in names if name.startswith("live") and not name.startswith("live.words.")], [])
+        same(path, [name for name in names if name.startswith("live") and not name.startswith("live.words.")], [])
+    for path, found in scripts():
+        same(path, path == MESSAGE and "import" in [text for kind, text, _ in found if kind == "name"], False)
 
 
 # A language of which nobody knows a word: each sentence is its key and its places.
@@ -193,6 +243,23 @@ def another_language() -> None:
     same("the number of one may be left out", faults({"a.one": "one", "a.many": "{count}"}, english), [])
 
 
+def made(key: str, places: Mapping[str, object]) -> Message:
+    """A message of the cases for both languages."""
+    return Message(key, **{name: made(*place) if isinstance(place, list) else place for name, place in places.items()})
+
+
+def as_in_javascript() -> None:
+    """The same cases play over message.js."""
+    for key, places, text in cases("words", "made"):
+        same(key, made(key, places), text)
+    for key, count, text in cases("words", "plural"):
+        same(text, plural(key, count), text)
+    for how, texts, text in cases("words", "linked"):
+        same(text, linked(how, texts), text)
+    for key, places in cases("words", "no messages"):
+        refused(key, LookupError, made, key, places)
+
+
 def messages() -> None:
     """A message is its English text, and keeps what any other language needs."""
     illegal = Message("typed.illegal", word="Nf9", place=Message("typed.white_to_move"), nothing_added=Message("typed.nothing_added"))
@@ -200,21 +267,14 @@ def messages() -> None:
     same("in another language", text_of(illegal, OTHER), "TYPED.ILLEGAL TYPED.NOTHING_ADDED TYPED.WHITE_TO_MOVE Nf9")
     same("what is no message", text_of("Anna", OTHER), "Anna")
     same("it is a text", (illegal == str(illegal), hash(illegal) == hash(str(illegal)), illegal.key), (True, True, "typed.illegal"))
-    same("one thing", plural("table.boards", 1), "1 board")
-    same("several", plural("table.boards", 2), "2 boards")
     same("none", plural("table.boards", 0).key, "table.boards.many")
-    same("joined", linked("semicolon", ("one", "two", "three")), "one; two; three")
-    same("joined, alone", linked("semicolon", ["one"]), "one")
-    same("joined, nothing", linked("semicolon", []), "")
-    same("a capital", Message("join.capital", text=Message("advice.plug_in")), "Plug it in again; the recording then goes on")
     same("with other things in it", illegal.with_places(lambda place: "x"), "x is no legal move: x. x")
     same("of a key", (is_of(illegal, "typed.illegal"), is_of(illegal, "typed.neither")), (True, False))
     same("of a key, read from a file", (is_of(str(illegal), "typed.illegal"), is_of(str(illegal), "typed.misnumbered")), (True, False))
     same("has one inside", (has(illegal, "typed.white_to_move"), has(illegal, "typed.black_to_move")), (True, False))
     same("what is no message has none", has("Anna", "side.white"), False)
-    refused("no such key", LookupError, Message, "typed.nobody_has_this")
-    refused("no such place", KeyError, Message, "typed.illegal")
     same("what it says", refused("no key in another language", LookupError, written, {}, "side.white", {}), "the catalogue has no side.white")
 
 
-TABLES = [each_key_is_used, each_place_is_given, no_sentence_in_code, how_it_is_written, leftmost, another_language, messages]
+TABLES = [each_key_is_used, each_place_is_given, no_sentence_in_code, how_it_is_written, pages_have_theirs, leftmost, another_language,
+          as_in_javascript, messages]  # fmt: skip

@@ -1,6 +1,6 @@
 /** What is typed in a line; what the program answers to it, and the sentences for that. */
 import { meaning, placeOf, readAnswer, refuse } from "/web/game/answers.js";
-import { ALL_WAYS, BOTH_LOSE, readWords } from "/web/game/typed.js";
+import { BOTH_LOSE, HELP, readWords } from "/web/game/typed.js";
 
 const ON_HELP = ["1-0", "Nf3 Nc6", "back", "14. Bxf6", "*", "ok"];
 
@@ -15,8 +15,7 @@ export function words(counts, cases) {
   for (const text of cases("helps")) {
     counts.same(text, readWords(text), { kind: "helped" });
   }
-  counts.same("all ways", ON_HELP.filter((part) => ALL_WAYS.includes(part)), ON_HELP);
-  counts.same("in one line", ALL_WAYS.length < 100, true);
+  counts.same("all ways", ON_HELP.filter((part) => HELP.includes(part)), ON_HELP);
   for (const text of cases("noughts")) {
     counts.same(text, counts.refused(text, "Refused", () => readWords(text)).startsWith(BOTH_LOSE), true);
   }

@@ -2,8 +2,11 @@
 
 const LETTERS = ".PRNBKQprnbkq*"; // by piece code
 
-/** A value as JSON has it: what comes never is null, bytes are numbers, and the fields of an object stand in order. */
+/** A value as JSON has it: what comes never is null, bytes are numbers, a message is a text, and the fields of an object stand in order. */
 function plain(value) {
+  if (value instanceof String) {
+    return String(value);
+  }
   if (value === Infinity || value === undefined) {
     return null;
   }

@@ -126,7 +126,7 @@ def followed(site: Site, page: Page) -> None:
     page.says("other boards, in their order", order, "#3,#1")
     site.show(a_board(1, 1, white=NAME, black=NAME))
     page.reads("a name with markup", tile + ".player.w", NAME)
-    page.says("is no markup", "document.querySelectorAll('img, b, script:not([src])').length", 0)
+    page.says("is no markup", "document.querySelectorAll('img, b, script:not([src], #words)').length", 0)
     for plies in (2, 3, 4, 5, 6):
         site.show(a_board(1, plies))
         page.follows(f"{plies} plies", tile + ".last", ["1... e5", "2. Nf3", "2... Nc6", "3. Bc4", "3... Bc5"][plies - 2])

@@ -79,7 +79,7 @@ def watched() -> None:
         page.reads("a name on a line of its own", tile + ".player.w", NAME)
         page.reads("title, rating, federation below it", tile + ".w ~ .about", "WGM 2441 GER")
         page.reads("and the team", tile + ".w ~ .team", "SC Turm")
-        page.says("a name with markup is no markup", "document.querySelectorAll('img, b, script:not([src])').length", 0)
+        page.says("a name with markup is no markup", "document.querySelectorAll('img, b, script:not([src], #words)').length", 0)
         page.reads("without them", ".tile[href='#2'] .player.w", "White 2")
         page.reads("White's clock stands", tile + ".seat .w ~ .clock", "1:29:41")
         runs = f"{page.text(tile + '.seat .b ~ .clock')} <= '1:29:26' && {page.text(tile + '.seat .b ~ .clock')} > '1:27:00'"

@@ -49,7 +49,7 @@ def nothing_private() -> None:
 
 def what_to_do() -> None:
     """The page says what the terminal says, and where lines are typed."""
-    look = Message("advice.look", ok="5 ok")
+    look = Message("advice.look", how=Message("typed.line", line="5 ok"))
     for advice, expected in (("Plug it in", "Plug it in"), ("", ""), (look, f"{look}. {IN_THE_TERMINAL}")):
         same(advice, view_of(cast(Game, Stand("", "WRONG: e2", advice))).mend, expected)
 

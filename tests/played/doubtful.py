@@ -47,6 +47,12 @@ class Clocked:
                 self._shown(0)
         until_dumped(self.board, self.live.name)
 
+    def stops(self) -> None:
+        """Somebody stops the clock."""
+        white, black = self._times
+        self.board.clock(white, black, runs=False, lever=self._lever)
+        until_dumped(self.board, self.live.name)
+
     def waits(self, seconds: float, counts: int = 0) -> None:
         """Time passes, and the clock says so."""
         rest(seconds)
@@ -134,6 +140,50 @@ def hidden_before_the_first_move(folder: pathlib.Path) -> None:
         same(stop(live), 0)
 
 
+def pushed_before_the_result(folder: pathlib.Path) -> None:
+    """White resigns, the clock is stopped, and somebody pushes a bishop. The answer to the result names that move, until somebody has
+    looked."""
+    game = Clocked(folder)
+    game.play(KNIGHTS)
+    game.stops()
+    game.board.play("f1b5")
+    until_dumped(game.board, game.live.name)
+    game.live.type("0-1")
+    until_line(game.live, "LOOK since 2... Nc6: perhaps nobody played the last move before the result")
+    until_line(game.live, "back 2... Nc6; then the result again")
+    game.live.type("ok")
+    until_line(game.live, "acknowledged: LOOK since 2... Nc6")
+    same(ended(game.live), 0)
+
+
+def ended_by_a_resignation(folder: pathlib.Path) -> None:
+    """White resigns before Black has pressed the clock, and it is stopped: nothing is asked."""
+    game = Clocked(folder)
+    game.play(KNIGHTS[:3])
+    game.play(KNIGHTS[3:], presses=False)
+    game.stops()
+    game.live.type("0-1")
+    until_line(game.live, "result 0-1")
+    same(ended(game.live), 0)
+    assert "LOOK" not in game.live.lines(), game.live.lines()
+
+
+def ended_unseen(folder: pathlib.Path) -> None:
+    """The kings are set in the centre, and the cable is pulled: nobody sees whether the game goes on. It is over a little later, and
+    somebody must look."""
+    game = Clocked(folder, has_clock=False)
+    game.play(KNIGHTS, pace=None)
+    game.board.kings_in_centre("e4", "d5")
+    until_line(game.live, "result 1-0")
+    game.board.pull()
+    until_line(game.live, words.UNPLUGGED)
+    until_line(game.live, "LOOK after 2... Nc6: the board wasn't heard for 17 seconds after its result")
+    until_line(game.live, "if the game isn't over, type *")
+    same(ended(game.live), 0)
+    until_game(game.live.name, "1. e4 e5 2. Nf3 Nc6 1-0")
+    same(bytes_of(game.live.name + ".look").decode().split("\t")[0], "after 2... Nc6")
+
+
 def doubtful_to_the_end(folder: pathlib.Path) -> None:
     """The cable is out for seven seconds behind the last move, so moves may be missing. Then the pieces are set up, which ends the game: the
     moves may be missing all the same, and somebody must still look."""
@@ -154,6 +204,9 @@ def doubtful_to_the_end(folder: pathlib.Path) -> None:
 
 
 CASES = [
+    pushed_before_the_result,
+    ended_by_a_resignation,
+    ended_unseen,
     doubtful_to_the_end,
     hidden_before_the_first_move,
     taken_back_by_agreement,

@@ -1,6 +1,7 @@
 // A game whose pieces were still being set up when its capture began: when the program says so, it begins anew with the start.
 
 import { fromStart } from '../game/reading.js';
+import { message } from '../../live/web/page/message.js';
 import { Again } from './again.js';
 
 export class Beginning {
@@ -28,7 +29,7 @@ export class Beginning {
   /** Makes its capture begin with the start and what came after it. If that fails, what comes is kept with the set-up. */
   tryIt() {
     const { recorder } = this;
-    const told = ({ message }) => `${recorder.name} can't begin with the start yet (${message}). Make room: it is tried again`;
+    const told = (error) => message('next.not_from_the_start', { name: recorder.name, why: error.message });
     return this.again.try(() => recorder.typing.exclusively(() => this.renew()), told, () => this.tryIt());
   }
 
@@ -37,6 +38,6 @@ export class Beginning {
     if (!this.isOn) return;
     const content = await fromStart(recorder.calls, recorder.options, recorder.capture.view(), this.bytes);
     await recorder.renew(content, true, { looks: [] });
-    recorder.says(`the pieces have been set up: ${recorder.name} begins now`);
+    recorder.says(message('board.set_up', { name: recorder.name }));
   }
 }

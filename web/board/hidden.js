@@ -2,6 +2,7 @@
 // more moves, and keeps all that the game has, somebody is told of it.
 
 import { gameOf } from '../game/reading.js';
+import { plural } from '../../live/web/page/message.js';
 import { Kind } from './state.js';
 
 const LONG = 15.0; // seconds in which a board is otherwise before it is read so, and from one reading to the next
@@ -16,10 +17,7 @@ export function foundBeyond(plies, others) {
 
 /** What to do about so many moves; empty without any. Pure. */
 export function adviceOf(count) {
-  if (count === 0) return '';
-  const moves = count === 1 ? 'one more move' : `${count} more moves`;
-  return `Two hands may have hidden moves: Recover finds ${moves}. Open Names and options, tick Recover moves, and compare the moves with ` +
-    "the players' score sheets. If they are wrong, take the tick off again: the game is then as before.";
+  return count === 0 ? '' : plural('mend.hidden', count);
 }
 
 export class Hidden {

@@ -5,9 +5,10 @@ import { isReadAnew, nextBegins } from '../game/afterwards.js';
 import { ofBoard, startOf } from '../game/options.js';
 import { fromStart, standsAt } from '../game/reading.js';
 import { lineOf } from '../game/report.js';
+import { message } from '../../live/web/page/message.js';
 import { Again } from './again.js';
 
-const Reason = { RESULT: 'it has a result', NEXT: 'the next one was asked for' }; // why the game before is over
+const Reason = { RESULT: message('over.has_a_result'), NEXT: message('over.next_wanted') }; // why the game before is over
 
 const isPicture = (line) => line !== null && line.event.kind === 'picture';
 const pictureOf = ({ offset, event }) => [offset, event.placement];
@@ -86,7 +87,7 @@ export class NextGame {
 
   /** Begins the next game. If that fails, what comes is kept with the game that is over, after its end. */
   tryIt() {
-    const told = ({ message }) => `the next game can't be begun (${message}). Make room: it is tried again`;
+    const told = (error) => message('next.not_begun', { why: error.message });
     return this.again.try(() => this.begin(this.at), told, () => this.recorder.heardAll());
   }
 
@@ -97,7 +98,7 @@ export class NextGame {
       if (!recorder.isOver || this.at !== offset) return;
       const { board, calls, capture, options } = recorder;
       await recorder.begin(await fromStart(calls, options, capture.view(), offset + 1), board.next || {});
-      recorder.hears.says(`the pieces are at the start: ${recorder.game.name} begins`);
+      recorder.hears.says(message('next.begins_at_the_start', { name: recorder.game.name }));
     });
   }
 
@@ -117,7 +118,7 @@ export class NextGame {
       }
       const ended = recorder.isOver ? recorder.game : { ...recorder.game, end: capture.size };
       await recorder.begin(dump, given, ended);
-      recorder.hears.says(`${recorder.game.name} begins`);
+      recorder.hears.says(message('next.begins', { name: recorder.game.name }));
     });
   }
 
@@ -126,7 +127,7 @@ export class NextGame {
     const { recorder } = this;
     recorder.knows({ next: given });
     if (!recorder.isOver) recorder.closeGame(recorder.capture.size, Reason.NEXT);
-    recorder.hears.says(`the board ${shows}: set up the pieces, and the next game begins`);
+    recorder.hears.says(message('next.set_up', { shows }));
     recorder.hears.changed();
   }
 

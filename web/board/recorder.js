@@ -19,13 +19,15 @@ import { Capture } from '../kept/capture.js';
 import { LARGEST } from '../kept/limit.js';
 import { spread, withMore } from '../kept/spread.js';
 import { Times } from '../kept/times.js';
+import { lasting } from '../../live/web/page/chess.js';
+import { linked, message } from '../../live/web/page/message.js';
 import { Attending } from './attending.js';
 import { Beginning } from './beginning.js';
 import { Cable } from './cable.js';
 import { Hidden } from './hidden.js';
 import { NextGame } from './next_game.js';
 import { Room } from './room.js';
-import { DISK_FULL, Kind, lasting, stateOf } from './state.js';
+import { DISK_FULL, Kind, stateOf } from './state.js';
 import { Typing } from './typing.js';
 import { another, back as backAgain, mayTake } from './whose.js';
 
@@ -33,17 +35,15 @@ const TICK = 1.0; // seconds between two looks at what waits
 const SAID = [Kind.WRONG, Kind.NO_START]; // states that are reported as lines too
 const UNSEEN = ['UNPLUGGED', 'SILENT', 'WAITS']; // states in which the board may have shown nothing
 
-const RESULT_STANDS = 'ends in 10 seconds, unless the result changes';
-const TYPED_STANDS = 'ends in 10 seconds; if the result was given by mistake, press No result';
-const GOES_ON = 'If it goes on, press No result';
+const HOW = message('press.no_result');
 // Why a game is over, as the program says it.
 const [CORRECTED, UNFINISHED] = ['CORRECTED', 'UNFINISHED'];
 const WHY = {
-  STOOD: 'it has a result',
-  'PLAYS-ON': `another move was made after its result. ${GOES_ON}`,
-  [CORRECTED]: `its last move was corrected after its result. ${GOES_ON}`,
-  'SET-UP': 'it has a result',
-  [UNFINISHED]: 'the pieces are at the start again. Give its result beside the next game',
+  STOOD: message('over.has_a_result'),
+  'PLAYS-ON': message('over.if_it_goes_on', { why: message('over.played_on'), how: HOW }),
+  [CORRECTED]: message('over.if_it_goes_on', { why: message('over.corrected'), how: HOW }),
+  'SET-UP': message('over.has_a_result'),
+  [UNFINISHED]: linked('stop', [message('over.set_up'), message('over.give_its_result')]),
 };
 
 export class Recorder {
@@ -175,7 +175,7 @@ export class Recorder {
     this.course.take(line);
     if (isOld || offset >= this.endsAt) return;
     if (event.kind === 'recovered') {
-      this.hears.says(`${event.text}: look whether these moves were played`);
+      this.hears.says(message('board.recovered', { pair: event.text }));
     } else if (event.kind === 'move' || event.kind === 'result') {
       this.hearChange(event, offset);
     }
@@ -184,7 +184,8 @@ export class Recorder {
   hearChange(change, offset) {
     this.hears.says(shownOf(change), change.kind === 'move');
     this.wantText();
-    if (change.kind === 'result' && change.outcome !== '*') this.hears.says(offset < this.typedTo ? TYPED_STANDS : RESULT_STANDS);
+    if (change.kind !== 'result' || change.outcome === '*') return;
+    this.hears.says(offset < this.typedTo ? message('over.ends_if_meant') : message('over.ends_unless_changed'));
   }
 
   /** Whether there is something to look at since moves were made after the game's end. */
@@ -294,8 +295,7 @@ export class Recorder {
   }
 
   sayUnheard(seconds) {
-    const what = `this computer slept, or the browser was stopped, for ${lasting(seconds)}`;
-    if (!this.isOver) this.hears.says(`${what}: the board wasn't heard`);
+    if (!this.isOver) this.hears.says(message('board.slept_here', { time: lasting(seconds) }));
   }
 
   says(text) {
@@ -322,13 +322,14 @@ export class Recorder {
 
   unplugged() {
     this.boardIsGone();
-    if (!this.isOver) this.hears.says("its device isn't there: plug it in again; the recording then goes on");
+    const name = message('port.its_device');
+    if (!this.isOver) this.hears.says(message('cable.isnt_there', { name, advice: message('advice.plug_in') }));
     this.hears.changed();
   }
 
   taken(why) {
-    this.trouble = "its device can't be opened";
-    this.hears.says(`its device can't be opened: ${why}`);
+    this.trouble = message('port.not_opened');
+    this.hears.says(linked('colon', [this.trouble, why]));
     this.hears.changed();
   }
 
@@ -336,9 +337,8 @@ export class Recorder {
   silence(isSilent, word) {
     this.isSilent = isSilent;
     if (isSilent) this.boardIsGone();
-    const what = "no board answers on its device; it is asked again and again. Look at the cable, and at the board's power";
-    if (isSilent) this.hears.says(what);
-    else if (word === HEARD) this.hears.says('the board answers again');
+    if (isSilent) this.hears.says(message('port.no_answer'));
+    else if (word === HEARD) this.hears.says(message('port.answers_again'));
   }
 
   numbered(number) {
@@ -370,7 +370,7 @@ export class Recorder {
     this.cable.loses();
     this.knows({ serial: '' });
     this.attending.takeTags();
-    this.hears.says('another game has its board now');
+    this.hears.says(message('cable.taken_away'));
   }
 
   // Alarms.
@@ -392,14 +392,15 @@ export class Recorder {
     for (const look of this.alarms.raise(raised, this.course)) this.tellLook(look);
   }
 
-  tellLook(look, otherwise = '') {
+  tellLook(look, ...otherwise) {
     if (!look) return;
-    this.hears.says(`${textOfLook(look)}. Look at it, and press OK${otherwise}`);
+    const advice = linked('semicolon', [message('advice.look', { how: message('press.ok') }), ...otherwise]);
+    this.hears.says(linked('stop', [textOfLook(look), advice]));
     this.looksChanged();
   }
 
   looksChanged() {
-    this.game = { ...this.game, looks: this.alarms.looks.open };
+    this.game = { ...this.game, looks: this.alarms.looks.kept };
     this.keepGame();
     this.hears.changed();
   }
@@ -413,7 +414,7 @@ export class Recorder {
     if (takes) {
       this.hears.takes(this.cable.other);
       this.cable.takeOther();
-      seen += `; the board with serial number ${this.cable.number} is recorded here`;
+      seen = message('look.acknowledged_and_taken', { seen, number: this.cable.number });
     }
     this.hears.says(seen);
     this.looksChanged();
@@ -429,7 +430,7 @@ export class Recorder {
         this.isUnkept = false;
       },
       (error) => {
-        if (!this.isUnkept) this.hears.says(`the browser can't keep a change (${error.message}): make room on the disk`);
+        if (!this.isUnkept) this.sayUnkept(error);
         this.isUnkept = true;
       },
     );
@@ -444,15 +445,17 @@ export class Recorder {
 
   /** Keeps something besides the capture. A failure is reported. */
   keep(change) {
-    change().catch((error) => this.hears.says(`the browser can't keep a change (${error.message}): make room on the disk`));
+    change().catch((error) => this.sayUnkept(error));
+  }
+
+  sayUnkept(error) {
+    this.hears.says(message('keep.change', { why: error.message }));
   }
 
   diskChanged() {
     const { trouble, why } = this.capture;
-    const what = `${trouble}: the browser can't keep what the board sends (${why}). Don't reload this page.`;
-    const room = trouble === DISK_FULL ? 'Make room on the disk' : 'Is there room on the disk?';
-    const until = 'what comes is in memory alone until then, and is tried again each second';
-    this.hears.says(trouble ? `${what} ${room}: ${until}` : 'all that the board has sent is kept again');
+    const room = trouble === DISK_FULL ? message('keep.make_room') : message('keep.is_there_room');
+    this.hears.says(trouble ? message('keep.in_memory', { trouble, why, room }) : message('keep.again'));
     this.hears.changed();
   }
 
@@ -555,8 +558,8 @@ export class Recorder {
 
   /** Pieces were set up before anybody gave a result. These plies were part of that. */
   tellSetUp(plies, isSure) {
-    if (plies.length > 0) this.hears.says(`taken for setting up, and not for moves: ${plies.map(wordsOf).join('; ')}`);
-    if (!isSure) this.hears.says(`LOOK at the last moves of ${this.game.name}: where the game ended isn't sure`);
+    if (plies.length > 0) this.hears.says(message('over.dropped', { plies: plies.map(wordsOf).join('; ') }));
+    if (!isSure) this.hears.says(message('over.end_not_sure', { pgn: this.game.name }));
   }
 
   /** So many moves were made though the game is over: somebody must look, once for each of them. */
@@ -564,7 +567,7 @@ export class Recorder {
     const { plies, result } = this.course;
     if (this.played <= (this.game.played || 0)) return;
     this.game = { ...this.game, played: this.played };
-    this.tellLook(this.alarms.add(wentOn(reached(plies), this.played, result)), `; ${ISNT_OVER}`);
+    this.tellLook(this.alarms.add(wentOn(reached(plies), this.played, result)), ISNT_OVER);
   }
 
   /** The game is not over any more. */
@@ -611,10 +614,10 @@ export class Recorder {
   }
 
   closeGame(end, reason) {
-    this.game = { ...this.game, end, looks: this.alarms.looks.open };
+    this.game = { ...this.game, end, looks: this.alarms.looks.kept };
     this.keepGame();
     this.attending.tellNow(OVER, end);
-    this.hears.says(`${this.game.name} is over: ${reason}`);
+    this.hears.says(message('over.is_over', { name: this.game.name, why: reason }));
     this.reread();
   }
 
@@ -700,7 +703,7 @@ export class Recorder {
       const timesOf = (game, capture) =>
         isOfLonger ? this.times.upTo(longer.length, game, capture, 0, lines) : this.times.upTo(opened, game, capture);
       await this.renew(content, false, { typedTo: this.typedTo + more, overTo: this.overTo }, timesOf);
-      this.hears.says(`${name} in the folder has more of ${this.game.name} than the browser had kept: the game goes on with it`);
+      this.hears.says(message('filed.has_more', { file: name, name: this.game.name }));
     });
   }
 
@@ -710,7 +713,7 @@ export class Recorder {
   async edit(changes) {
     const options = { ...this.options, ...changes.options };
     if (options.rotated !== this.options.rotated && this.course.plies.length > 0) {
-      throw new Refused('the game has moves, so how its board lies stays');
+      throw new Refused(message('options.lies_as_before'));
     }
     const isRead = ['rotated', 'first', 'recover'].some((name) => options[name] !== this.options[name]);
     const isTagged = ofLive(options).join('\n') !== ofLive(this.options).join('\n');
@@ -742,7 +745,7 @@ export class Recorder {
   stop() {
     this.isStopped = true;
     this.cable.close();
-    this.hears.says(`the recording of ${this.game.name} is stopped`);
+    this.hears.says(message('board.stopped', { name: this.game.name }));
     this.hears.changed();
   }
 }

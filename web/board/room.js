@@ -3,10 +3,10 @@
 
 import { joined } from '../device/protocol.js';
 import { MOST, hasNoRoom, isLong, needless } from '../kept/limit.js';
+import { message } from '../../live/web/page/message.js';
 import { Again } from './again.js';
 
 const LATER = 60.0; // seconds until it is tried again
-const REASON = 'its capture has 63 MiB, and none may have more'; // why a game is over
 
 export class Room {
   /** `recorder` records the game. */
@@ -31,7 +31,7 @@ export class Room {
   /** A game is over when it has as many bytes as it may have. */
   close() {
     const { capture, isOver } = this.recorder;
-    if (!isOver && capture.size >= MOST) this.recorder.closeGame(capture.size, REASON);
+    if (!isOver && capture.size >= MOST) this.recorder.closeGame(capture.size, message('over.capture_has_most'));
   }
 
   /** How many bytes of the capture are the game's; null if all that comes may be, or if the next game is just beginning. */
@@ -52,7 +52,7 @@ export class Room {
 
   async tryIt() {
     const { recorder } = this;
-    const told = ({ message }) => `the capture of ${recorder.name} can't be shortened (${message}): it is tried again`;
+    const told = (error) => message('capture.not_shortened', { name: recorder.name, why: error.message });
     this.isBusy = true;
     await this.again.try(() => recorder.typing.exclusively(() => this.shorten()), told, () => this.look());
     this.isBusy = false;
@@ -68,7 +68,6 @@ export class Room {
     const content = joined(bytes.subarray(0, from), bytes.subarray(to));
     const changes = { typedTo: Math.min(typedTo, end), overTo, played: game.played || 0 };
     await recorder.renew(content, false, changes, isOver ? (one, other) => recorder.times.upTo(end, one, other) : undefined);
-    const when = isOver ? `since the end of ${name}` : `before the first move of ${name}`;
-    recorder.says(`what the board has sent ${when} got long: only the last of it is kept`);
+    recorder.says(isOver ? message('capture.long_behind', { name }) : message('capture.long_before', { name }));
   }
 }

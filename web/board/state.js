@@ -1,21 +1,24 @@
 // The state of a board in an arbiter's words, which are those of dgt_round. The program decides which it is. Pure.
 
+import { lasting } from '../../live/web/page/chess.js';
+import { linked, message } from '../../live/web/page/message.js';
+
 const MOST_LISTED = 8;
-export const TURNED_ROUND = 'is the board turned round?';
-const OTHER_BOARD = 'another board may be on this cable';
-export const DISK_FULL = 'DISK FULL'; // the disk has no room
-export const NOT_WRITTEN = 'NOT WRITTEN'; // it can't be written for another reason
+export const TURNED_ROUND = message('state.turned_round');
+const OTHER_BOARD = message('state.other_board');
+export const DISK_FULL = message('state.disk_full'); // the disk has no room
+export const NOT_WRITTEN = message('state.not_written'); // it can't be written for another reason
 
 export const Kind = {
-  WAITS: 'waits for the board',
-  AGREES: 'agrees',
-  RESULT: 'result',
-  IN_HAND: 'in hand',
-  WRONG: 'WRONG',
-  NO_START: 'NO START',
-  SETTING_UP: 'setting up',
-  SILENT: 'SILENT',
-  UNPLUGGED: 'UNPLUGGED',
+  WAITS: message('state.waits'),
+  AGREES: message('state.agrees'),
+  RESULT: message('state.result'),
+  IN_HAND: message('state.in_hand'),
+  WRONG: message('state.wrong'),
+  NO_START: message('state.no_start'),
+  SETTING_UP: message('state.setting_up'),
+  SILENT: message('state.silent'),
+  UNPLUGGED: message('state.unplugged'),
 };
 const KINDS = {
   WAITS: Kind.WAITS,
@@ -31,13 +34,6 @@ const KINDS = {
 const HINTS = { 'TURNED-ROUND': TURNED_ROUND, 'OTHER-BOARD': OTHER_BOARD };
 const ALARMS = [Kind.WRONG, Kind.NO_START, Kind.SILENT, Kind.UNPLUGGED];
 
-/** A duration in words: `40 s`, `3 min`, `2 h 05 min`. */
-export function lasting(seconds) {
-  const whole = Math.max(0, Math.floor(seconds));
-  if (whole < 120) return `${whole} s`;
-  if (whole < 7200) return `${Math.floor(whole / 60)} min`;
-  return `${Math.floor(whole / 3600)} h ${String(Math.floor(whole / 60) % 60).padStart(2, '0')} min`;
-}
 
 /** The state at a moment. `since` is null if it isn't known for how long it has been so. */
 export class State {
@@ -63,32 +59,33 @@ export class State {
 
   /** The state in words: those before its duration, and those after. Beyond a limit, squares are only counted. */
   parts(mostListed = MOST_LISTED) {
-    const words = this.squares.length <= mostListed ? this.squares.join(' ') : `${this.squares.length} squares`;
+    const { length } = this.squares;
+    const words = length <= mostListed ? this.squares.join(' ') : message('state.squares', { count: length });
     let front = this.kind;
     let rest = '';
-    if (this.kind === Kind.RESULT) front += ` ${this.result}`;
-    else if (words) rest = this.kind === Kind.IN_HAND ? ` ${words}` : `: ${words}`;
-    if (this.hint.startsWith(TURNED_ROUND)) {
+    if (this.kind === Kind.RESULT) front = linked('space', [front, this.result]);
+    else if (words) rest = linked(this.kind === Kind.IN_HAND ? 'space' : 'colon', ['', words]);
+    if (this.hint === TURNED_ROUND) {
       front = this.hint; // this says why it is being set up, and leaves no room for the state
       rest = '';
     } else if (this.hint) {
-      rest += `; ${this.hint}`;
+      rest = linked('semicolon', [rest, this.hint]);
     }
     if (this.look && (ALARMS.includes(this.kind) || this.hint)) {
-      rest += `; ${this.look}`;
+      rest = linked('semicolon', [rest, this.look]);
     } else if (this.look) {
-      rest = `; ${front}${rest}`;
+      rest = linked('semicolon', ['', linked('nothing', [front, rest])]);
       front = this.look;
     }
-    return [this.disk ? `${this.disk}, ${front}` : front, rest];
+    return [this.disk ? linked('comma', [this.disk, front]) : front, rest];
   }
 
   /** The state in a line. */
   text(now, mostListed = MOST_LISTED) {
     const [front, rest] = this.parts(mostListed);
     const isLong = this.since !== null && now >= this.since + 1;
-    const lasts = ALARMS.includes(this.kind) && isLong ? ` since ${lasting(now - this.since)}` : '';
-    return front + lasts + rest;
+    const lasts = ALARMS.includes(this.kind) && isLong;
+    return linked('nothing', [lasts ? message('state.since', { state: front, time: lasting(now - this.since) }) : front, rest]);
   }
 }
 

@@ -11,22 +11,20 @@ import { shortOf } from '../game/report.js';
 import { ABSENT, Asked, HELP, Refused, readWords, refusal } from '../game/typed.js';
 import { AS_IT_IS, CUT, REFUSED, askedOf, isStillShown, playedSince, question, reached, readBack, refuseBack, refuseNothing, settled, takenUp, wordsOfBack } from '../game/way_back.js';
 import { THIS, UNPLAYED, whichGame } from '../game/which_game.js';
+import { isSame, linked, message } from '../../live/web/page/message.js';
 import { DISK_FULL } from './state.js';
 
 const TRIES = 4; // calls for one line, if the board sends something while each of them runs; the last one lets it wait
-const REOPENS = Symbol('a result is to be taken off');
-const INSTEAD = Symbol('the line may be a result in the place of another one');
-const AGAIN = Symbol('the board has sent something meanwhile');
-const ENDING = 'the game has just ended, or begins anew with the pieces at the start. Nothing was done: look, and type it again';
-const PLAYED_AFTER_ALL = 'the game isn\'t forfeited any more';
-const STAYS_OVER = 'The board still shows it, so the game stays over';
-const KEPT = 'What the board had sent is kept';
-const UNKEPT = '. The browser can\'t keep it yet: don\'t reload this page, and make room on the disk';
+const REOPENS = Symbol('reopens'); // a result is to be taken off
+const INSTEAD = Symbol('instead'); // the line may be a result in the place of another one
+const AGAIN = Symbol('again'); // the board has sent something meanwhile
+const KEPT = message('back.kept_here');
 
 /** That nothing can be changed while a capture can't be kept, why, and what to do. */
 function unkept({ trouble, why }) {
-  if (trouble === DISK_FULL) return 'the disk is full, and nothing can be changed. Make room, and type it again';
-  return `the browser can't keep what the board sends (${why}), and nothing can be changed. Is there room on the disk? Type it again`;
+  if (trouble !== DISK_FULL) return message('keep.nothing_changes', { why });
+  const [isFull, mend] = [message('disk.is_full'), message('disk.make_room')];
+  return message('typed.nothing_can_be', { why: isFull, done: message('done.changed'), mend });
 }
 
 /** The result that a line is; empty if it is something else. */
@@ -73,12 +71,12 @@ export class Typing {
       const typed = readWords(text);
       if (typed.kind === 'nothing') return { done: true, said: '' };
       if (typed.kind === 'helped') return { done: true, said: HELP };
-      if (typed.kind === 'quit') throw new Refused('press Stop recording to end the recording');
+      if (typed.kind === 'quit') throw new Refused(message('press.stop'));
       if (typed.kind === 'acknowledged') return { done: true, said: recorder.acknowledge() };
       if (recorder.capture.trouble) throw new Refused(unkept(recorder.capture));
       const said = await this.does(typed);
       recorder.hears.says(said);
-      return { done: true, said: said + (recorder.capture.trouble ? UNKEPT : '') };
+      return { done: true, said: recorder.capture.trouble ? linked('stop', [said, message('keep.not_yet')]) : said };
     } catch (error) {
       return { done: false, said: refusal(text, error) };
     }
@@ -102,7 +100,7 @@ export class Typing {
     const outcome = resultOf(kind);
     await recorder.forfeits(kind); // before the result, with which it counts
     if (outcome !== '*' && outcome !== result) await this.add(outcome, true);
-    return `${wordsOfForfeit(kind)}: it isn't played`;
+    return message('forfeit.not_played', { words: wordsOfForfeit(kind) });
   }
 
   /**
@@ -139,8 +137,8 @@ export class Typing {
   async putIn(seen, answer, put) {
     const { recorder } = this;
     await recorder.attending.read();
-    if (recorder.guard.ended) throw new Refused('the recording was just interrupted. Type it again');
-    if (recorder.beginning.isOn || !this.isStill(seen)) throw new Refused(ENDING);
+    if (recorder.guard.ended) throw new Refused(message('typed.interrupted'));
+    if (recorder.beginning.isOn || !this.isStill(seen)) throw new Refused(message('typed.ended_meanwhile'));
     return put(answer);
   }
 
@@ -174,7 +172,7 @@ export class Typing {
       const played = plies.map(({ san }) => san);
       if (!put) throw refuse(said, text, placeOf(said, recorder.options.fen, played, text));
       const asks = said.kind === 'result' && !isForfeit ? this.whichGame(said.words[0]) : '';
-      if (asks && asks !== asked) throw new Asked(asks);
+      if (asks && !isSame(asks, asked)) throw new Asked(asks);
       if (recorder.isOver) {
         const { end } = recorder.game;
         const bytes = recorder.capture.view();
@@ -186,8 +184,8 @@ export class Typing {
       } else {
         await recorder.add(put);
       }
-      const gone = said.kind === 'moves' && result !== '*' ? `; the result ${result} is gone: add it again` : '';
-      return `added by hand: ${meaning(said, text, plies.map(shortOf))}${gone}`;
+      const gone = said.kind === 'moves' && result !== '*' ? [message('result.gone', { result })] : [];
+      return message('typed.added_by_hand', { what: linked('semicolon', [meaning(said, text, plies.map(shortOf)), ...gone]) });
     });
     if (done === INSTEAD) return this.replace(asked, text, isForfeit);
     return done === REOPENS ? this.takeOff('*') : done;
@@ -202,10 +200,13 @@ export class Typing {
     const before = hears.gameBefore;
     const meant = isOver ? THIS : whichGame(course.plies.length, before && before.isUnended);
     if (meant === THIS) return '';
-    const isThat = `If it is the result of ${before.name}, press ${outcome} beside that name`;
-    if (meant !== UNPLAYED) return `${before.name} has no result yet. ${isThat}; if it is that of ${name}, type ${outcome} again`;
-    const how = before.isUnended ? `. ${isThat}` : '';
-    throw new Refused(`${name} has no move yet, so it has no result${how}. If a player hasn't come, type ${ABSENT}`);
+    const isThat = message('which.press_beside', { before: before.name, result: outcome });
+    if (meant !== UNPLAYED) {
+      const why = message('which.no_result', { name: before.name });
+      return linked('stop', [why, message('which.type_again', { otherwise: isThat, name, result: outcome })]);
+    }
+    const hasNone = message('which.no_move_no_result', { name });
+    throw new Refused(linked('stop', [hasNone, ...(before.isUnended ? [isThat] : []), message('which.absent', { absent: ABSENT })]));
   }
 
   /**
@@ -218,7 +219,7 @@ export class Typing {
     if (!outcome) throw refuse({ kind: 'board', words: [] }, text, '');
     if (recorder.isOver) return this.replaceAfter(outcome);
     const asks = this.whichGame(outcome);
-    if (asks && asks !== asked) throw new Asked(asks);
+    if (asks && !isSame(asks, asked)) throw new Asked(asks);
     recorder.hears.says(await this.takeOff('*'));
     return this.addUnless(asks, text, isForfeit);
   }
@@ -238,7 +239,8 @@ export class Typing {
       if (shown.kind === 'signed' && this.recorder.isConnected) throw refuseBack(shown, outcome, plies);
       if (cut === null || !added.put || !stood) throw refuse({ kind: 'board', words: [] }, outcome, '');
       await this.recorder.endsAnew(cut, added.put, dumpsIn(stood).at(-1));
-      return `added by hand: ${meaning(added, outcome, plies.map(shortOf))}; the result ${result} is gone. ${KEPT}`;
+      const what = linked('semicolon', [meaning(added, outcome, plies.map(shortOf)), message('back.result_gone', { result })]);
+      return linked('stop', [message('typed.added_by_hand', { what }), KEPT]);
     });
   }
 
@@ -247,7 +249,7 @@ export class Typing {
     const { recorder } = this;
     if (to === '*' && recorder.forfeit === BOTH) {
       this.asked = '';
-      return PLAYED_AFTER_ALL; // the forfeit goes with whatever else is typed
+      return message('forfeit.gone'); // the forfeit goes with whatever else is typed
     }
     const decide = ({ capture, size }) => recorder.calls.back(recorder.options, capture.view(size), this.plyOf(to));
     return this.asking((asked) => this.decided(decide, (answer) => this.goBack(readBack(answer), to, asked)));
@@ -273,15 +275,15 @@ export class Typing {
     if (!said.put && end === null) throw refuseBack(said, to, plies);
     if (!recorder.isOver) refuseNothing(plies, stays, result, to);
     const asks = question(plies.slice(stays));
-    if (asks && asks !== asked) throw new Asked(asks);
+    if (asks && !isSame(asks, asked)) throw new Asked(asks);
     const { looks } = recorder.alarms;
     const left = looks.without(settled(plies, stays));
     const done = wordsOfBack(plies, stays, result);
-    if (staysOver) await recorder.endWith(end, left.open);
-    else await recorder.renew(said.put, true, { end: null, typedTo: said.put.length, looks: left.open, goneBack: recorder.goneBack + 1 });
+    if (staysOver) await recorder.endWith(end, left.kept);
+    else await recorder.renew(said.put, true, { end: null, typedTo: said.put.length, looks: left.kept, goneBack: recorder.goneBack + 1 });
     const gone = looks.open.filter((look) => !left.open.includes(look)).map(shortOfLook);
-    const about = gone.length > 0 ? ` Settled: ${gone.join(', ')}.` : '';
-    return `${done}.${about} ${staysOver ? STAYS_OVER : KEPT}`;
+    const about = gone.length > 0 ? [message('look.settled', { looks: linked('comma', gone) })] : [];
+    return linked('stop', [done, ...about, staysOver ? message('back.still_over') : KEPT]);
   }
 
   /** A game that is over goes on, with what was played on its board after its result, as the program has answered to `back`. */
@@ -295,14 +297,16 @@ export class Typing {
     if (how === REFUSED || (how === CUT && cut === null)) throw refuseBack(said, '*', plies);
     const content = how === CUT ? capture.bytes(cut) : said.put;
     const now = await gameOf(calls, options, how === AS_IT_IS ? capture.view() : content);
-    const [since, goesOn] = [playedSince(plies, now.plies), `${recorder.name} goes on`];
+    const { name } = recorder;
+    const since = playedSince(plies, now.plies);
     if (how === AS_IT_IS) {
       await recorder.goOn();
-      return `${goesOn}${isLeft ? '' : ', without the result'}${since}`;
+      return isLeft ? message('over.goes_on_as_it_is', { name, since }) : message('over.goes_on', { name, since });
     }
-    const changes = { end: null, typedTo: content.length, looks: alarms.looks.open, goneBack: recorder.goneBack + 1 };
+    const changes = { end: null, typedTo: content.length, looks: alarms.looks.kept, goneBack: recorder.goneBack + 1 };
     await recorder.renew(content, true, changes);
-    const done = result === '*' || how === CUT ? `: ${wordsOfBack(plies, plies.length, result)}` : `, without the result${since}`;
-    return `${goesOn}${done}. ${KEPT}`;
+    const done = wordsOfBack(plies, plies.length, result);
+    const goesOn = result === '*' || how === CUT ? message('over.goes_on_so', { name, done }) : message('over.goes_on', { name, since });
+    return linked('stop', [goesOn, KEPT]);
   }
 }

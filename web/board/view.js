@@ -4,6 +4,7 @@ import { clocksOf } from '../game/course.js';
 import { countingForfeit, scoreOf } from '../game/forfeits.js';
 import { written } from '../game/options.js';
 import { NO_TIME } from '../game/report.js';
+import { linked, message } from '../../live/web/page/message.js';
 import { DISK_FULL, Kind, State, TURNED_ROUND } from './state.js';
 
 /** The clocks as they run; if there is no clock, each player's time after his last move. */
@@ -16,36 +17,34 @@ function clocks(course) {
 export function standing(state, now) {
   const { kind, since, isAlarm, differing } = state;
   const words = new State(kind, now, state).text(now);
-  const isWaiting = kind === Kind.WAITS || state.hint.startsWith(TURNED_ROUND);
-  return { state: words, since: isWaiting ? null : since, alarm: isAlarm, differing, mend: mendOf(state) };
+  const isWaiting = kind === Kind.WAITS || state.hint === TURNED_ROUND;
+  return { state: String(words), since: isWaiting ? null : since, alarm: isAlarm, differing, mend: mendOf(state) };
 }
 
 const MENDS = {
-  [Kind.WRONG]:
-    'Set the pieces as the diagram shows them. Did the board miss a move? Type it below. Is the last move wrong? Take it back.',
-  [Kind.NO_START]: 'Set up the start. Is a game being played already? Type its moves so far, as e4 e5 Nf3 Nc6.',
-  [Kind.SILENT]: "Look at the cable and at the board's power. The board is asked again and again.",
-  [Kind.UNPLUGGED]: 'Plug the board in again, in any socket. The recording then goes on.',
+  [Kind.WRONG]: message('mend.wrong'),
+  [Kind.NO_START]: message('mend.no_start'),
+  [Kind.SILENT]: message('mend.silent'),
+  [Kind.UNPLUGGED]: message('mend.unplugged'),
 };
 
 /** What somebody may do about a state; empty if it isn't an alarm. */
 export function mendOf({ kind, disk }) {
-  const room = disk === DISK_FULL ? 'Make room on the disk, and choose' : 'Is there room on the disk? Choose';
-  if (disk) return `${room} a folder. What the board sends is in memory until then.`;
+  if (disk) return disk === DISK_FULL ? message('mend.disk_full') : message('mend.not_written');
   return MENDS[kind] || '';
 }
 
-const GOES_ON = 'If the game goes on, press No result.';
-
 /** What somebody may do about a game that is over; empty if a mate or stalemate on the board has ended it. */
 export function mendOfOver({ result, isEndedByMove }) {
-  if (result === '*') return `The game has no result: press 1–0, ½–½ or 0–1. ${GOES_ON}`;
-  return isEndedByMove ? '' : GOES_ON;
+  const goesOn = message('mend.goes_on');
+  if (result === '*') return linked('space', [message('mend.no_result'), goesOn]);
+  return isEndedByMove ? '' : goesOn;
 }
 
 /** A game that isn't recorded now: words alone, since nobody knows when that began. */
 export function resting(words, looks = '', mend = '') {
-  return { state: looks ? `${looks}; ${words}` : words, since: null, alarm: Boolean(looks), differing: [], mend };
+  const state = String(linked('semicolon', [...(looks ? [looks] : []), words]));
+  return { state, since: null, alarm: Boolean(looks), differing: [], mend };
 }
 
 /** A board's number, its game and its state, as a card shows them. Each move is shown with its position. */
@@ -66,5 +65,6 @@ export function viewOf(number, { options, name, forfeit = '' }, course, stands) 
     positions: [...course.fens],
     pgn: '#',
     ...stands,
+    mend: String(stands.mend),
   };
 }

@@ -2,8 +2,9 @@
 // board it is.
 
 import { lookAt } from '../game/looks.js';
+import { linked, message } from '../../live/web/page/message.js';
 
-const WHERE = 'at the cable';
+const WHERE = message('look.at_the_cable');
 
 /** Whether `ok` gives the board on the cable to this game, and not to its owner: a game with moves keeps its board until it is over. */
 export function mayTake(owner, hasMoves) {
@@ -13,17 +14,16 @@ export function mayTake(owner, hasMoves) {
 /** The message about a board with another number on the cable of a game. */
 export function another(own, shown, owner, hasMoves) {
   if (owner === null || owner.isOver) {
-    const whose = owner ? `of ${owner.name}, whose game is over, serial number` : 'with serial number';
-    const where = owner ? `goes to ${owner.name}` : 'is kept back';
-    const has = `it has the board ${whose} ${shown}, and not ${own}: what it sends ${where}`;
-    return lookAt(WHERE, `${has}. Put the cables right; if this board is to be recorded here, ok takes it`, WHERE);
+    const unknown = message('cable.unknown_board', { number: shown, own });
+    const has = owner ? message('cable.board_of_one_over', { owner: owner.name, number: shown, own }) : unknown;
+    return lookAt(WHERE, message('cable.unknown_board_taken', { has }), WHERE);
   }
-  const has = `it has the board of ${owner.name}, serial number ${shown}, and not ${own}`;
-  const right = mayTake(owner, hasMoves) ? '; if they are right now, ok takes this board' : '';
-  return lookAt(WHERE, `${has}: what it sends goes to the game of ${owner.name}. Put the cables right${right}`, WHERE);
+  const has = message('cable.board_of_another', { owner: owner.name, number: shown, own });
+  const takes = mayTake(owner, hasMoves) ? [message('cable.may_take')] : [];
+  return lookAt(WHERE, linked('semicolon', [has, ...takes]), WHERE);
 }
 
 /** The message when the game's own board is on the cable again. */
 export function back(own, other) {
-  return lookAt(WHERE, `it had the board with serial number ${other}; its own, ${own}, is back`, WHERE);
+  return lookAt(WHERE, message('cable.own_is_back', { other, own }), WHERE);
 }

@@ -3,18 +3,19 @@
 import { OVER, lookAt } from './looks.js';
 import { codesOf } from './report.js';
 import { same } from '../device/protocol.js';
+import { message } from '../../live/web/page/message.js';
 
-export const ISNT_OVER = "if the game isn't over, press No result: it goes on with these moves"; // beside an alarm about moves
+export const ISNT_OVER = message('advice.not_over', { how: message('press.no_result') }); // beside an alarm about moves
 
 /** So many moves were made after a game with this last move and this result. A later count replaces it. */
 export function wentOn(after, moves, result) {
-  const over = result === '*' ? 'the game is over without a result' : `the game is over: ${result}`;
-  return lookAt(`after ${after}`, `${moves} moves were made, and ${over}`, OVER);
+  const over = result === '*' ? message('over.without_result') : message('over.with_result', { result });
+  return lookAt(message('look.after', { ply: after }), message('look.moves_after_result', { count: moves, over }), OVER);
 }
 
 /** This ply corrects the last one of a game after its result, with which the game is over. */
 export function corrected(ply) {
-  return lookAt(`at ${ply}`, 'it corrects the last move after its result: compare with the score sheets');
+  return lookAt(message('look.at', { ply }), message('look.after_result'));
 }
 
 const isSame = (one, other) => same(codesOf(one), codesOf(other));

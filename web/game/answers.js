@@ -1,25 +1,22 @@
 // What the program answers to a typed line: the bytes to add, or why nothing is added; and the sentences for it. Pure: docs/FORMATS.md
 // has the lines.
 
-import { ProgramError } from './program.js';
+import { ProgramError, endedWith } from './program.js';
 import { Refused, WAYS, shortened } from './typed.js';
+import { linked, message, plural } from '../../live/web/page/message.js';
 
 const TOO_LONG = 'input: too long';
 const NUMBERED = /^[0-9]+\s+(?:[A-Za-z*]|[01½][-–—−:/.]|[+-][+-])/; // a line that begins as in a round
 const OK_NUMBERED = /^ok\s+([0-9]+)$/i;
 const NUMBER = /^[0-9]+\.+/; // of a move
 
-const NOTHING_ADDED = 'Nothing was added';
+const NOTHING_ADDED = message('typed.nothing_added');
 const SENTENCES = {
-  mixed: 'a result among other words. Type the moves, and then the result alone, in a line of its own',
-  ended: `the game has ended on the board, by mate or stalemate: that is its result. ${NOTHING_ADDED}`,
-  board: 'what the board shows would change the game. Set the pieces as they stand after what you typed, and type it again',
-  long: `the capture is full. ${NOTHING_ADDED}`,
+  mixed: message('typed.mixed'),
+  ended: message('typed.ended_on_the_board', { nothing_added: NOTHING_ADDED }),
+  board: message('typed.board_would_change'),
+  long: message('typed.capture_full', { nothing_added: NOTHING_ADDED }),
 };
-const LETTERS_OF_PIECES = 'in English letters: pieces are K, Q, R, B and N, in capitals, and squares a1 to h8';
-const BY_LETTER = "the piece's letter and where it goes";
-const PROMOTED = 'with the piece that the pawn becomes';
-const NO_COMMAS = 'with blanks between moves, and no commas';
 
 /**
  * The answer of a command: { kind, words, put } with what a sentence needs, and the bytes, if there are any. Throws
@@ -32,45 +29,50 @@ export function readAnswer(command, { status, errors, output }) {
   if (kind && status === 0) return { kind, words, put: output };
   if (kind && status === 1) return { kind, words, put: null };
   if (front === TOO_LONG && status === 1) return { kind: 'long', words, put: null };
-  throw new ProgramError(`${command} ended with status ${status}: ${said}`);
+  throw new ProgramError(linked('colon', [endedWith(command, status), said]));
 }
 
 /** What is added, in words; of a result also what it ends, a game with these plies, as `14... Qd7`. */
 export function meaning({ kind, words }, line, plies) {
-  return kind === 'result' ? `the result ${words[0]} ${whatEnds(plies)}` : line.trim().split(/\s+/u).join(' ');
+  if (kind !== 'result') return line.trim().split(/\s+/u).join(' ');
+  return message('result.added', { result: words[0], where: whatEnds(plies) });
 }
 
 /** Where a result ends a game with these plies. */
 function whatEnds(plies) {
-  if (plies.length === 0) return 'before the first move';
-  return `after ${plies[plies.length - 1]}, ${plies.length} ${plies.length === 1 ? 'ply' : 'plies'}`;
+  if (plies.length === 0) return message('result.before_the_first_move');
+  return plural('result.after', plies.length, { last: plies[plies.length - 1] });
 }
 
 /** Why a line adds nothing. `place` is what `placeOf` says. */
-export function refuse({ kind, words }, line, place) {
-  if (NUMBERED.test(line.trim()) && ['unknown', 'mixed'].includes(kind)) return new Refused(`leave out the number in front. ${WAYS}`);
+export function refuse(said, line, place) {
+  return new Refused(whyNothing(said, line, place));
+}
+
+function whyNothing({ kind, words }, line, place) {
+  if (NUMBERED.test(line.trim()) && ['unknown', 'mixed'].includes(kind)) return message('typed.number_in_front', { ways: WAYS });
   const [, number] = OK_NUMBERED.exec(line.trim()) || [];
-  if (number) return new Refused(`ok stands alone. In the terminal of a round the board's number goes in front, as ${number} ok`);
-  if (Object.hasOwn(SENTENCES, kind)) return new Refused(SENTENCES[kind]);
-  if (kind === 'illegal') return new Refused(`${words[1]} is no legal move: ${place}. ${NOTHING_ADDED}`);
+  if (number) return message('typed.ok_alone', { ok: 'ok', number });
+  if (Object.hasOwn(SENTENCES, kind)) return SENTENCES[kind];
+  if (kind === 'illegal') return message('typed.illegal', { word: words[1], place, nothing_added: NOTHING_ADDED });
   if (kind === 'misnumbered') {
-    return new Refused(`${NUMBER.exec(words[1])[0]} isn't the number of the next move: ${place}. ${NOTHING_ADDED}`);
+    return message('typed.misnumbered', { number: NUMBER.exec(words[1])[0], place, nothing_added: NOTHING_ADDED });
   }
-  if (kind === 'meant') return new Refused(`${writtenSo(words[1], words[2])}. ${NOTHING_ADDED}`);
-  if (kind === 'unknown') return new Refused(`${shortened(words[1])}: neither a move nor a result. ${WAYS}`);
-  return new Refused(`${shortened(line)}: no move. ${WAYS}`);
+  if (kind === 'meant') return message('typed.meant', { written_so: writtenSo(words[1], words[2]), nothing_added: NOTHING_ADDED });
+  if (kind === 'unknown') return message('typed.neither', { word: shortened(words[1]), ways: WAYS });
+  return message('typed.no_move', { line: shortened(line), ways: WAYS });
 }
 
 /** The message that a move is to be written otherwise. */
 function writtenSo(word, meant) {
-  return `${word}: write ${meant}, ${howWritten(word, meant)}`;
+  return message('spelling.write', { word, meant, how: howWritten(word, meant) });
 }
 
 function howWritten(word, meant) {
-  if (word.replace(/[,;]+$/, '') === meant) return NO_COMMAS;
-  if (meant.startsWith('O-O')) return 'with letters';
-  if (word.replace(/[^0-9]/g, '').length > 1) return BY_LETTER; // it has both squares
-  return meant.includes('=') && /[0-9]$/.test(word) ? PROMOTED : LETTERS_OF_PIECES;
+  if (word.replace(/[,;]+$/, '') === meant) return message('spelling.no_commas');
+  if (meant.startsWith('O-O')) return message('spelling.castling');
+  if (word.replace(/[^0-9]/g, '').length > 1) return message('spelling.piece_and_square'); // it has both squares
+  return meant.includes('=') && /[0-9]$/.test(word) ? message('spelling.promotion') : message('spelling.pieces');
 }
 
 /**
@@ -82,9 +84,9 @@ export function placeOf({ kind, words }, fen, played, line) {
   const typed = line.split(/\s+/u).map((word) => word.replace(NUMBER, '')).filter((word) => word);
   const sans = [...played, ...typed.slice(0, Number(words[0]))];
   const half = firstHalf(fen) + sans.length;
-  const after = sans.length === 0 ? '' : `, after ${numberOf(half - 1)} ${sans[sans.length - 1]}`;
-  if (kind === 'misnumbered') return `${numberOf(half)} is next${after}`;
-  return `${half % 2 === 1 ? 'Black' : 'White'} is to move${after}`;
+  const mover = half % 2 === 1 ? message('typed.black_to_move') : message('typed.white_to_move');
+  const place = kind === 'misnumbered' ? message('typed.next_number', { number: numberOf(half) }) : mover;
+  return sans.length === 0 ? place : message('typed.after_a_move', { place, last: `${numberOf(half - 1)} ${sans[sans.length - 1]}` });
 }
 
 /** The half-move with which a game from this start begins: twice its number, and one more for Black's. */

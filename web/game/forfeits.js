@@ -3,6 +3,8 @@
 // PGN has a result if one player wins by it, and no result if both are absent. The tag Termination says that the game was
 // not played: `rules infraction`, an administrative forfeit in the words of the standard.
 
+import { message } from '../../live/web/page/message.js';
+
 export const BOTH = '--'; // nobody wins
 const [WHITE, BLACK] = ['+-', '-+']; // White wins, Black wins
 const SCORES = { [WHITE]: '1-0', [BLACK]: '0-1', [BOTH]: '0-0' };
@@ -10,7 +12,6 @@ const NO_RESULT = '*';
 const TERMINATION = 'rules infraction';
 const SPELT = { '+--': WHITE, '--+': BLACK }; // +:- and + - -, as pairing programs write them
 const MARKED = /^(?:([01])F?-([01])(?:F|FF|K|FORFEIT)|([01])F-([01])F)$/i;
-const BOTH_LOSE = 'PGN has no result for two players who lose. Leave it without one, and note it';
 
 /** The score of a forfeit; empty if there is none. */
 export function scoreOf(kind) {
@@ -19,7 +20,7 @@ export function scoreOf(kind) {
 
 /** What it comes to. */
 export function wordsOfForfeit(kind) {
-  return `forfeit ${SCORES[kind]}`;
+  return message('forfeit.words', { score: SCORES[kind] });
 }
 
 /** The result in PGN. */
@@ -63,9 +64,9 @@ export function isEmpty(kind, pgn) {
 
 /** Why a game with so many plies and this result can't be the one that is forfeited; empty if it can. */
 export function whyPlayed(kind, plies, result) {
-  if (plies > 0) return `the game has moves, so it isn't a forfeit: ${kind === BOTH ? BOTH_LOSE : `type ${resultOf(kind)}`}`;
-  if (kind === BOTH && result !== NO_RESULT) return `the game has the result ${result}: take that off first, with ${NO_RESULT}`;
-  return '';
+  const how = kind === BOTH ? message('forfeit.both_lose') : message('forfeit.type_the_result', { result: resultOf(kind) });
+  if (plies > 0) return message('forfeit.has_moves', { how });
+  return kind === BOTH && result !== NO_RESULT ? message('forfeit.has_result', { result, reopens: NO_RESULT }) : '';
 }
 
 /** The tag of what is published of a forfeited game. */

@@ -2,6 +2,7 @@
 // ASCII. A date is `2024.05.31`, with `?` for each unknown digit.
 
 import { printable } from './typed.js';
+import { Complaint, message } from '../../live/web/page/message.js';
 
 const LONGEST_NAME = 100; // characters of a tag's value
 
@@ -28,7 +29,7 @@ const PARTS = [
  * What was typed can't be changed to PGN. The message says why, and what to write; the name of the value goes before
  * it.
  */
-export class Unreadable extends Error {}
+export class Unreadable extends Complaint {}
 
 /**
  * A name in printable ASCII: `Jörg Müller` becomes `Joerg Mueller`, `José` becomes `Jose`; an ASCII name stays as it
@@ -37,9 +38,9 @@ export class Unreadable extends Error {}
 export function asciiName(text) {
   const letters = [...text.normalize('NFC')];
   const turned = letters.map((letter, at) => written(letter, letters[at - 1] || '', letters[at + 1] || ''));
-  if (turned.includes(null)) throw new Unreadable("has letters that PGN can't take: write it with the letters A to Z");
+  if (turned.includes(null)) throw new Unreadable(message('name.letters'));
   const name = turned.join('');
-  if (name.length > LONGEST_NAME) throw new Unreadable(`has ${name.length} letters: write at most ${LONGEST_NAME}`);
+  if (name.length > LONGEST_NAME) throw new Unreadable(message('name.long', { count: name.length, most: LONGEST_NAME }));
   return name;
 }
 
@@ -69,7 +70,7 @@ export function pgnDate(text) {
     const match = pattern.exec(text.trim());
     if (match) return dateOf(text, match.groups);
   }
-  throw new Unreadable(`'${printable(text)}' can't be read: write it as 2024.05.31, with ? for what isn't known`);
+  throw new Unreadable(message('date.unreadable', { text: `'${printable(text)}'` }));
 }
 
 /** The day of a Date, as PGN has it. */
@@ -85,9 +86,7 @@ function dateOf(text, { year, month = '?', day = '?' }) {
   const isLeap = ofYear % 4 === 0 && (ofYear % 100 !== 0 || ofYear % 400 === 0);
   const days = [31, isLeap ? 29 : 28, 31, 30, 31, 30, 31, 31, 30, 31, 30, 31];
   const isOne = ofYear >= 1 && ofMonth >= 1 && ofMonth <= 12 && ofDay >= 1 && ofDay <= days[ofMonth - 1];
-  if (!isOne) {
-    throw new Unreadable(`'${printable(text)}' isn't in the calendar: write it as 2024.05.31, year, month and day`);
-  }
+  if (!isOne) throw new Unreadable(message('date.not_in_calendar', { text: `'${printable(text)}'` }));
   return parts.join('.');
 }
 

@@ -2,6 +2,8 @@
 //
 // A line is taken only if it has two names, whichever way its parts are divided. What could be read in two ways is refused.
 
+import { Complaint, message } from '../../live/web/page/message.js';
+
 const MOST_SHOWN = 40; // letters of a line that a message quotes
 const TITLE = /^(?:W?(?:GM|IM|FM|CM)|w?[gmfc])$/; // a cell with a title
 const TITLED = /^W?(?:GM|IM|FM|CM)\s+(?=\S+[\s,])/; // a title before a name
@@ -22,7 +24,7 @@ const COLUMNS = {
 };
 
 /** Pairs that can't be read. The message says where, why, and what to type. */
-export class NoPair extends Error {}
+export class NoPair extends Complaint {}
 
 /** Only letters and digits, in lower case and without marks: `Weiß` becomes `weiss`. */
 function normal(text) {
@@ -92,8 +94,7 @@ function partsBy(heading, cells) {
 }
 
 const quoted = (line) => (line.length > MOST_SHOWN ? `${line.slice(0, MOST_SHOWN)}..` : line);
-const IN_QUOTES = 'Put quotation marks around a name with a comma';
-const HOW = 'Type White; Black, or the board\'s number before them, as 3; White; Black';
+const HOW = message('paste.how');
 
 /** What a line has: { at, line, number, names }; null if it has a bye, or headings again. Throws NoPair if it has no pair. */
 function readLine({ line, at }, heading) {
@@ -103,14 +104,15 @@ function readLine({ line, at }, heading) {
   const hasMore = isBelow && cells.slice(heading.count).some((cell) => cell);
   const { number, names } = isBelow ? partsBy(heading, cells) : partsOf(cells);
   if (names.length === 2 && headingOf(names)) return null;
-  if (hasMore) throw new NoPair(`line ${at} has more columns than the headings: ${quoted(line.trim())}. ${IN_QUOTES}`);
-  if (names.length === 1) throw new NoPair(`line ${at} has one name, ${names[0]}, and needs two. ${HOW}`);
+  const text = quoted(line.trim());
+  if (hasMore) throw new NoPair(message('paste.more_columns', { line: at, text }));
+  if (names.length === 1) throw new NoPair(message('paste.one_name', { line: at, name: names[0], how: HOW }));
   if (names.length !== 2 || !names.every((name) => A_NAME.test(name)) || OF_A_MATCH.test(cells[0])) {
-    throw new NoPair(`line ${at} can't be read: ${quoted(line.trim())}. ${HOW}`);
+    throw new NoPair(message('paste.unreadable', { line: at, text, how: HOW }));
   }
   const areShort = names.some((name) => !/\s/u.test(name));
   if (hasCommas && number === null && !heading && areShort) {
-    throw new NoPair(`line ${at}: is ${names.join(', ')} one player, or two? Type a semicolon between White and Black`);
+    throw new NoPair(message('paste.one_or_two', { line: at, names: names.join(', ') }));
   }
   return { at, line: line.trim(), number, names };
 }
@@ -133,15 +135,15 @@ export function pairsOf(text, boards) {
   const areNumbered = read.some(({ number }) => number !== null);
   const pairs = new Map();
   for (const { at, line, number: typed, names: [White, Black] } of read) {
-    if (areNumbered && typed === null) throw new NoPair(`line ${at} has no board's number, and others have one. ${HOW}`);
+    if (areNumbered && typed === null) throw new NoPair(message('paste.no_number', { line: at, how: HOW }));
     const number = areNumbered ? typed : boards[pairs.size];
-    if (!areNumbered && number === undefined) throw new NoPair(`line ${at}: there are only ${boards.length} boards`);
-    if (pairs.has(number)) throw new NoPair(`line ${at}: board ${number} has its players already`);
+    if (!areNumbered && number === undefined) throw new NoPair(message('paste.few_boards', { line: at, count: boards.length }));
+    if (pairs.has(number)) throw new NoPair(message('paste.board_twice', { line: at, board: number }));
     if (boards.includes(number)) pairs.set(number, { White, Black });
     else if (number > Math.max(...boards)) passed.push(line); // a board of which nothing is recorded here
-    else throw new NoPair(`line ${at}: there is no board ${number}`);
+    else throw new NoPair(message('paste.no_board', { line: at, board: number }));
   }
-  if (read.length > 0 && pairs.size === 0) throw new NoPair(`line ${read[0].at}: there is no board ${read[0].number}`);
-  if (lines.length > 0 && read.length === 0) throw new NoPair(`no line has the names of two players. ${HOW}`);
+  if (read.length > 0 && pairs.size === 0) throw new NoPair(message('paste.no_board', { line: read[0].at, board: read[0].number }));
+  if (lines.length > 0 && read.length === 0) throw new NoPair(message('paste.no_names', { how: HOW }));
   return { pairs, passed };
 }

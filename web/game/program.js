@@ -3,9 +3,10 @@
 import { suspends } from '../../hosts/process.mjs';
 import { entryOf } from './attended.js';
 import { ofBoard, ofLive, ofTyping } from './options.js';
+import { Complaint, Message, message } from '../../live/web/page/message.js';
 
 /** The program can't be run, or has ended as it shouldn't. */
-export class ProgramError extends Error {}
+export class ProgramError extends Complaint {}
 
 const LARGE = 4 << 20; // bytes that a call isn't given beside others
 const PART = 1 << 20; // bytes of a large input that are copied at a time
@@ -15,9 +16,14 @@ const WIDE = Uint8Array.of(0, 0x61, 0x73, 0x6d, 1, 0, 0, 0, 4, 4, 1, 0x70, 4, 0,
 
 /** What this browser lacks to run the program; empty if it has all. */
 export function lacking() {
-  if (typeof WebAssembly !== 'object' || !WebAssembly.validate(WIDE)) return 'it has no 64-bit WebAssembly memory';
-  if (!suspends()) return "it can't suspend a WebAssembly program";
-  return typeof DecompressionStream === 'function' ? '' : 'it has no DecompressionStream';
+  if (typeof WebAssembly !== 'object' || !WebAssembly.validate(WIDE)) return message('browser.no_wide_memory');
+  if (!suspends()) return message('browser.no_suspending');
+  return typeof DecompressionStream === 'function' ? '' : message('browser.no_decompression');
+}
+
+/** That a subcommand has ended so. */
+export function endedWith(command, status) {
+  return message('program.how', { command, how: message('program.ended', { status }) });
 }
 
 /** The lines that the program has written. */
@@ -54,7 +60,7 @@ export class Program {
     this.worker = new Worker(url);
     URL.revokeObjectURL(url);
     this.worker.onmessage = ({ data }) => this.answered(data);
-    this.worker.onerror = (event) => this.broke(event.message || 'the worker has ended');
+    this.worker.onerror = (event) => this.broke(event.message || message('worker.ended'));
     await this.call('begin', { module: this.module });
   }
 
@@ -63,7 +69,7 @@ export class Program {
     this.calls.delete(number);
     if (!waiting) return;
     if (error === undefined) waiting.done(answer);
-    else waiting.failed(new ProgramError(error));
+    else waiting.failed(new ProgramError(error.key ? new Message(error.key, error.places) : error));
   }
 
   /** The worker has ended. It is begun anew. */
@@ -157,7 +163,7 @@ export class Program {
   /** What it writes. Throws ProgramError if it fails. */
   async output(words, input) {
     const { status, output } = await this.run(words, input);
-    if (status !== 0) throw new ProgramError(`${words[0]} ended with status ${status}`);
+    if (status !== 0) throw new ProgramError(endedWith(words[0], status));
     return output;
   }
 

@@ -9,6 +9,7 @@ import { ProgramError } from './program.js';
 import { lineOf } from './report.js';
 import { published } from './tags.js';
 import { readBack, refuseBack } from './way_back.js';
+import { message } from '../../live/web/page/message.js';
 
 export const NO_PLIES = '0';
 const SHOWN = 1 << 20; // bytes in which a board says again and again how it stands
@@ -38,15 +39,15 @@ export async function standsAt(program, options, sent) {
   const { kind, rest, put } = said;
   if (put) return { dump: dumpsIn(put).at(-1), shows: '' };
   if (kind === 'unseen') return { dump: new Uint8Array(0), shows: '' };
-  if (kind === 'signed') return { dump: null, shows: `shows the result ${rest}` };
+  if (kind === 'signed') return { dump: null, shows: message('next.shows_a_result', { result: rest }) };
   if (kind !== 'moved') throw refuseBack(said, NO_PLIES, []);
-  return { dump: await dumpAfter(program, options, rest.split(' ')[1]), shows: `stands as after ${rest}` };
+  return { dump: await dumpAfter(program, options, rest.split(' ')[1]), shows: message('next.shows_a_move', { ply: rest }) };
 }
 
 /** A dump of the start, as the program makes it of what the board has shown in the first so many bytes, and what came behind them. */
 export async function fromStart(program, options, sent, bytes) {
   const { kind, put } = await takenOff(program, options, sent.subarray(0, bytes));
-  if (!put) throw new ProgramError(`back has refused the start: ${kind}`);
+  if (!put) throw new ProgramError(message('program.refused_the_start', { why: kind }));
   return joined(dumpsIn(put).at(-1), sent.subarray(bytes));
 }
 

@@ -2,6 +2,8 @@
 //
 // `record` writes seven tags in ASCII. Its movetext stays as it is, after tag pairs that are written anew.
 
+import { Complaint, message } from '../../live/web/page/message.js';
+
 const ROSTER = ['Event', 'Site', 'Date', 'Round', 'White', 'Black', 'Result']; // the first tags, in order
 const GAME_SAYS = ['Result', 'FEN', 'SetUp', 'PlyCount', 'Termination', 'Variant'];
 const LONGEST_VALUE = 255; // characters of a value, as PGN has it
@@ -22,7 +24,9 @@ const [MINUTES, SECONDS] = ['min', 's'];
 const UNITS = [MINUTES, SECONDS];
 
 /** A value that its tag can't have. The message says what to type; the name of the value goes before it. */
-export class Malformed extends Error {}
+export class Malformed extends Complaint {}
+
+const quoted = (text) => `'${text}'`;
 
 /** The visible text: each kind of blank as a blank, and no invisible marks. */
 export function cleaned(text) {
@@ -41,9 +45,9 @@ export function isSeen(text) {
 /** The published value of a tag; empty if there is none. Throws Malformed if the tag can't have it. */
 export function valueOf(name, text) {
   const value = cleaned(text);
-  if (!isSeen(value)) throw new Malformed("has a character that can't be seen: type it anew");
+  if (!isSeen(value)) throw new Malformed(message('tag.unseen_character'));
   const length = [...value].length;
-  if (length > LONGEST_VALUE) throw new Malformed(`has ${length} characters: type at most ${LONGEST_VALUE}`);
+  if (length > LONGEST_VALUE) throw new Malformed(message('tag.long', { count: length, most: LONGEST_VALUE }));
   const check = CHECKS.find(([ending]) => name.endsWith(ending));
   return check ? check[1](value) : value;
 }
@@ -51,7 +55,7 @@ export function valueOf(name, text) {
 function rating(text) {
   if (NONE.includes(text)) return '';
   if (!/^[0-9]{1,4}$/.test(text) || Number(text) < 1 || Number(text) > HIGHEST_RATING) {
-    throw new Malformed(`'${text}' is no rating: type up to four digits, as 2050, or nothing`);
+    throw new Malformed(message('tag.no_rating', { text: quoted(text) }));
   }
   return String(Number(text));
 }
@@ -59,16 +63,14 @@ function rating(text) {
 function title(text) {
   if (NONE.includes(text)) return '';
   if (!TITLES.includes(text.toUpperCase())) {
-    throw new Malformed(`'${text}' is no title: type one of ${TITLES.slice(0, 8).join(', ')}, or nothing`);
+    throw new Malformed(message('tag.no_title', { text: quoted(text), titles: TITLES.slice(0, 8).join(', ') }));
   }
   return text.toUpperCase();
 }
 
 function fideId(text) {
   if (/^[0-]*$/.test(text)) return '';
-  if (!/^[0-9]{3,10}$/.test(text)) {
-    throw new Malformed(`'${text}' is no FIDE id: type its digits alone, as 1503014, or nothing`);
-  }
+  if (!/^[0-9]{3,10}$/.test(text)) throw new Malformed(message('tag.no_fide_id', { text: quoted(text) }));
   return text;
 }
 
@@ -77,19 +79,19 @@ function timeControl(text) {
   if (TIME_CONTROL.test(text)) return text;
   const periods = text.split(/[:,]/).map(periodOf);
   if (!periods.every(Boolean) || !periods.slice(0, -1).every(({ moves }) => moves)) {
-    const how = 'type 90+30 (minutes and seconds a move), 40/90+30:30+30, or as PGN has it, 40/5400+30:1800+30';
-    throw new Malformed(`'${text}' is no time control: ${how}`);
+    throw new Malformed(message('tag.no_time_control', { text: quoted(text), how: message('tag.time_control_how') }));
   }
   const known = withUnits(periods);
   if (!known.every(({ unit }) => unit)) {
-    const ways = UNITS.map((unit) => known.map((period) => typed(period, unit)).join(':'));
-    throw new Malformed(`'${text}' can be in minutes or seconds: type ${ways.join(' or ')}`);
+    const [minutes, seconds] = UNITS.map((unit) => known.map((period) => typed(period, unit)).join(':'));
+    throw new Malformed(message('tag.minutes_or_seconds', { text: quoted(text), minutes, seconds }));
   }
   known.forEach((period, at) => {
     const { moves, base, unit } = period;
     if (moves <= base || periods[at].unit) return;
     const turned = typed({ ...period, moves: base, base: moves, unit: '' }, '');
-    throw new Malformed(`'${text}' has ${moves} moves in ${base}${unit}: type ${turned}, or ${typed(period, unit)}`);
+    const given = typed(period, unit);
+    throw new Malformed(message('tag.moves_and_minutes', { text: quoted(text), moves, base: `${base}${unit}`, turned, typed: given }));
   });
   return known.map((period) => typed({ ...period, base: period.base * (period.unit === MINUTES ? 60 : 1), unit: '' }, '')).join(':');
 }

@@ -3,6 +3,8 @@
 //
 // The game follows from NAME.dgt alone: what is lost here costs times, and never a move.
 
+import { message } from '../../live/web/page/message.js';
+
 export const HEADED = 4096; // bytes of a capture that a new heading has the digest of, at most
 const DIGESTED = 64; // the same in a part of one
 export const [BEGIN, AWAY, OPENED, ANSWERED, GONE, CALLED] = ['begin', 'away', 'opened', 'answered', 'gone', 'called'];
@@ -16,7 +18,7 @@ const COUNTS = [BEGIN, AWAY, ...OF_BYTES, STOPPED, ASKED, OVER, SUSPECT]; // wor
 const ALONE = [OPENED, ANSWERED, GONE, CALLED, TOOK, LOOKED, BACK, REOPENED];
 const TOO_LARGE = 2n ** 64n;
 const [FNV_START, FNV_TIMES] = [14695981039346656037n, 1099511628211n]; // of FNV-1a with 64 bits
-const NOTHING = 'Nothing is to be done';
+export const NOTHING = message('times.nothing');
 
 const NUMBER = '(0|[1-9][0-9]{0,19})';
 const EVENT = `${NUMBER} (?:(${COUNTS.join('|')}) ${NUMBER}|(${ALONE.join('|')}))\n`;
@@ -185,28 +187,26 @@ export function lineAfter(words, what) {
 /** What is said of a file of this size, whose capture has so many bytes. */
 export function toldOf(found, name, size, capture, have) {
   const told = [];
-  if (size > found.ends) told.push(`${name} was torn: its last ${size - found.ends} bytes are dropped. ${NOTHING}`);
-  if (found.covered > have) {
-    told.push(`${name} tells of ${found.covered - have} bytes more than ${capture} has, as after a power cut. ${NOTHING}`);
-  } else if (found.covered < have) {
-    told.push(`${name} has no times for the last ${have - found.covered} bytes of ${capture}. ${NOTHING}`);
-  }
+  const more = found.covered - have;
+  if (size > found.ends) told.push(message('times.torn', { path: name, count: size - found.ends, nothing: NOTHING }));
+  if (more > 0) told.push(message('times.covers_more', { path: name, count: more, capture, nothing: NOTHING }));
+  else if (more < 0) told.push(message('times.covers_less', { path: name, count: -more, capture, nothing: NOTHING }));
   return told;
 }
 
 /** What is said of a file that isn't the capture's: it is kept under this other name. */
 export function toldOfOther(found, name, other) {
   const isNewer = found && found.version !== undefined;
-  const why = isNewer ? 'is of a newer program' : found ? 'is of another capture' : "isn't readable";
-  return `${name} ${why}: it is kept as ${other}, and another one is begun. ${NOTHING}`;
+  const why = isNewer ? message('times.of_newer') : found ? message('times.of_another') : message('times.unreadable');
+  return message('times.set_aside', { path: name, why, kept: other, nothing: NOTHING });
 }
 
 /** What is said if there is no file beside so many bytes. */
 export function toldOfMissing(name, have) {
-  return `${name} is missing: when the game's first ${have} bytes came isn't known. ${NOTHING}`;
+  return message('times.missing', { path: name, count: have, nothing: NOTHING });
 }
 
 /** What is said if it can't be read or written. */
 export function toldOfTrouble(name, why) {
-  return `${name} can't be kept (${why}): times may be missing. ${NOTHING}`;
+  return message('times.unkept', { path: name, why, nothing: NOTHING });
 }

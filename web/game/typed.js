@@ -2,21 +2,20 @@
 // is for the program to read, which also says why it can't be. Pure.
 
 import { BOTH, typedForfeit } from './forfeits.js';
+import { Complaint, message } from '../../live/web/page/message.js';
 
-export const WAYS = 'Type 1-0, 0-1, 1/2-1/2, moves as Nf3 Nc6, back, *, ok or help';
-export const ALL_WAYS = 'Type 1-0, 0-1, 1/2-1/2, moves (Nf3 Nc6), back (a ply off), back 14. Bxf6, * (no result) or ok';
-export const ABSENT = '+- (Black has not come; -+ White, -- both)'; // what can be typed too if the game has no move
-export const HELP = ALL_WAYS.replace(' or ok', `, ok or ${ABSENT}`);
-export const BOTH_LOSE =
-  '0-0: do both lose? PGN has no such result: leave the game without one, and note it. Castling is O-O';
-export const WHICH_PLY = 'which ply? Type it as the screen printed it, as back 14. Bxf6 or back 14... Qd7; or back alone, or back 0';
 const NOUGHTS = '0-0'; // a result, or castling typed with noughts
+export const WAYS = message('typed.ways');
+export const ABSENT = message('typed.absent'); // what can be typed too if the game has no move
+export const HELP = message('typed.all_ways_or_absent', { absent: ABSENT });
+export const BOTH_LOSE = message('typed.noughts', { noughts: NOUGHTS });
+export const WHICH_PLY = message('back.which_ply');
 const HELPS = ['help', '?', 'undo'];
 const SHOWN = 60; // characters of what was typed that an answer repeats
 const SHORT = 20; // characters of a word that it repeats
 
 /** What was typed isn't done. Its message says why, and what to type. */
-export class Refused extends Error {}
+export class Refused extends Complaint {}
 
 /** What was typed would remove a lot: it is done if it is typed again. */
 export class Asked extends Refused {}
@@ -38,7 +37,7 @@ export function readWords(text) {
   if (alone === '*') return { kind: 'reopened' };
   const forfeit = typedForfeit(text);
   if (forfeit) return { kind: 'forfeit', forfeit };
-  if (withAHyphen(words.join('')) === NOUGHTS) throw new Refused(`${BOTH_LOSE}. If neither player has come, type ${BOTH}`);
+  if (withAHyphen(words.join('')) === NOUGHTS) throw new Refused(message('forfeit.noughts', { no_score: BOTH_LOSE, both: BOTH }));
   if ([...words, words.join('')].some((word) => withAHyphen(word) === NOUGHTS)) throw new Refused(BOTH_LOSE);
   return { kind: 'added', line: text.trim() };
 }
@@ -68,7 +67,8 @@ export function shortened(text) {
 
 /** The answer to what was typed, if that isn't done, or not yet. */
 export function refusal(text, error) {
-  if (error instanceof Asked) return error.message;
-  if (error.message.includes(text)) return `refused: ${error.message}`;
-  return `refused: ${printable([...text].slice(0, SHOWN).join(''))}: ${error.message}`;
+  const why = error.message;
+  if (error instanceof Asked) return why;
+  if (why.includes(text)) return message('refused.why', { why });
+  return message('refused.line', { line: printable([...text].slice(0, SHOWN).join('')), why });
 }

@@ -1,17 +1,16 @@
 // Going back, in words: how many plies stay and go, what is asked first, what was done, and why it can't be. The program decides
 // which plies are meant, and makes the new capture. Pure: docs/FORMATS.md has its lines.
 
-import { ProgramError } from './program.js';
+import { ProgramError, endedWith } from './program.js';
 import { shortOf } from './report.js';
 import { Refused, WHICH_PLY } from './typed.js';
+import { linked, message } from '../../live/web/page/message.js';
 
 const NO_RESULT = '*';
 const WITHOUT_A_QUESTION = 2; // plies that may go without a question
 const DONE = /^plies ([0-9]+), gone ([0-9]+), result (\S+)$/;
 const STILL_SHOWN = ['moved', 'signed', 'board', 'unseen']; // why it can't be as long as the board stands as it does
 export const [AS_IT_IS, ANEW, CUT, REFUSED] = ['as it is', 'anew', 'cut', 'refused']; // how a game that is over goes on with `*`
-const FULL = 'the new capture would be too long. Nothing was changed';
-const UNSEEN = 'the board has shown nothing yet. Type it again when it has';
 
 /**
  * What `back` has answered: { kind: 'back', stays, result, put } with the result that goes, and the new capture; or
@@ -24,7 +23,7 @@ export function readBack({ status, errors, output }) {
   if (status === 0 && done) return { kind: 'back', stays: Number(done[1]), result: done[3], put: output };
   const [kind, ...words] = (rest || '').split(' ');
   if (status === 1 && said === 'input: too long') return { kind: 'long', stays: 0, rest: '' };
-  if (status !== 1 || !kind) throw new ProgramError(`back ended with status ${status}: ${said}`);
+  if (status !== 1 || !kind) throw new ProgramError(linked('colon', [endedWith('back', status), said]));
   if (kind === 'nearest' || kind === 'none') return { kind, stays: 0, rest: words.join(' ') };
   return { kind, stays: Number(words[0]), rest: words.slice(1).join(' ') };
 }
@@ -34,50 +33,47 @@ export const isStillShown = ({ kind }) => STILL_SHOWN.includes(kind);
 
 /** Why a game with these plies doesn't go back as far as `to` says. */
 export function refuseBack({ kind, stays, rest }, to, plies) {
-  const kept = plies.slice(0, stays);
+  return new Refused(whyNotBack(kind, plies.slice(0, stays), rest, to, plies));
+}
+
+function whyNotBack(kind, kept, rest, to, plies) {
   switch (kind) {
-    case 'nearest': {
-      if (!/^[0-9]+\./.test(to)) return new Refused(WHICH_PLY);
-      const isLast = rest === reached(plies);
-      return new Refused(`${to} is no ply of the game${isLast ? `, which ends with ${rest}. Type back alone to take that off` : `. The nearest is ${rest}: type back ${rest}`}`);
-    }
+    case 'nearest':
+      if (!/^[0-9]+\./.test(to)) return WHICH_PLY;
+      return rest === reached(plies) ? message('back.no_ply_end', { to, near: rest }) : message('back.no_ply_near', { to, near: rest });
     case 'none':
-      return new Refused(to ? 'the game has no ply that could be taken off' : 'the game has no move');
+      return to ? message('back.none_left') : message('moves.no_move');
     case 'ended':
-      return new Refused(`the game ends with ${reached(kept)} on the board: that is its result`);
+      return message('back.ends_on_the_board', { ply: reached(kept) });
     case 'signed':
-      return new Refused(`the board still shows the result ${rest}. Put the kings where they belong, and type it again`);
+      return message('back.kings', { result: rest });
     case 'moved':
-      return new Refused(`the board still shows ${rest}: it would come back at once. ${hint(kept)}`);
+      return linked('stop', [message('back.still_shown', { moves: rest }), hint(kept)]);
     case 'unseen':
-      return new Refused(UNSEEN);
+      return message('back.unseen');
     case 'long':
-      return new Refused(FULL);
+      return message('back.capture_full');
     default:
-      return new Refused(`what the board shows would change the game. ${hint(kept)}`);
+      return linked('stop', [message('typed.would_change'), hint(kept)]);
   }
 }
 
 /** What to do so that it can go back to these plies. */
 function hint(kept) {
-  const place = kept.length === 0 ? 'at the start' : `as after ${reached(kept)}`;
-  return (
-    'If other moves were played, lift a king, type it again, then these moves, and hold the king until all is typed. ' +
-    `If the players go back, set the pieces ${place}, and type it again`
-  );
+  return kept.length === 0 ? message('back.hint_at_the_start') : message('back.hint', { ply: reached(kept) });
 }
 
 /** Refused if a game that goes on has nothing to take off: so many of its plies stay. */
 export function refuseNothing(plies, stays, result, to) {
   if (stays < plies.length || result !== '*') return;
-  if (to === '*') throw new Refused('the game has no result');
-  throw new Refused(stays > 0 ? `the game ends with ${reached(plies)} already` : 'the game has no move');
+  if (to === '*') throw new Refused(message('result.none'));
+  throw new Refused(stays > 0 ? message('back.already', { ply: reached(plies) }) : message('moves.no_move'));
 }
 
 /** The question before so many plies go; empty if they may go at once. */
 export function question(gone) {
   const many = gone.length > WITHOUT_A_QUESTION;
-  return many ? `takes off ${gone.length} plies, from ${shortOf(gone[0])}: type it again` : '';
+  return many ? message('back.asks', { count: gone.length, ply: shortOf(gone[0]) }) : '';
 }
 
 /** `14... Qd7 15. Rd1 Rae8`. */
@@ -87,16 +83,16 @@ function movesOf(plies) {
 
 /** The ply with which a game ends, or its start. */
 export function reached(plies) {
-  return plies.length > 0 ? shortOf(plies[plies.length - 1]) : 'the start';
+  return plies.length > 0 ? shortOf(plies[plies.length - 1]) : message('ply.the_start');
 }
 
 /** What was done: `back to 14. Bxf6; taken off: 14... Qd7 15. Rd1`. The result is the earlier one. */
 export function wordsOfBack(plies, stays, result) {
   const gone = plies.slice(stays);
-  const parts = [`back to ${reached(plies.slice(0, stays))}`];
-  parts.push(gone.length > 0 ? `taken off: ${movesOf(gone)}` : 'no ply is taken off');
-  if (result !== '*') parts.push(`the result ${result} is gone`);
-  return parts.join('; ');
+  const parts = [message('back.done', { ply: reached(plies.slice(0, stays)) })];
+  parts.push(gone.length > 0 ? message('back.taken_off', { plies: movesOf(gone) }) : message('back.none_off'));
+  if (result !== '*') parts.push(message('back.result_gone', { result }));
+  return linked('semicolon', parts);
 }
 
 /**
@@ -119,9 +115,9 @@ export function takenUp(had, said, isThere) {
 export function playedSince(before, now) {
   const last = before.length - 1;
   const isOther = last >= 0 && last < now.length && before[last].san !== now[last].san;
-  const corrected = isOther ? `; ${shortOf(before[last])} was corrected to ${shortOf(now[last])}` : '';
+  const corrected = isOther ? [message('back.corrected', { before: shortOf(before[last]), now: shortOf(now[last]) })] : [];
   const since = now.slice(before.length);
-  return since.length > 0 ? `${corrected}; played since: ${movesOf(since)}` : corrected;
+  return linked('semicolon', ['', ...corrected, ...(since.length > 0 ? [message('back.played_since', { plies: movesOf(since) })] : [])]);
 }
 
 /**
@@ -131,5 +127,6 @@ export function playedSince(before, now) {
 export function settled(plies, stays) {
   const gone = plies.slice(stays).map(shortOf);
   if (gone.length === 0) return [];
-  return [...gone.map((ply) => `at ${ply}`), ...[reached(plies.slice(0, stays)), ...gone].map((ply) => `since ${ply}`)];
+  const since = [reached(plies.slice(0, stays)), ...gone];
+  return [...gone.map((ply) => message('look.at', { ply })), ...since.map((ply) => message('look.since', { ply }))];
 }

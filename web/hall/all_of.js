@@ -2,15 +2,16 @@
 
 import { otherName } from '../kept/file_names.js';
 import { zipped } from '../kept/zip.js';
+import { message } from '../../live/web/page/message.js';
 import { stamped } from './log.js';
 
-const CAPTURE = 'the capture: what the board sent, and what was added by hand';
-const TIMES = 'when these bytes came, and what else happened at the board';
-const PGN = 'the game, as it was recorded';
-const RECORD = "what else the browser keeps of it: options, with the players' names; where it ended; what somebody is still to look at";
-const BEFORE = 'the capture before plies were taken off';
-const OTHER = "times that don't belong to the capture";
-const LOG = 'what the page has said since it was opened';
+const CAPTURE = message('packed.capture');
+const TIMES = message('packed.times');
+const PGN = message('packed.pgn');
+const RECORD = message('packed.record');
+const BEFORE = message('packed.before_back');
+const OTHER = message('packed.other_times');
+const LOG = message('packed.page');
 
 /** The files of a game, in a folder of its name: [{ name, content, has }]. Those without content aren't there. */
 function filesOf({ pgn, bytes, times, texts, ...record }, before, others) {
@@ -35,13 +36,13 @@ function readMe(id, files, now) {
   const width = Math.max(...files.map(({ name }) => name.length));
   const lines = files.map(({ name, content, has }) => `${name.padEnd(width)}  ${String(content.length).padStart(9)}  ${has}`);
   return [
-    `Today's games of board ${id}, recorded from a DGT board by a page, and saved ${stamped(now)}.`,
-    'They have the names of the players. The numbers are sizes.',
+    message('pack.title_of_a_board', { board: id, now: stamped(now) }),
+    message('pack.has_names'),
     '',
     ...lines,
     '',
-    `Saved in ${navigator.userAgent}.`,
-    `To see what the program made of a capture: dgt_replay follow < '${files[0].name}'`,
+    message('pack.saved_in', { browser: navigator.userAgent }),
+    message('pack.to_see_a_capture', { name: files[0].name }),
     '',
   ].join('\n');
 }

@@ -3,6 +3,7 @@
 // So no board gets a second card.
 
 import { missingDevice, systemOf, whichDevice } from '../device/systems.js';
+import { Complaint, linked, message } from '../../live/web/page/message.js';
 
 const NO_ANSWER = { connection: null, came: [], number: '', isSilent: true };
 
@@ -20,6 +21,9 @@ export function whoseBoard(seats, { number, isSilent }) {
   return { seat: null, asks: isSilent ? [] : away };
 }
 
+/** That something can't be done, and why. */
+const toldOf = (error) => linked('colon', [message('failed.that'), error.message || error]);
+
 export class Devices {
   constructor(hall) {
     this.hall = hall;
@@ -35,7 +39,7 @@ export class Devices {
   async add() {
     const port = await this.chosen();
     if (!port) return;
-    if (this.holder(port)) this.show(this.holder(port), 'this device is recorded already');
+    if (this.holder(port)) this.show(this.holder(port), message('port.recorded_already'));
     else await this.hear(port, (heard) => this.inTurn(() => this.place(port, heard)));
   }
 
@@ -49,7 +53,7 @@ export class Devices {
     } catch (error) {
       if (error.name !== 'NotFoundError') throw error;
       const system = systemOf(navigator);
-      this.hall.notice('device', `No device was chosen. ${whichDevice(system)} ${missingDevice(system)}`);
+      this.hall.notice('device', linked('space', [message('port.none_chosen'), whichDevice(system), missingDevice(system)]));
       return null;
     }
   }
@@ -83,7 +87,7 @@ export class Devices {
 
   async recordFrom(port, seat) {
     const holder = this.holder(port);
-    if (holder && holder !== seat) throw new Error(`board ${holder.id} is recorded from it`);
+    if (holder && holder !== seat) throw new Complaint(message('port.recorded_from', { board: holder.id }));
     await this.hear(port, (heard) => this.giveTo(seat, port, heard));
   }
 
@@ -92,7 +96,8 @@ export class Devices {
     const owner = heard.number && heard.number !== seat.serial ? this.hall.seatOf(heard.number, seat) : null;
     if (owner && !owner.isAway) {
       await this.close(heard);
-      throw new Error(`this is the board with serial number ${heard.number}, and board ${owner.id} is recorded from it`);
+      const from = message('port.recorded_from', { board: owner.id });
+      throw new Complaint(message('port.is_another_board', { number: heard.number, from }));
     }
     await this.goOn(owner || seat, port, heard);
   }
@@ -110,7 +115,7 @@ export class Devices {
     const left = seat.recorder.cable.leave();
     seat.port = null;
     const isShown = window.location.hash === `#${seat.id}`;
-    const fails = (error) => this.hall.says(`its board can't be taken over: ${error.message}`, other.id);
+    const fails = (error) => this.hall.says(message('port.not_taken_over', { why: error.message }), other.id);
     this.record(other, port, left).catch(fails);
     this.hall.remove(seat).catch(fails);
     if (isShown) this.show(other);
@@ -120,7 +125,7 @@ export class Devices {
   came(port, heard) {
     const { seat, asks } = this.whose(port, heard);
     if (seat || asks.length === 0) return;
-    this.hall.says("a board is connected, and the page can't see which one it is");
+    this.hall.says(message('port.unclear'));
     this.askWhich(port, heard).catch((error) => this.hall.says(error.message));
   }
 
@@ -155,20 +160,19 @@ export class Devices {
   async askWhich(port, heard) {
     await this.close(heard);
     const { asks } = this.whose(port, heard);
-    const gives = heard.number ? `has serial number ${heard.number}, which is new here` : 'gives no serial number';
-    this.ask(`A board is connected that ${gives}. Which one is it?`, [
-      ...asks.map((seat) => [`Board ${seat.id}`, () => this.recordFrom(port, seat)]),
-      ['A new board', () => this.addAnew(port)],
+    const { number } = heard;
+    this.ask(number ? message('ask.new_number', { number }) : message('ask.no_number'), [
+      ...asks.map((seat) => [message('label.board', { board: seat.id }), () => this.recordFrom(port, seat)]),
+      [message('label.new_board'), () => this.addAnew(port)],
     ]);
   }
 
   /** A board of this number is recorded from another device, and answers there. */
   async askWhetherSame(seat, port, heard) {
     await this.close(heard);
-    const text = `Board ${seat.id} is recorded already, from a device with the same serial number, ${heard.number}.`;
-    this.ask(text, [
-      [`Show board ${seat.id}`, async () => this.show(seat)],
-      ['It is another board', () => this.addAnew(port)],
+    this.ask(message('ask.same_number', { board: seat.id, number: heard.number }), [
+      [message('label.show_board', { board: seat.id }), async () => this.show(seat)],
+      [message('label.another_board'), () => this.addAnew(port)],
     ]);
   }
 
@@ -176,7 +180,7 @@ export class Devices {
   ask(text, answers) {
     const answered = (done) => () => {
       this.hall.notice('which', '');
-      done().catch((error) => this.hall.notice('which', `That can't be done: ${error.message || error}`, [], true));
+      done().catch((error) => this.hall.notice('which', message('join.capital', { text: toldOf(error) }), [], true));
     };
     this.hall.notice('which', text, answers.map(([label, done]) => [label, answered(done)]));
   }
@@ -188,7 +192,7 @@ export class Devices {
     if (connection) seat.take(port, connection, came);
     else await seat.plug(port);
     this.hall.notice('which', '');
-    this.hall.says('its board has this device now, and its game goes on', seat.id);
+    this.hall.says(message('port.goes_on'), seat.id);
     if (seat.recorder) seat.recorder.knows({ info: port.getInfo() });
   }
 

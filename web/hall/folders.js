@@ -2,6 +2,7 @@
 
 import { Folder } from '../kept/folder.js';
 import { ROUND, freeName } from '../kept/file_names.js';
+import { linked, message } from '../../live/web/page/message.js';
 
 const MODE = { mode: 'readwrite' };
 const AWAITED = 1.0; // seconds that a file waits until its text is kept in the browser
@@ -28,26 +29,27 @@ export class Folders {
       return;
     }
     this.kept = handle;
-    this.hall.notice('folder', `The games were also written to the folder ${handle.name}. The browser wants to be asked again.`, [
-      [`Write to ${handle.name}`, () => this.goOn().catch((error) => this.hall.says(error.message))],
-    ]);
+    const goesOn = () => this.goOn().catch((error) => this.hall.says(error.message));
+    const folder = handle.name;
+    this.hall.notice('folder', message('filed.ask_again', { folder }), [[message('label.write_to', { folder }), goesOn]]);
   }
 
   async goOn() {
     if ((await this.kept.requestPermission(MODE)) === 'granted') await this.use(this.kept);
-    else this.asks(`The browser doesn't let this page write to ${this.kept.name}. The games are kept in this browser alone.`);
+    else this.asks(message('filed.not_let', { folder: this.kept.name }));
   }
 
   /** A notice with the button that lets somebody choose a folder. */
   asks(text, name = 'folder', isAlarm = false) {
-    const choose = () => this.choose().catch((error) => this.asks(`The folder can't be used: ${error.message || error.name}.`));
-    this.hall.notice(name, text, text ? [['Choose a folder', choose]] : [], isAlarm);
+    const fails = (error) => this.asks(message('filed.unusable', { why: error.message || error.name }));
+    const choose = () => this.choose().catch(fails);
+    this.hall.notice(name, text, text ? [[message('label.choose_folder'), choose]] : [], isAlarm);
   }
 
   /** Lets somebody choose one. */
   async choose() {
     if (!window.showDirectoryPicker) {
-      this.hall.notice('folder', "This browser can't write to a folder. Save each game with the buttons on its board.");
+      this.hall.notice('folder', message('filed.no_folders'));
       return;
     }
     const handle = await this.pick();
@@ -62,8 +64,7 @@ export class Folders {
       return await window.showDirectoryPicker({ id: 'dgt-recorder', ...MODE });
     } catch (error) {
       if (error.name !== 'AbortError') throw error;
-      const where = this.folder ? `are still written to the folder ${this.folder.name}` : 'are kept in this browser alone';
-      this.asks(`The browser gave this page no folder. The games ${where}.`);
+      this.asks(this.folder ? message('filed.as_before', { folder: this.folder.name }) : message('filed.none_given'));
       return null;
     }
   }
@@ -86,7 +87,7 @@ export class Folders {
     this.hall.notice('files', '');
     this.hall.notice('folder', '');
     this.hall.notice('persist', '');
-    this.hall.says(`the games are written to the folder ${handle.name}, at each move`);
+    this.hall.says(message('filed.at_each_move', { folder: handle.name }));
     for (const seat of this.hall.seats.values()) {
       seat.finished.forEach((game) => this.finishes(game));
       this.placed(seat);
@@ -109,14 +110,16 @@ export class Folders {
   trouble(folder, text) {
     if (folder !== this.folder) return;
     this.failed = text;
-    this.hall.says(text ? `${text}: it is tried again each 5 seconds. Or choose another folder` : 'all files are written again');
-    this.asks(text ? `${text}. The recording goes on. Put that right, or choose another folder.` : '', 'files', true);
+    this.hall.says(text ? message('filed.tried_again', { trouble: text }) : message('filed.written_again'));
+    this.asks(text ? message('filed.put_right', { trouble: text }) : '', 'files', true);
     this.hall.changed();
   }
 
-  get words() {
-    if (this.failed) return '; files are NOT WRITTEN';
-    return this.folder ? `, in the folder ${this.folder.name}` : ', kept in this browser';
+  /** What the page does, with where the files are. */
+  standing(words) {
+    if (this.failed) return linked('semicolon', [words, message('standing.not_written')]);
+    const where = this.folder ? message('standing.in_folder', { folder: this.folder.name }) : message('standing.in_browser');
+    return linked('comma', [words, where]);
   }
 
   get isAlarm() {
@@ -203,7 +206,7 @@ export class Folders {
       taken.push(name);
       name = freeName(wanted, taken);
     }
-    if (name !== wanted) this.hall.says(`${wanted} is in the folder already: the game is called ${name}`);
+    if (name !== wanted) this.hall.says(message('filed.name_taken', { wanted, name }));
     return name;
   }
 
@@ -250,9 +253,6 @@ export class Folders {
     if (this.isPersistent || !navigator.storage || !navigator.storage.persist) return;
     this.isPersistent = await navigator.storage.persist();
     if (this.isPersistent || this.folder || this.kept) return;
-    this.asks(
-      'The games are kept in this browser alone, which may delete them when the disk is nearly full. Choose a folder to have files too.',
-      'persist',
-    );
+    this.asks(message('filed.may_be_deleted'), 'persist');
   }
 }

@@ -8,6 +8,7 @@ import { Database } from '../kept/database.js';
 import { fileName, freeName, nameOfPlayers } from '../kept/file_names.js';
 import { Loop } from '../loop.js';
 import { save } from '../page/saving.js';
+import { linked, message, plural } from '../../live/web/page/message.js';
 import { Devices } from './devices.js';
 import { Exchanges } from './exchanged.js';
 import { Folders } from './folders.js';
@@ -61,8 +62,7 @@ export class Hall {
     try {
       this.database = await Database.open();
     } catch (error) {
-      this.notice('database', `The browser can't keep anything for this page (${error.message}), so no board can be recorded. Make ` +
-        'room on the disk, leave private browsing, and allow pages to store data. It is tried again by itself.', [], true);
+      this.notice('database', message('keep.nothing', { why: error.message }), [], true);
       this.isReady = true;
       this.loop.after(AGAIN, () => this.begin());
       return;
@@ -113,9 +113,8 @@ export class Hall {
   /** What the boards send can't be kept, or again. */
   tellUnsaved() {
     this.wasUnsaved = this.isUnsaved;
-    const text = "The browser can't keep what the boards send: is its disk full? Don't reload this page, and don't close it: what " +
-      'has come since is in its memory alone. Make room on the disk, and press Save all games. It is tried again each second.';
-    this.notice('unsaved', this.wasUnsaved ? text : '', [['Save all games', () => this.saveRound()]], true);
+    const buttons = [[message('label.save_all'), () => this.saveRound()]];
+    this.notice('unsaved', this.wasUnsaved ? message('keep.boards_unkept') : '', buttons, true);
   }
 
   // Its boards.
@@ -150,14 +149,14 @@ export class Hall {
   }
 
   standing() {
-    if (!this.isReady) return { words: 'Starting', isAlarm: false, isLive: false };
+    if (!this.isReady) return { words: message('standing.starting'), isAlarm: false, isLive: false };
     const open = this.recorded().filter((seat) => seat.recorder.cable.isOpen).length;
-    const count = (number, one, many) => (number === 1 ? one : `${number} ${many}`);
-    const others = this.elsewhere.size > 0 ? `; another tab records ${count(this.elsewhere.size, 'one more', 'more')}` : '';
-    if (open === 0) return { words: `No board is recorded${others}`, isAlarm: false, isLive: false };
-    const where = this.wasUnsaved ? ", NOT KEPT: don't reload this page" : this.folders.words;
-    const words = `Recording ${count(open, 'one board', 'boards')}${others}${where}`;
-    return { words, isAlarm: this.folders.isAlarm || this.wasUnsaved, isLive: true };
+    const others = this.elsewhere.size > 0 ? [plural('standing.elsewhere', this.elsewhere.size)] : [];
+    const front = open === 0 ? message('standing.nothing') : plural('standing.recording', open);
+    const words = linked('semicolon', [front, ...others]);
+    if (open === 0) return { words, isAlarm: false, isLive: false };
+    const told = this.wasUnsaved ? linked('comma', [words, message('standing.not_kept')]) : this.folders.standing(words);
+    return { words: told, isAlarm: this.folders.isAlarm || this.wasUnsaved, isLive: true };
   }
 
   freeNumber() {
@@ -179,7 +178,7 @@ export class Hall {
     const board = { id, serial: '', info, game: 0 };
     await this.database.beginGame(board, game, []);
     const seat = await this.seatBoard({ ...board });
-    this.says(`records ${game.name}`, id);
+    this.says(message('board.records_game', { name: game.name }), id);
     this.folders.persist().catch(() => {}); // the notice about that comes with the next board
     return seat;
   }
@@ -207,7 +206,7 @@ export class Hall {
     const isOurs = await this.lock(name, { ifAvailable: true });
     if (!isOurs) {
       this.elsewhere.add(board.id);
-      this.notice('elsewhere', 'Another tab of this page records some of the boards. They come here when it is closed.');
+      this.notice('elsewhere', message('standing.other_tab'));
       this.lock(name, {}).then(async () => {
         this.elsewhere.delete(board.id);
         if (this.elsewhere.size === 0) this.notice('elsewhere', '');
@@ -334,7 +333,7 @@ export class Hall {
   async saveRound() {
     await Promise.allSettled(this.recorded().map((seat) => seat.text()));
     const text = this.round();
-    this.notice('saved', text ? '' : 'No game has a move yet, so nothing was saved.');
+    this.notice('saved', text ? '' : message('failed.nothing_to_save'));
     if (text) save('round.pgn', text, 'application/vnd.chess-pgn');
   }
 

@@ -7,6 +7,7 @@ import { KEEP, NUMBER, OTHER, WAKE } from '../game/attended.js';
 import { BEGIN, HEARD, OPENED } from '../game/times.js';
 import { optionsOf } from '../game/options.js';
 import { Guard } from '../guard.js';
+import { isSame, message } from '../../live/web/page/message.js';
 
 const NOBODY = new TextEncoder().encode('-----'); // no board's number: each one that comes is another board's
 const AGAIN = 2.0; // seconds between two looks for boards that are awaited
@@ -77,7 +78,7 @@ export class Ports {
     this.came(port).catch((error) => {
       console.error(error);
       const why = error.message || String(error);
-      if (why !== this.trouble) this.hears.says(`a device can't be looked at: ${why}`);
+      if (!isSame(why, this.trouble)) this.hears.says(message('port.not_looked_at', { why }));
       this.trouble = why;
     });
   }

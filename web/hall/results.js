@@ -7,6 +7,7 @@ import { forfeitOf } from '../game/forfeits.js';
 import { textOf } from '../game/reading.js';
 import { withAdded } from '../game/times.js';
 import { spread } from '../kept/spread.js';
+import { message } from '../../live/web/page/message.js';
 
 /** The last game of a board before the one that is on, if it has no result; else null. */
 export function unended(finished) {
@@ -30,5 +31,5 @@ export async function giveResult(hall, game, outcome) {
   Object.assign(game, { end, bytes, times: lines, pgn: text });
   hall.folders.finishes(game);
   hall.folders.round();
-  hall.says(`added by hand: the result ${outcome} of ${game.name}`, game.board);
+  hall.says(message('typed.added_by_hand', { what: message('result.of', { result: outcome, name: game.name }) }), game.board);
 }

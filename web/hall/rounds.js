@@ -5,6 +5,7 @@ import { UNKNOWN, withTag, written } from '../game/options.js';
 import { pairsOf } from '../game/pairs.js';
 import { OF_ALL, optionsOfRound, repeated, roundAfter } from '../game/rounds.js';
 import { nameOfPlayers } from '../kept/file_names.js';
+import { isSame, linked, message } from '../../live/web/page/message.js';
 
 const MOST_NAMED = 4; // games that a question names
 
@@ -50,7 +51,8 @@ export class Rounds {
   /** New boards get these tags. */
   give(given) {
     this.hall.given = given;
-    this.hall.database.set('given', given).catch((error) => this.hall.says(`the browser can't keep what new boards get: ${error.message}`));
+    const fails = (error) => this.hall.says(message('keep.given', { why: error.message }));
+    this.hall.database.set('given', given).catch(fails);
   }
 
   // A new round.
@@ -94,7 +96,7 @@ export class Rounds {
     for (const seat of seats) {
       const isOn = goOn.includes(seat) || (!seat.isWritten && !seat.isOver);
       await this.beginOn(seat, options.get(seat), isOn).catch((error) => {
-        this.hall.says(`the new round can't be begun here: ${error.message}`, seat.id);
+        this.hall.says(message('failed.round_here', { why: error.message }), seat.id);
         failed.push(seat);
       });
     }
@@ -135,18 +137,19 @@ export class Rounds {
   look() {
     if (this.isKeeping) return;
     const games = this.repeated();
-    const nameOf = ({ board, options }) => `board ${board}, ${nameOfPlayers(written(options, 'White'), written(options, 'Black'))}`;
-    const more = games.length > MOST_NAMED ? `; and ${games.length - MOST_NAMED} more` : '';
-    const which = games.slice(0, MOST_NAMED).map(nameOf).join('; ');
-    const text = games.length > 0 ? `A game has the same names and the same round as one before it (${which}${more}). Is that right?` : '';
-    if (text === this.asked) return;
+    const players = (options) => nameOfPlayers(written(options, 'White'), written(options, 'Black'));
+    const nameOf = ({ board, options }) => linked('comma', [message('round.board', { board }), players(options)]);
+    const more = games.length > MOST_NAMED ? [message('ask.and_more', { count: games.length - MOST_NAMED })] : [];
+    const which = linked('semicolon', [...games.slice(0, MOST_NAMED).map(nameOf), ...more]);
+    const text = games.length > 0 ? message('ask.same_names', { games: which }) : '';
+    if (isSame(text, this.asked)) return;
     this.asked = text;
     const fails = (error) => this.hall.says(error.message || String(error));
-    const names = games.length === 1 ? [['Change the names', () => this.hall.hears.names(games[0].board)]] : [];
+    const names = games.length === 1 ? [[message('label.change_names'), () => this.hall.hears.names(games[0].board)]] : [];
     this.hall.notice('again', text, text ? [
-      ['New round', () => this.hall.hears.newRound()],
+      [message('label.new_round'), () => this.hall.hears.newRound()],
       ...names,
-      ['It is right', () => this.isRight(games).catch(fails)],
+      [message('label.is_right'), () => this.isRight(games).catch(fails)],
     ] : []);
   }
 

@@ -12,10 +12,10 @@ import { textOf } from '../game/reading.js';
 import { Capture, Front } from '../kept/capture.js';
 import { textOf as textOfTimes } from '../kept/times.js';
 import { Guard } from '../guard.js';
+import { Complaint, isSame, linked, message } from '../../live/web/page/message.js';
 import { unended } from './results.js';
 
 const AGAIN = 5.0; // seconds until a recorder that an error has ended is begun again
-const FULL = 'Its capture is full: what the board sends is not kept until the next game begins.';
 
 export class Seat {
   /** `hears` gets changed(seat, isNews), placed(seat), says(seat, text, isMove), and what a Recorder asks. */
@@ -59,7 +59,7 @@ export class Seat {
     const { boards, games } = all || { boards: await database.boards(), games: await database.games() };
     const board = boards.find(({ id }) => id === this.id);
     const game = games.find(({ id }) => id === board.game);
-    if (!game) throw new Error('its game is no more in this browser: remove the board, and add it again');
+    if (!game) throw new Complaint(message('keep.game_is_gone'));
     const [capture, times] = await Promise.all([Capture.read(database, game.id), this.readTimes(game.id)]);
     await this.readFinished(games.filter((one) => one.board === this.id && one !== game));
     return { board, game, capture, times };
@@ -104,7 +104,8 @@ export class Seat {
   broke(error) {
     console.error(error);
     const why = error.message || String(error);
-    if (why !== this.trouble) this.hears.says(this, `NOT RECORDED: ${why}. It is tried again by itself`);
+    const told = linked('stop', [message('state.not_recorded_why', { why }), message('failed.tried_again')]);
+    if (!isSame(why, this.trouble)) this.hears.says(this, told);
     this.trouble = why;
     this.changed();
     this.hall.loop.after(AGAIN, () => {
@@ -277,19 +278,20 @@ export class Seat {
 
   standing(now) {
     const { recorder, trouble } = this;
-    if (trouble) return { ...resting(`NOT RECORDED: ${trouble}`), alarm: true };
-    if (recorder.trouble) {
-      return { ...resting(`NOT RECORDED: ${recorder.trouble}`), alarm: true, mend: lockedDevice(systemOf(navigator)) };
+    const why = trouble || recorder.trouble;
+    if (why) {
+      const mend = trouble ? '' : lockedDevice(systemOf(navigator));
+      return { ...resting(message('state.not_recorded_why', { why })), alarm: true, mend };
     }
     const looks = recorder.alarms.looks.short;
-    const over = recorder.next.awaited ? 'over: set up the pieces for the next game' : 'over';
+    const over = recorder.next.awaited ? message('state.over_set_up') : message('state.over');
     const mend = recorder.next.awaited || recorder.room.isFull || recorder.isPlayedOn ? '' : mendOfOver(recorder.course);
     if (recorder.forfeit && !recorder.capture.trouble) return resting(wordsOfForfeit(recorder.forfeit), looks);
-    if (recorder.room.isOut) return { ...resting('over: press Next game', looks, FULL), alarm: true };
+    if (recorder.room.isOut) return { ...resting(message('state.over_press_next'), looks, message('mend.capture_full')), alarm: true };
     if (recorder.isOver && !recorder.capture.trouble) return resting(over, looks, mend);
-    if (recorder.isStopped) return resting('stopped', looks);
+    if (recorder.isStopped) return resting(message('state.stopped'), looks);
     const stands = standing(recorder.state, now);
-    return { ...stands, mend: [recorder.hidden.advice, stands.mend].filter((part) => part).join(' ') };
+    return { ...stands, mend: linked('space', [recorder.hidden.advice, stands.mend].filter((part) => part)) };
   }
 
   // What the recorder reports and asks.
@@ -329,7 +331,7 @@ export class Seat {
 
   owner(number) {
     const other = this.hears.seatOf(number, this);
-    return other ? { name: `board ${other.id}`, hasMoves: other.hasMoves, isOver: other.isOver } : null;
+    return other ? { name: message('round.board', { board: other.id }), hasMoves: other.hasMoves, isOver: other.isOver } : null;
   }
 
   /** Its game gets the board with this number, also if it was another one's. */

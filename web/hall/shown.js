@@ -3,6 +3,7 @@
 import { resting, viewOf } from '../board/view.js';
 import { optionsOf } from '../game/options.js';
 import { gameOf, textOf } from '../game/reading.js';
+import { Complaint, message } from '../../live/web/page/message.js';
 
 export class Shown {
   constructor(program, id, fileName, content) {
@@ -26,7 +27,7 @@ export class Shown {
   /** Reads it. Throws an Error if no board has sent it. */
   async read() {
     const course = await gameOf(this.program, this.options, this.content);
-    if (!course.placement) throw new Error('it has nothing that a board sends. Choose a .dgt file');
+    if (!course.placement) throw new Complaint(message('capture.of_no_board'));
     this.pgn = await textOf(this.program, this.options, this.content);
     this.course = course;
   }
@@ -44,7 +45,7 @@ export class Shown {
   }
 
   show() {
-    return viewOf(this.id, this, this.course, resting(`a capture: ${this.fileName}`));
+    return viewOf(this.id, this, this.course, resting(message('state.capture', { file: this.fileName })));
   }
 
   async edit({ options, name }) {

@@ -4,6 +4,8 @@
 // Each transaction but those of times alone is strict: it ends only after its data was handed to the disk. One whose requests are all
 // known is committed at once: else the browser waits until this page has heard of each of them, and draws before that.
 
+import { Complaint, message } from '../../live/web/page/message.js';
+
 const NAME = 'dgt_recorder';
 const VERSION = 1;
 const LAST = Number.MAX_SAFE_INTEGER;
@@ -26,7 +28,7 @@ function changed(database, stores, make, durability = STRICT) {
     const transaction = database.transaction(stores, 'readwrite', { durability });
     let made;
     transaction.oncomplete = () => done(made && made.result);
-    transaction.onabort = () => failed(transaction.error || new Error('the browser has ended the transaction'));
+    transaction.onabort = () => failed(transaction.error || new Complaint(message('keep.transaction_ended')));
     made = make(transaction);
   });
 }

@@ -1,6 +1,7 @@
 // The folder that somebody has chosen. Each file is written as another one, and moved to its place when it is whole.
 
-import { isEarlier as areEarlierTimes } from '../game/times.js';
+import { NOTHING, isEarlier as areEarlierTimes } from '../game/times.js';
+import { message } from '../../live/web/page/message.js';
 import { Front } from './capture.js';
 import { editedName, isEarlier } from './edited.js';
 import { otherName } from './file_names.js';
@@ -84,7 +85,7 @@ export class Folder {
       try {
         await this.writeOne(name, content);
       } catch (error) {
-        tried.set(name, `${name} can't be written in the folder ${this.name} (${error.message || error.name})`);
+        tried.set(name, message('filed.unwritten', { file: name, folder: this.name, why: error.message || error.name }));
         if (!this.waiting.has(name)) this.waiting.set(name, content);
       }
     }
@@ -152,7 +153,7 @@ export class Folder {
     const kept = editedName(name, number);
     this.written.set(kept, found);
     await this.writeOne(kept, found);
-    this.hears.says(`${name} had another text, which this page has not written: it is kept in ${kept}`);
+    this.hears.says(message('filed.kept_edited', { file: name, kept }));
   }
 
   /** Keeps a capture that this page hasn't written under another name, before one that has less replaces it. */
@@ -162,7 +163,7 @@ export class Folder {
     const found = await this.bytesOf(name);
     const kept = await this.freeBefore(name.replace(/\.dgt$/, ''));
     await this.writeOne(kept, found);
-    this.hears.says(`${name} had more than this page has of the game: it is kept in ${kept}`);
+    this.hears.says(message('filed.kept_longer', { file: name, kept }));
   }
 
   /** Keeps times that this page hasn't written under another name, before others replace them. */
@@ -174,7 +175,7 @@ export class Folder {
     while (await this.has(otherName(name, number))) number += 1;
     const kept = otherName(name, number);
     await this.writeOne(kept, found);
-    this.hears.says(`${name} had other times than this page has of the game: they are kept in ${kept}. Nothing is to be done`);
+    this.hears.says(message('filed.kept_times', { file: name, kept, nothing: NOTHING }));
   }
 
   /** A free name for a capture as it was before. */

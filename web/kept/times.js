@@ -4,6 +4,7 @@
 import {
   ADDED, ASKED, AWAY, BEGIN, HEADED, HEARD, OVER, adding, cut, heading, isOf, kept, lineAfter, lines, toldOf, toldOfMissing, toldOfOther, toldOfTrouble,
 } from '../game/times.js';
+import { Complaint, isSame, message } from '../../live/web/page/message.js';
 import { otherName } from './file_names.js';
 import { LARGEST } from './limit.js';
 
@@ -72,7 +73,7 @@ export class Times {
 
   /** Takes over what is there, and returns for how many milliseconds nobody was; null if that isn't known. */
   look(rows) {
-    if (rows === null) throw new Error("the browser can't read it");
+    if (rows === null) throw new Complaint(message('keep.unreadable'));
     const text = textOf(rows);
     const found = kept(text);
     const { size } = this.capture;
@@ -188,7 +189,7 @@ export class Times {
     for (const [at, what] of this.events) if (what === BEGIN) this.from = at;
     this.events = [];
     if (this.text.length + more.length < LARGEST) this.text += more;
-    else this.fails(new Error('it has 64 MiB'));
+    else this.fails(new Complaint(message('times.full')));
   }
 
   /** What another call goes on behind, if the database may lack some of it. */
@@ -263,7 +264,7 @@ export class Times {
       this.number = row.number + 1;
       this.size = text.length;
       if (edition === this.edition) this.isAnew = false;
-      if (this.trouble) this.hears.says(`${this.name} is kept again`);
+      if (this.trouble) this.hears.says(message('times.kept_again', { path: this.name }));
       this.trouble = '';
     }
     if (this.events.length > 0 || this.isAnew) this.writeSoon();
@@ -272,7 +273,7 @@ export class Times {
   /** It can't be kept: it waits in memory. */
   fails(error) {
     const why = error.message || String(error);
-    if (why !== this.trouble) this.hears.says(toldOfTrouble(this.name, why));
+    if (!isSame(why, this.trouble)) this.hears.says(toldOfTrouble(this.name, why));
     this.trouble = why;
     this.writeSoon(AGAIN);
   }

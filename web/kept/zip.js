@@ -1,6 +1,7 @@
 // Several files in one: a zip archive, in which each is stored as it is. Pure. PKWARE's APPNOTE has the format.
 
 import { joined } from '../device/protocol.js';
+import { Complaint, message } from '../../live/web/page/message.js';
 
 const [FILE, ENTRY, END] = [0x04034b50, 0x02014b50, 0x06054b50]; // what begins a file, its entry in the list, and the list's end
 const VERSION = 20; // that a reader must know
@@ -48,7 +49,7 @@ export function zipped(files, date) {
     at = parts.reduce((size, part) => size + part.length, 0);
   }
   const list = joined(...entries);
-  if (at + list.length > LARGEST) throw new RangeError('the files are too large for one archive');
+  if (at + list.length > LARGEST) throw new Complaint(message('pack.too_large'));
   const end = numbers([4, END], [2, 0], [2, 0], [2, files.length], [2, files.length], [4, list.length], [4, at], [2, 0]);
   return joined(...parts, list, end);
 }

@@ -1,10 +1,11 @@
 // All boards in a grid of cards, and one of them large if it is opened.
 
-import { numbered, printedResult, spoken } from '../../live/web/page/chess.js';
+import { printedResult, spokenPly } from '../../live/web/page/chess.js';
 import { element, say } from '../../live/web/page/diagram.js';
 import { fit, placeAfter } from '../../live/web/page/grid.js';
 import { Large } from '../../live/web/page/large.js';
 import { Tile } from '../../live/web/page/tile.js';
+import { linked, message, plural } from '../../live/web/page/message.js';
 import { announce } from './announcer.js';
 import { at } from './elements.js';
 
@@ -89,8 +90,8 @@ export class Cards {
     }
     views.forEach((view, index) => this.place(view.number, index));
     views.forEach((view) => this.drawOne(view));
-    say(at('event'), this.hall.event || 'Chess recorder');
-    say(at('add'), this.hall.devices.isAsking ? 'Asking the board' : 'Add a board');
+    say(at('event'), this.hall.event || message('label.title'));
+    say(at('add'), this.hall.devices.isAsking ? message('label.asking') : message('label.add'));
     at('welcome').hidden = views.length > 0;
     at('new-round').disabled = this.hall.recorded().length === 0;
     this.showLine();
@@ -133,35 +134,35 @@ export class Cards {
   showAlarms(views) {
     const numbers = views.filter(({ alarm }) => alarm).map(({ number }) => number);
     const place = at('alarms');
-    const title = `${numbers.length > 0 ? '(!) ' : ''}${this.hall.event || 'Chess recorder'}`;
+    const title = `${numbers.length > 0 ? '(!) ' : ''}${this.hall.event || message('label.title')}`;
     if (document.title !== title) document.title = title;
     if (place.dataset.numbers === numbers.join()) return;
     place.dataset.numbers = numbers.join();
     place.hidden = numbers.length === 0;
-    place.replaceChildren(numbers.length === 1 ? 'Look at board' : 'Look at boards');
+    place.replaceChildren(plural('label.look_at', numbers.length));
     for (const number of numbers.slice(0, MOST_LINKS)) {
       const link = element('a', '', String(number));
       link.href = `#${number}`;
       place.append(' ', link);
     }
-    if (numbers.length > MOST_LINKS) place.append(` and ${numbers.length - MOST_LINKS} more`);
+    if (numbers.length > MOST_LINKS) place.append(' ', message('ask.and_more', { count: numbers.length - MOST_LINKS }));
   }
 
   /** What a screen reader reads out: the alarms of all boards, and the moves and the result of the large one. */
   announce(board, before) {
-    const name = `Board ${board.number}`;
-    if (board.alarm && (!before.alarm || board.state !== before.state)) announce(`${name}: ${board.state}`, true);
+    const name = message('label.board', { board: board.number });
+    if (board.alarm && (!before.alarm || board.state !== before.state)) announce(linked('colon', [name, board.state]), true);
     if (this.open !== board.number) return;
     const words = [];
     const count = board.moves.length;
     const isNew = count > before.moves.length || (count > 0 && before.moves[count - 1].san !== board.moves[count - 1].san);
     if (count > 0 && isNew) {
       const { san, clock } = board.moves[count - 1];
-      const { number, side } = numbered(board.positions[0], count - 1);
-      words.push(`${number}, ${side === 'w' ? 'White' : 'Black'}: ${spoken(san)}${clock ? `, clock ${clock}` : ''}`);
+      const withClock = clock ? [message('read.clock', { time: clock })] : [];
+      words.push(linked('comma', [spokenPly(board.positions[0], count - 1, san), ...withClock]));
     }
-    if (board.result !== before.result && board.result !== '*') words.push(`result ${printedResult(board.result)}`);
-    if (words.length > 0) announce(`${name}: ${words.join('. ')}`);
+    if (board.result !== before.result && board.result !== '*') words.push(message('read.result', { result: printedResult(board.result) }));
+    if (words.length > 0) announce(linked('colon', [name, linked('stop', words)]));
   }
 
   // Which board is large.

@@ -1,6 +1,7 @@
 // Captures that are dropped on the page, or opened: their games are shown.
 
 import { LARGEST } from '../kept/limit.js';
+import { Complaint, message } from '../../live/web/page/message.js';
 import { at } from './elements.js';
 
 export class Dropping {
@@ -29,10 +30,10 @@ export class Dropping {
   async take(files) {
     for (const file of files) {
       try {
-        if (file.size > LARGEST) throw new Error('a capture has 64 MiB at most');
+        if (file.size > LARGEST) throw new Complaint(message('capture.too_long'));
         await this.show(file.name, new Uint8Array(await file.arrayBuffer()));
       } catch (error) {
-        this.messages.notice('failed', `${file.name} can't be shown: ${error.message || error}`, [], true);
+        this.messages.notice('failed', message('capture.not_shown', { file: file.name, why: error.message || error }), [], true);
       }
     }
   }

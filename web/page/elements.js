@@ -1,6 +1,7 @@
 // Small helpers for the page's elements. Texts are set as text, never as markup.
 
 import { element } from '../../live/web/page/diagram.js';
+import { linked, message } from '../../live/web/page/message.js';
 
 export const at = (name) => document.getElementById(name);
 
@@ -21,7 +22,8 @@ export function bytesIn(text) {
 export function failed(messages, what) {
   return (error) => {
     console.error(error);
-    messages.say(`${what}: ${error.message || error}`);
-    messages.notice('failed', `${what[0].toUpperCase()}${what.slice(1)}: ${error.message || error}`);
+    const text = linked('colon', [what, error.message || error]);
+    messages.say(text);
+    messages.notice('failed', message('join.capital', { text }));
   };
 }

@@ -4,6 +4,7 @@ import { drawPieces } from '../../live/web/page/diagram.js';
 import { Hall } from '../hall/hall.js';
 import { missingDevice, systemOf, whichDevice } from '../device/systems.js';
 import { lacking } from '../game/program.js';
+import { linked, message } from '../../live/web/page/message.js';
 import { announce } from './announcer.js';
 import { Cards } from './cards.js';
 import { Dropping } from './dropping.js';
@@ -12,8 +13,6 @@ import { Panel } from './panel.js';
 import { RoundDialog } from './round_dialog.js';
 import { at, bytesIn, failed } from './elements.js';
 
-const WHERE_SERIAL = 'To record a board, open this page in Chrome or Edge on a computer (Windows, macOS, Linux, ChromeOS)';
-const WHERE_MODULE = 'Open this page in Chrome or Edge, version 137 or later';
 
 async function begin() {
   drawPieces();
@@ -37,27 +36,23 @@ async function begin() {
   cards.panel = new Panel(hall, messages);
   const dropping = new Dropping(hall, messages);
 
-  at('add').addEventListener('click', () => hall.devices.add().catch(failed(messages, "the board can't be added")));
-  at('folder').addEventListener('click', () => hall.folders.choose().catch(failed(messages, "the folder can't be used")));
-  at('save-round').addEventListener('click', () => hall.saveRound().catch(failed(messages, "the games can't be saved")));
+  at('add').addEventListener('click', () => hall.devices.add().catch(failed(messages, message('failed.add'))));
+  at('folder').addEventListener('click', () => hall.folders.choose().catch(failed(messages, message('failed.folder'))));
+  at('save-round').addEventListener('click', () => hall.saveRound().catch(failed(messages, message('failed.save_games'))));
   at('new-round').addEventListener('click', () => dialog.open());
   at('sample').addEventListener('click', () => dropping.show('short-game.dgt', bytesIn(at('short-game').textContent)));
 
-  at('which').textContent = `${whichDevice(systemOf(navigator))} ${missingDevice(systemOf(navigator))}`;
+  at('which').textContent = linked('space', [whichDevice(systemOf(navigator)), missingDevice(systemOf(navigator))]);
 
-  if (!navigator.serial) {
-    const what = "This browser can't reach a board: it has no Web Serial";
-    messages.notice('serial', `${what}. ${WHERE_SERIAL}. Captures can be shown here.`, [], true);
-  }
+  if (!navigator.serial) messages.notice('serial', message('browser.no_serial'), [], true);
   const lacks = lacking();
   if (lacks) {
-    const what = `This browser can't run the recorder: ${lacks}`;
-    messages.notice('module', `${what}. ${WHERE_MODULE}.`, [], true);
+    messages.notice('module', message('browser.lacks', { what: lacks }), [], true);
     hall.isReady = true;
     cards.show(hall);
     return;
   }
-  hall.program.ready().catch((error) => messages.notice('module', `The recorder can't be begun: ${error.message}`, [], true));
+  hall.program.ready().catch((error) => messages.notice('module', message('failed.recorder', { why: error.message }), [], true));
   await hall.begin();
   hall.changed();
   for (const id of ['folder', 'save-round', 'sample', 'open']) at(id).disabled = false;
@@ -68,6 +63,6 @@ async function begin() {
 
 begin().catch((error) => {
   console.error(error);
-  at('line').textContent = `This page can't begin: ${error.message || error}`;
+  at('line').textContent = message('failed.page', { why: error.message || error });
   announce(at('line').textContent, true);
 });

@@ -1,6 +1,7 @@
 // Messages: lines with the time of day, the newest first; and notices that stay until somebody has acted on them.
 
 import { element } from '../../live/web/page/diagram.js';
+import { isSame, message } from '../../live/web/page/message.js';
 import { announce } from './announcer.js';
 import { at, button } from './elements.js';
 
@@ -35,14 +36,14 @@ export class Messages {
   /** A notice with this name and buttons: [text, action]; without a text it is removed. */
   notice(name, text, buttons = [], isAlarm = false) {
     const before = this.notices.get(name);
-    if (before && before.text === text) return;
+    if (before && isSame(before.text, text)) return;
     if (before) before.root.remove();
     this.notices.delete(name);
     if (!text) return;
     const root = element('li', isAlarm ? 'alarm' : '');
     root.append(element('p', '', text));
     for (const [label, pressed] of buttons) root.append(button(label, pressed, 'main'));
-    root.append(button('Close', () => this.notice(name, '')));
+    root.append(button(message('label.close'), () => this.notice(name, '')));
     at('notices').append(root);
     announce(text, isAlarm);
     this.notices.set(name, { text, root });

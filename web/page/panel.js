@@ -7,12 +7,13 @@ import { UNKNOWN, written } from '../game/options.js';
 import { OF_ALL } from '../game/rounds.js';
 import { allOf } from '../hall/all_of.js';
 import { giveResult } from '../hall/results.js';
+import { linked, message, plural } from '../../live/web/page/message.js';
 import { at, failed } from './elements.js';
 import { save } from './saving.js';
 
 const CHECKS = [['rotated', 'rotated', true, false], ['black-first', 'first', 'black', null], ['recover', 'recover', true, null]];
 
-const sentence = (words) => words[0].toUpperCase() + words.slice(1);
+const refused = (why) => message('refused.why', { why });
 
 export class Panel {
   constructor(hall, messages) {
@@ -42,14 +43,14 @@ export class Panel {
     for (const [id, option, on, off] of CHECKS) {
       at(id).addEventListener('change', () => this.change({ [option]: at(id).checked ? on : off }, at(id)));
     }
-    at('save-game').addEventListener('click', () => this.does(this.saveGame(), "the game can't be saved"));
+    at('save-game').addEventListener('click', () => this.does(this.saveGame(), message('failed.save_game')));
     at('save-capture').addEventListener('click', () => save(`${this.seat.name}.dgt`, this.seat.bytes(), 'application/octet-stream'));
-    at('save-before').addEventListener('click', () => this.does(this.saveBefore(), "what was taken off can't be saved"));
-    at('save-all').addEventListener('click', () => this.does(this.saveAll(), "it can't be saved"));
+    at('save-before').addEventListener('click', () => this.does(this.saveBefore(), message('failed.save_before')));
+    at('save-all').addEventListener('click', () => this.does(this.saveAll(), message('failed.save_all')));
     at('next-game').addEventListener('click', () => this.nextGame());
     at('connect').addEventListener('click', () => this.chooseDevice());
     at('choose').addEventListener('click', () => this.chooseDevice());
-    at('stop').addEventListener('click', () => this.does(this.hall.stopOrGoOn(this.seat), "that can't be done"));
+    at('stop').addEventListener('click', () => this.does(this.hall.stopOrGoOn(this.seat), message('failed.that')));
     at('remove').addEventListener('click', () => this.remove());
   }
 
@@ -107,7 +108,7 @@ export class Panel {
       await giveResult(this.hall, game, outcome);
       if (seat === this.seat) this.answer(`${game.name}: ${outcome}`, true);
     } catch (error) {
-      if (seat === this.seat) this.answer(`refused: ${error.message}`, false);
+      if (seat === this.seat) this.answer(refused(error.message), false);
     }
     this.hall.changed();
   }
@@ -130,9 +131,9 @@ export class Panel {
     for (const [id, option, on] of CHECKS) at(id).checked = options[option] === on;
     at('rotated').disabled = seat.hasMoves && !options.rotated && !isShown;
     say(at('next-game'), this.nextWords(seat));
-    say(at('stop'), seat.isStopped ? 'Record again' : 'Stop recording');
+    say(at('stop'), seat.isStopped ? message('label.record_again') : message('label.stop'));
     at('before-game').hidden = isShown || !seat.unended;
-    if (seat.unended) say(at('before-which'), `The game before, ${seat.unended.name}, has no result. What was it?`);
+    if (seat.unended) say(at('before-which'), message('ask.result_before', { name: seat.unended.name }));
     at('save-before').hidden = isShown || !seat.hasBefore;
     at('save-all').hidden = isShown;
     this.showAsked(seat);
@@ -143,32 +144,32 @@ export class Panel {
   }
 
   nextWords(seat) {
-    if (this.ends) return 'Press again: this game then ends here';
-    return !seat.isCapture && seat.awaitsStart ? 'Begin with the move on the board' : 'Next game';
+    if (this.ends) return message('label.ends_here');
+    return !seat.isCapture && seat.awaitsStart ? message('label.begin_with_move') : message('label.next_game');
   }
 
   removeWords(seat) {
-    if (seat.isCapture) return 'Close this capture';
-    return this.removes ? 'Press again: its games are then gone from this browser' : 'Remove this board';
+    if (seat.isCapture) return message('label.close_capture');
+    return this.removes ? message('label.removes') : message('label.remove');
   }
 
   /** What somebody must do, with the button for it. */
   showAsked(seat) {
     const { looks, otherwise, hint } = seat.asks;
-    const isTurned = hint.startsWith(TURNED_ROUND);
+    const isTurned = hint === TURNED_ROUND;
     at('asks').hidden = !looks && !isTurned;
     at('turned').hidden = !isTurned;
     at('ok').hidden = !looks;
-    const turned = "White's pieces stand where Black's should. Is the board turned round?";
-    say(at('ask'), [looks, otherwise && sentence(otherwise), isTurned ? turned : ''].filter((part) => part).join('. '));
+    const capital = otherwise && message('join.capital', { text: otherwise });
+    say(at('ask'), linked('stop', [looks, capital, isTurned ? message('ask.turned_round') : ''].filter((part) => part)));
   }
 
   chooseDevice() {
-    this.does(this.hall.devices.choose(this.seat), "its device can't be used");
+    this.does(this.hall.devices.choose(this.seat), message('failed.device'));
   }
 
   turnRound() {
-    this.does(this.seat.edit({ options: { rotated: !this.seat.options.rotated } }), "it can't be turned");
+    this.does(this.seat.edit({ options: { rotated: !this.seat.options.rotated } }), message('failed.turn'));
   }
 
   async change(options, input) {
@@ -176,7 +177,7 @@ export class Panel {
       await this.seat.edit({ options });
       this.answer('', true);
     } catch (error) {
-      this.answer(`refused: ${error.message}`, false);
+      this.answer(refused(error.message), false);
       if (input.type === 'checkbox') input.checked = !input.checked;
     }
   }
@@ -189,10 +190,10 @@ export class Panel {
       if (tag === 'Date') await this.seat.edit({ options: { date: typed ? pgnDate(typed) : null } });
       else await this.hall.edit(this.seat, tag, typed);
       input.value = this.valueOf(tag, this.seat.options);
-      this.answer(typed && input.value !== typed ? `${typed} is written as ${input.value}` : '', true);
+      this.answer(typed && input.value !== typed ? message('options.written_as', { typed, value: input.value }) : '', true);
       if (OF_ALL.includes(tag) && typed) this.offerForAll(tag);
     } catch (error) {
-      this.answer(`refused: ${error.message.includes(typed) ? '' : `${typed} `}${error.message}`, false);
+      this.answer(refused(error.message.includes(typed) ? error.message : linked('space', [typed, error.message])), false);
     }
   }
 
@@ -200,15 +201,14 @@ export class Panel {
   offerForAll(tag) {
     const numbers = this.seat.isCapture ? [] : this.hall.rounds.differing(this.seat, tag).map(({ id }) => id);
     if (numbers.length === 0) return;
-    const boards = numbers.length === 1 ? `Board ${numbers[0]} has` : `Boards ${numbers.join(', ')} have`;
-    this.answer(`${boards} another ${tag.toLowerCase()}.`, true);
+    this.answer(plural('ask.another_value', numbers.length, { boards: numbers.join(', '), tag: tag.toLowerCase() }), true);
     at('for-all').hidden = false;
     at('for-all').dataset.tag = tag;
-    say(at('for-all'), `${tag} ${written(this.seat.options, tag)} for all boards`);
+    say(at('for-all'), message('label.for_all', { tag, value: written(this.seat.options, tag) }));
   }
 
   shareWithAll() {
-    this.does(this.hall.rounds.shareWithAll(this.seat, at('for-all').dataset.tag), "that can't be done");
+    this.does(this.hall.rounds.shareWithAll(this.seat, at('for-all').dataset.tag), message('failed.that'));
     this.answer('', true);
   }
 
@@ -221,7 +221,7 @@ export class Panel {
       return;
     }
     this.ends = false;
-    this.does(seat.awaitsStart ? seat.takeMove() : seat.nextGame(), "the next game can't be begun");
+    this.does(seat.awaitsStart ? seat.takeMove() : seat.nextGame(), message('failed.next_game'));
   }
 
   async saveGame() {
@@ -250,7 +250,7 @@ export class Panel {
       await this.hall.rename(seat, at('name').value);
       at('name').value = seat.name;
     } catch (error) {
-      this.answer(`refused: ${error.message}`, false);
+      this.answer(refused(error.message), false);
     }
   }
 
@@ -261,7 +261,7 @@ export class Panel {
       this.show(this.seat);
       return;
     }
-    this.does(this.hall.remove(this.seat), "it can't be removed");
+    this.does(this.hall.remove(this.seat), message('failed.remove'));
     window.location.hash = '';
   }
 }

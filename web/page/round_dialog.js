@@ -1,11 +1,16 @@
 // The window in which somebody begins a new round on all boards.
 
 import { element, say } from '../../live/web/page/diagram.js';
+import { linked, message, plural } from '../../live/web/page/message.js';
 import { at } from './elements.js';
 
 const FIELDS = { Event: 'round-event', Site: 'round-site', Round: 'round-number', Date: 'round-date', pairs: 'round-pairs' };
 
-const boards = (seats) => `${seats.length === 1 ? 'Board' : 'Boards'} ${seats.map(({ id }) => id).join(', ')}`;
+/** What is said of these boards, if there are any: [message]. */
+function toldOf(seats, what) {
+  const boards = plural('round.boards', seats.length, { boards: seats.map(({ id }) => id).join(', ') });
+  return seats.length > 0 ? [linked('colon', [boards, what])] : [];
+}
 
 /** A row of a table with these cells. */
 function rowOf(kind, cells) {
@@ -47,13 +52,13 @@ export class RoundDialog {
     try {
       const { pairs, passed } = this.hall.rounds.pairsIn(lines);
       const rows = [...pairs].sort(([one], [other]) => one - other).map(([number, { White, Black }]) => rowOf('td', [String(number), White, Black]));
-      at('round-read').append(rowOf('th', ['Board', 'White', 'Black']), ...rows);
+      at('round-read').append(rowOf('th', [message('label.board_column'), message('side.white'), message('side.black')]), ...rows);
       at('round-read').hidden = false;
       const others = this.hall.rounds.seats().filter(({ id }) => !pairs.has(id));
-      const cleared = others.length > 0 ? `${boards(others)}: no players are given, so the names are cleared.` : '';
-      say(at('round-unread'), [cleared, passed.length > 0 ? `Passed over: ${passed.join(' | ')}` : ''].filter((text) => text).join(' '));
+      const over = passed.length > 0 ? [message('paste.passed_over', { lines: passed.join(' | ') })] : [];
+      say(at('round-unread'), linked('space', [...toldOf(others, message('ask.names_cleared')), ...over]));
     } catch (error) {
-      say(at('round-unread'), `Not read yet: ${error.message || error}.`);
+      say(at('round-unread'), message('paste.not_read', { why: error.message || error }));
     }
   }
 
@@ -62,14 +67,14 @@ export class RoundDialog {
     const { end, goOn } = this.hall.rounds.inPlay;
     const unended = this.hall.recorded().filter((seat) => seat.unended);
     const texts = [
-      unended.length > 0 ? `${boards(unended)}: the game before has no result. Its board's page has the buttons for it.` : '',
-      end.length > 0 ? `${boards(end)}: the game has no result, and ends here without one. To give it first, press Cancel.` : '',
-      goOn.length > 0 ? `${boards(goOn)}: the game that is on belongs to the new round. It goes on, with the new names.` : '',
-      this.hall.elsewhere.size > 0 ? 'Boards that another tab records stay as they are: press New round there too.' : '',
+      ...toldOf(unended, message('ask.unended')),
+      ...toldOf(end, message('ask.ends_here')),
+      ...toldOf(goOn, message('ask.goes_on')),
+      ...(this.hall.elsewhere.size > 0 ? [message('ask.round_elsewhere')] : []),
     ];
-    say(at('round-ends'), texts.filter((text) => text).join(' '));
-    at('round-ends').hidden = !at('round-ends').textContent;
-    say(at('round-begin'), end.length > 0 ? 'End them, and begin the round' : 'Begin the round');
+    say(at('round-ends'), linked('space', texts));
+    at('round-ends').hidden = texts.length === 0;
+    say(at('round-begin'), end.length > 0 ? message('label.end_and_begin_round') : message('label.begin_round'));
   }
 
   async begin() {
@@ -77,8 +82,8 @@ export class RoundDialog {
     at('round-begin').disabled = true;
     try {
       const failed = await this.hall.rounds.beginRound(typed);
-      this.hall.notice('round', failed.length > 0 ? `${boards(failed)}: the new round can't be begun. See the messages, and try again.` : '',
-        [['New round', () => this.open()]], true);
+      const [told = ''] = toldOf(failed, message('failed.round'));
+      this.hall.notice('round', told, [[message('label.new_round'), () => this.open()]], true);
       this.root.close();
       window.location.hash = '';
     } catch (error) {

@@ -7,12 +7,13 @@ import { Answers } from '../game/attended.js';
 
 // A browser has room for some 62 instances of the program; the rest is for those that ask boards who they are, and for short calls.
 const MOST = 48;
-const TOO_MANY = `the browser has room for ${MOST} boards at a time. Remove one that isn't played on`;
-const NO_ROOM = 'the browser has no room to attend one more board. Close other tabs of this page, or remove a board';
 
 let program = null;
 let ready = Promise.resolve(); // ends when it is compiled
 const attended = new Map(); // by their keys
+
+/** What the page makes a message of, since it has the catalogue. */
+const message = (key, places = {}) => ({ key, places });
 
 /** Compiles the module, which came under gzip in base64. */
 async function begin({ module }) {
@@ -28,25 +29,25 @@ class Attended {
     this.answers = new Answers();
     this.waiting = [];
     this.process = null;
-    this.why = ''; // why there is no process, or none any more
+    this.why = null; // a message why there is no process, or none any more
   }
 
   begin(words) {
     try {
       this.process = start(program, ['live', ...words], (bytes) => this.wrote(bytes));
     } catch (error) {
-      this.ended(`${NO_ROOM} (${error.message})`);
+      this.ended(message('worker.no_room', { why: error.message }));
       return;
     }
     this.process.ended.then(
-      ({ status, errors }) => this.ended(`the recorder has ended with status ${status}: ${errors.trim()}`),
-      (error) => this.ended(`the recorder has ended: ${error.message}`),
+      ({ status, errors }) => this.ended(message('worker.recorder_ended_with', { status, why: errors.trim() })),
+      (error) => this.ended(message('worker.recorder_ended_by', { why: error.message })),
     );
   }
 
   /** Tells it something. The promise has the answer. */
   tell(entry) {
-    if (this.why) throw new Error(this.why);
+    if (this.why) throw this.why;
     return new Promise((done, failed) => {
       this.waiting.push({ done, failed });
       this.process.push(entry);
@@ -60,7 +61,7 @@ class Attended {
   ended(why) {
     this.process = null;
     this.why = why;
-    this.waiting.forEach(({ failed }) => failed(new Error(why)));
+    this.waiting.forEach(({ failed }) => failed(why));
     this.waiting = [];
   }
 }
@@ -70,12 +71,12 @@ function attend({ key, words, asks }) {
   const count = [...attended.values()].filter((other) => other.process && !other.asks).length;
   attended.set(key, one);
   if (asks || count < MOST) one.begin(words);
-  else one.ended(TOO_MANY);
+  else one.ended(message('worker.too_many', { most: MOST }));
 }
 
 /** Tells a process something. A board that has none fails so. */
 function tell({ key, entry }) {
-  if (!attended.has(key)) throw new Error('the recorder has ended');
+  if (!attended.has(key)) throw message('worker.recorder_ended');
   return attended.get(key).tell(entry);
 }
 
@@ -124,6 +125,6 @@ onmessage = async ({ data: { number, name, given } }) => {
     const answer = name === 'begin' ? null : await CALLS[name](given);
     postMessage({ number, answer }, memoryOf(answer));
   } catch (error) {
-    postMessage({ number, error: String(error && error.message ? error.message : error) });
+    postMessage({ number, error: error.key ? error : String(error.message || error) });
   }
 };

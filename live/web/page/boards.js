@@ -1,13 +1,14 @@
 // All boards in a grid, and one of them large if the page's address names it: `#3`. Each page adds what only it
 // shows.
 
-import { numbered, outcomeOf, spoken } from './chess.js';
+import { outcomeOf, spokenPly } from './chess.js';
 import { drawPieces, say } from './diagram.js';
 import { fit, placeAfter } from './grid.js';
+import { linked, message } from './message.js';
 import { Stream } from './stream.js';
 
 const at = (name) => document.getElementById(name);
-const UNNAMED = 'Chess, live';
+const UNNAMED = message('show.title');
 const SECOND = 1000;
 
 export class Boards {
@@ -130,7 +131,7 @@ export class Boards {
   /** Event and round. */
   get name() {
     const { event, said } = this.stream;
-    return said.round ? `${event || UNNAMED}, round ${said.round}` : event || UNNAMED;
+    return String(linked('comma', [event || UNNAMED, ...(said.round ? [message('round.number', { number: said.round })] : [])]));
   }
 
   /** What a screen reader reads out: the moves of the large board, and the results of all. */
@@ -140,18 +141,19 @@ export class Boards {
     const isNew = count > before.moves.length || (count > 0 && before.moves[count - 1].san !== board.moves[count - 1].san);
     if (this.open === board.number && count > 0 && isNew) {
       const { san, clock } = board.moves[count - 1];
-      const { number, side } = numbered(board.positions[0], count - 1);
-      words.push(`${number}, ${side === 'w' ? 'White' : 'Black'}: ${spoken(san)}${clock ? `, clock ${clock}` : ''}`);
+      const withClock = clock ? [message('read.clock', { time: clock })] : [];
+      words.push(linked('comma', [spokenPly(board.positions[0], count - 1, san), ...withClock]));
     }
     const outcome = outcomeOf(board);
-    if (outcome && outcome !== outcomeOf(before)) words.push(`result ${outcome}`);
+    if (outcome && outcome !== outcomeOf(before)) words.push(message('read.result', { result: outcome }));
     words.push(...this.troubles(board, before));
-    if (words.length > 0) say(at('said'), `Board ${board.number}: ${words.join('. ')}`);
+    const name = message('label.board', { board: board.number });
+    if (words.length > 0) say(at('said'), linked('colon', [name, linked('stop', words)]));
   }
 
   showTitle() {
-    const title = this.open === null ? this.name : `Board ${this.open}, ${this.name}`;
-    const whole = this.mark() + title;
+    const title = linked('comma', [...(this.open === null ? [] : [message('label.board', { board: this.open })]), this.name]);
+    const whole = `${this.mark()}${title}`;
     if (document.title !== whole) document.title = whole;
   }
 

@@ -3,6 +3,7 @@
 import { aheadOf, outcomeOf, toMove, withNumber } from './chess.js';
 import { clockAt } from './clock.js';
 import { Picture, element, positionOf, say } from './diagram.js';
+import { linked, message } from './message.js';
 import { aboutOf, nameOf, teamOf } from './names.js';
 
 export class Card {
@@ -12,21 +13,21 @@ export class Card {
     this.link = this.root.appendChild(element('a', 'tile'));
     this.link.href = `#${number}`;
     this.head = this.link.appendChild(element('span', 'head'));
-    this.head.append(element('span', 'unseen', 'Board '), element('span', 'number', String(number)));
-    this.black = this.seat('Black');
+    this.head.append(element('span', 'unseen', `${message('label.board_column')} `), element('span', 'number', String(number)));
+    this.black = this.seat('b', message('side.black'));
     this.picture = new Picture();
     this.link.appendChild(this.picture.root);
-    this.white = this.seat('White');
+    this.white = this.seat('w', message('side.white'));
     const foot = this.link.appendChild(element('span', 'foot'));
     this.last = foot.appendChild(element('span', 'last'));
     this.ahead = foot.appendChild(element('span', 'ahead'));
     this.result = foot.appendChild(element('span', 'result'));
   }
 
-  seat(name) {
+  seat(side, name) {
     const root = this.link.appendChild(element('span', 'seat'));
     root.appendChild(element('span', 'unseen', `, ${name}: `));
-    const player = root.appendChild(element('bdi', name === 'White' ? 'player w' : 'player b'));
+    const player = root.appendChild(element('bdi', `player ${side}`));
     const about = root.appendChild(element('bdi', 'about'));
     const clock = root.appendChild(element('span', 'clock'));
     const team = root.appendChild(element('bdi', 'team'));
@@ -49,7 +50,8 @@ export class Card {
     this.picture.show(position);
     say(this.last, ply > 0 ? withNumber(board.positions[0], ply - 1, board.moves[ply - 1].san) : '');
     const ahead = aheadOf(position.fen);
-    say(this.ahead, ahead === 0 ? '' : `${ahead > 0 ? 'White' : 'Black'} +${Math.abs(ahead)}`);
+    const side = ahead > 0 ? message('side.white') : message('side.black');
+    say(this.ahead, ahead === 0 ? '' : linked('space', [side, `+${Math.abs(ahead)}`]));
     say(this.result, outcome);
     this.root.classList.toggle('over', outcome !== '');
   }

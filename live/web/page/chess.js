@@ -1,7 +1,16 @@
 // What a FEN and a move in SAN say, as far as a page needs it. It knows no rule of the game.
 
+import { linked, message } from './message.js';
+
 export const FILES = 'abcdefgh';
-const NAMES = { K: 'king', Q: 'queen', R: 'rook', B: 'bishop', N: 'knight', P: 'pawn' };
+export const NAMES = {
+  K: message('piece.king'),
+  Q: message('piece.queen'),
+  R: message('piece.rook'),
+  B: message('piece.bishop'),
+  N: message('piece.knight'),
+  P: message('piece.pawn'),
+};
 
 /** The 64 squares of a FEN from a8 to h1: 'wK', 'bP', or '' for an empty one. */
 export function squaresOf(fen) {
@@ -90,20 +99,28 @@ export function withNumber(start, ply, san) {
 
 /** A move as it is said: 'knight f3', 'pawn e4 takes d5, check'. */
 export function spoken(san) {
-  const end = san.endsWith('#') ? ', mate' : san.endsWith('+') ? ', check' : '';
+  const end = san.endsWith('#') ? [message('read.mate')] : san.endsWith('+') ? [message('read.check')] : [];
   const move = san.replace(/[+#]$/, '');
-  if (move === 'O-O') return `castles on the king's side${end}`;
-  if (move === 'O-O-O') return `castles on the queen's side${end}`;
+  if (move === 'O-O') return linked('comma', [message('read.castles_short'), ...end]);
+  if (move === 'O-O-O') return linked('comma', [message('read.castles_long'), ...end]);
   const match = /^([KQRBN]?)([a-h]?[1-8]?)(x?)([a-h][1-8])(?:=([QRBN]))?$/.exec(move);
   if (!match) return san;
   const [, piece, from, takes, to, becomes] = match;
-  const words = [NAMES[piece || 'P'], from, takes ? 'takes' : '', to, becomes ? `becomes a ${NAMES[becomes]}` : ''];
-  return words.filter((word) => word).join(' ') + end;
+  const promoted = becomes && message('read.becomes', { piece: NAMES[becomes] });
+  const words = [NAMES[piece || 'P'], from, takes && message('read.takes'), to, promoted];
+  return linked('comma', [linked('space', words.filter((word) => word)), ...end]);
+}
+
+/** The same with its number and who makes it: '12, White: knight f3'. */
+export function spokenPly(start, ply, san) {
+  const { number, side } = numbered(start, ply);
+  return linked('colon', [linked('comma', [number, side === 'w' ? message('side.white') : message('side.black')]), spoken(san)]);
 }
 
 /** A piece in words: 'white knight'. */
-export function pieceName(piece) {
-  return piece ? `${piece[0] === 'w' ? 'white' : 'black'} ${NAMES[piece[1]]}` : '';
+export function pieceName([side, kind]) {
+  const piece = NAMES[kind];
+  return side === 'w' ? message('piece.white', { piece }) : message('piece.black', { piece });
 }
 
 /** A result as it is printed: '1–0', '½–½'. Empty if the game goes on. */
@@ -119,13 +136,14 @@ export function printedPoints(points) {
 
 /** What became of a game, as it is printed: '1–0', '0–0 forfeit'. Empty if it goes on. */
 export function outcomeOf({ result, forfeit }) {
-  return forfeit ? `${printedResult(forfeit)} forfeit` : printedResult(result);
+  return forfeit ? String(message('site.forfeit', { score: printedResult(forfeit) })) : printedResult(result);
 }
 
-/** A duration in words. */
+/** A duration in words: `40 s`, `3 min`, `2 h 05 min`. */
 export function lasting(seconds) {
   const whole = Math.max(0, Math.floor(seconds));
-  if (whole < 120) return `${whole} s`;
-  if (whole < 7200) return `${Math.floor(whole / 60)} min`;
-  return `${Math.floor(whole / 3600)} h ${String(Math.floor(whole / 60) % 60).padStart(2, '0')} min`;
+  const minutes = Math.floor(whole / 60);
+  if (whole < 120) return message('time.seconds', { seconds: whole });
+  if (whole < 7200) return message('time.minutes', { minutes });
+  return message('time.hours', { hours: Math.floor(whole / 3600), minutes: String(minutes % 60).padStart(2, '0') });
 }

@@ -1,6 +1,7 @@
 // Diagrams: a small one that is only a picture, and a large one that is a table for those who can't see it.
 
 import { FILES, movedSquares, pieceName, squareName, squaresOf } from './chess.js';
+import { linked, message } from './message.js';
 
 /** An element with a class and a text. */
 export function element(kind, name = '', text = '') {
@@ -12,7 +13,7 @@ export function element(kind, name = '', text = '') {
 
 /** Sets a text if it has changed, so that nothing is read out twice. */
 export function say(where, text) {
-  if (where.textContent !== text) where.textContent = text;
+  if (where.textContent !== String(text)) where.textContent = text;
 }
 
 /** From now on the pieces are drawn as in the page's first answer: no other answer is needed for them. */
@@ -103,15 +104,16 @@ export class Table {
   }
 
   show(position, label) {
-    if (this.root.getAttribute('aria-label') !== label) this.root.setAttribute('aria-label', label);
+    if (this.root.getAttribute('aria-label') !== String(label)) this.root.setAttribute('aria-label', label);
     this.cells.forEach((cell, number) => {
       const name = classesOf(position, number);
       if (cell.className !== name) cell.className = name;
       const square = squareName(number);
-      const words = [square, pieceName(position.squares[number]) || 'empty'];
-      if (number === position.from || number === position.to) words.push('last move');
-      if (position.differing.has(square)) words.push('the board differs here');
-      say(cell.firstChild, words.join(', '));
+      const piece = position.squares[number];
+      const words = [square, piece ? pieceName(piece) : message('square.empty')];
+      if (number === position.from || number === position.to) words.push(message('square.last_move'));
+      if (position.differing.has(square)) words.push(message('square.differs'));
+      say(cell.firstChild, linked('comma', words));
     });
   }
 }

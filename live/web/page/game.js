@@ -1,8 +1,9 @@
 // One game, large, with its moves. A reader can step through them while it goes on.
 
-import { aheadOf, numbered, outcomeOf, pieceName, spoken, takenOf, toMove, withNumber } from './chess.js';
+import { NAMES, aheadOf, numbered, outcomeOf, spokenPly, takenOf, toMove, withNumber } from './chess.js';
 import { clockAt } from './clock.js';
 import { Table, element, positionOf, say } from './diagram.js';
+import { linked, message, plural } from './message.js';
 import { showPlayer, whereFrom } from './names.js';
 import { sheetOf } from './sheet.js';
 
@@ -92,14 +93,14 @@ export class GameView {
     const live = this.ply === null;
     const ply = live ? count : this.ply;
     const position = positionOf(board, ply, live);
-    say(at('title'), `Board ${board.number}`);
+    say(at('title'), message('label.board', { board: board.number }));
     const result = outcomeOf(board);
     if (result) this.root.dataset.result = result; // for its score sheet
     else delete this.root.dataset.result;
     if (at('sheet')) say(at('sheet'), sheetOf(board));
     this.showSeats(position.fen, live);
-    const last = ply > 0 ? withNumber(board.positions[0], ply - 1, board.moves[ply - 1].san) : 'the start';
-    this.table.show(position, `Board ${board.number}, ${live ? 'now' : 'after'}: ${last}`);
+    const last = ply > 0 ? withNumber(board.positions[0], ply - 1, board.moves[ply - 1].san) : message('ply.the_start');
+    this.table.show(position, message(live ? 'show.now' : 'show.after', { board: board.number, ply: last }));
     this.showPlace(last, live, count - ply);
     this.listMoves();
     this.markMove(ply);
@@ -112,7 +113,7 @@ export class GameView {
     const { board } = this;
     const mover = !outcomeOf(board) && live ? toMove(fen) : '';
     this.clocks = [];
-    for (const [side, index, name] of [['w', 0, 'White'], ['b', 1, 'Black']]) {
+    for (const [side, index, name] of [['w', 0, message('side.white')], ['b', 1, message('side.black')]]) {
       const place = at((side === 'w') === this.turned ? 'upper' : 'lower');
       const player = element('span', `player ${side}`);
       const who = element('span');
@@ -133,8 +134,8 @@ export class GameView {
     const taken = fen ? takenOf(this.board.positions[0] || fen, fen, other) : '';
     const points = fen ? aheadOf(fen) * (side === 'w' ? 1 : -1) : 0;
     const root = element('span', 'taken');
-    const names = [...taken].map((piece) => pieceName(other + piece).split(' ')[1]);
-    root.append(element('span', 'unseen', names.length > 0 ? `, has taken ${names.join(', ')}` : ''));
+    const pieces = linked('comma', [...taken].map((piece) => NAMES[piece]));
+    root.append(element('span', 'unseen', taken ? linked('comma', ['', message('show.has_taken', { pieces })]) : ''));
     for (const piece of taken) root.append(element('i', `piece ${other}${piece}`));
     if (points > 0) root.append(element('span', 'points', `+${points}`));
     return root;
@@ -159,8 +160,8 @@ export class GameView {
 
   showPlace(last, live, behind) {
     const result = live ? outcomeOf(this.board) : '';
-    const where = live ? '' : ` (${behind} ${behind === 1 ? 'move' : 'moves'} back)`;
-    say(at('at'), [last + where, result].filter((part) => part).join('   '));
+    const where = linked('space', [last, ...(live ? [] : [plural('show.moves_back', behind)])]);
+    say(at('at'), [where, result].filter((part) => part).join('   '));
   }
 
   /** Lists the moves. Those that are the same as before stay. */
@@ -196,7 +197,7 @@ export class GameView {
     place.tabIndex = -1;
     place.dataset.ply = String(ply + 1);
     place.append(element('span', 'san', move.san), element('span', 'time', move.clock));
-    const words = [`${number}, ${side === 'w' ? 'White' : 'Black'}: ${spoken(move.san)}`, move.clock];
+    const words = [spokenPly(start, ply, move.san), move.clock];
     this.mark(move, place, words);
     place.setAttribute('aria-label', words.filter((word) => word).join(', '));
     return { move, place };

@@ -3,6 +3,7 @@
 import { lasting } from './chess.js';
 import { say } from './diagram.js';
 import { GameView } from './game.js';
+import { message } from './message.js';
 
 const at = (name) => document.getElementById(name);
 
@@ -25,7 +26,7 @@ export class Large extends GameView {
   mark(move, place, words) {
     if (move.kind !== 'correction') return;
     place.className = 'corrected';
-    words.push('corrected');
-    place.title = 'This move was corrected';
+    words.push(message('show.corrected'));
+    place.title = message('show.was_corrected');
   }
 }

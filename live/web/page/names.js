@@ -2,11 +2,12 @@
 // him, and his team.
 
 import { element } from './diagram.js';
+import { message } from './message.js';
 
 const SIDES = ['white', 'black'];
 
 function partsOf(board, index) {
-  const name = board[SIDES[index]] || (index === 0 ? 'White' : 'Black');
+  const name = board[SIDES[index]] || (index === 0 ? message('side.white') : message('side.black'));
   return [board.titles ? board.titles[index] : '', name, board.ratings ? board.ratings[index] : ''];
 }
 

@@ -3,16 +3,17 @@
 import { Boards } from './boards.js';
 import { element, say } from './diagram.js';
 import { Large } from './large.js';
+import { message, plural } from './message.js';
 import { Tile } from './tile.js';
 
 const at = (name) => document.getElementById(name);
 const LINES = {
-  connecting: 'Connecting',
-  live: 'Live',
-  back: 'Looking back',
-  silent: 'Nothing comes from the recorder',
-  lost: 'No connection to the recorder: trying again',
-  hidden: 'In the background',
+  connecting: message('line.connecting'),
+  live: message('line.live'),
+  back: message('line.back'),
+  silent: message('line.silent_recorder'),
+  lost: message('line.lost_recorder'),
+  hidden: message('line.hidden'),
 };
 
 class Arbiter extends Boards {
@@ -49,7 +50,7 @@ class Arbiter extends Boards {
     if (place.dataset.numbers === numbers.join()) return;
     place.dataset.numbers = numbers.join();
     place.hidden = numbers.length === 0;
-    place.replaceChildren(numbers.length === 1 ? 'Look at board' : 'Look at boards');
+    place.replaceChildren(plural('label.look_at', numbers.length));
     for (const number of numbers) {
       const link = element('a', '', String(number));
       link.href = `#${number}`;

@@ -1,7 +1,11 @@
 // What a score sheet has above the moves, besides the event and the players: the day, the place and the time control. Pure.
 
+import { linked, message } from './message.js';
+
 const MONTHS = [
-  'January', 'February', 'March', 'April', 'May', 'June', 'July', 'August', 'September', 'October', 'November', 'December',
+  message('month.january'), message('month.february'), message('month.march'), message('month.april'),
+  message('month.may'), message('month.june'), message('month.july'), message('month.august'),
+  message('month.september'), message('month.october'), message('month.november'), message('month.december'),
 ];
 const PERIOD = /^(?:(\d+)\/)?(\d+)(?:\+(\d+))?$/; // moves, seconds, and seconds for each move
 
@@ -12,17 +16,18 @@ export function dateInWords(date) {
 }
 
 function lasting(seconds) {
-  return seconds % 60 === 0 ? `${seconds / 60} min` : `${seconds} s`;
+  return seconds % 60 === 0 ? message('time.minutes', { minutes: seconds / 60 }) : message('time.seconds', { seconds });
 }
 
 /** A time control as PGN has it, in words: '5400+30' is '90 min + 30 s a move'. One of another kind is shown as it is. */
 export function controlInWords(control) {
   const periods = control.split(':').map((part) => PERIOD.exec(part));
   if (periods.includes(null)) return control;
-  return periods.map(([, moves, seconds, more]) => {
-    const time = lasting(Number(seconds)) + (Number(more) > 0 ? ` + ${Number(more)} s a move` : '');
-    return moves ? `${moves} moves in ${time}` : time;
-  }).join(', then ');
+  return linked('then', periods.map(([, moves, seconds, more]) => {
+    const base = lasting(Number(seconds));
+    const time = Number(more) > 0 ? message('control.with_increment', { base, seconds: Number(more) }) : base;
+    return moves ? message('control.of_moves', { moves, time }) : time;
+  }));
 }
 
 /** All of it in one line, as far as it is known. */

@@ -5,6 +5,7 @@ import { Card } from './card.js';
 import { outcomeOf, printedPoints } from './chess.js';
 import { element, say } from './diagram.js';
 import { GameView } from './game.js';
+import { message } from './message.js';
 import { showPlayer, whereFrom } from './names.js';
 
 const at = (name) => document.getElementById(name);
@@ -12,13 +13,13 @@ const RESULTS = '#results';
 const PINNED = '\u2605';
 const UNPINNED = '\u2606';
 const LINES = {
-  connecting: 'Connecting',
-  live: 'Live',
-  back: 'Looking back',
-  silent: 'Nothing comes just now',
-  lost: 'No connection: trying again',
-  hidden: 'In the background',
-  ended: 'Ended',
+  connecting: message('line.connecting'),
+  live: message('line.live'),
+  back: message('line.back'),
+  silent: message('line.silent'),
+  lost: message('line.lost'),
+  hidden: message('line.hidden'),
+  ended: message('line.ended'),
 };
 
 /** A time of day; of another day its date too. */
@@ -32,7 +33,7 @@ function timeOf(seconds) {
 /** A match: a team, the score, the other team, and why there is no score, if there is none. */
 function partsOf({ teams, points, why }) {
   const score = points ? points.map(printedPoints).join('\u2013') : '\u2013';
-  return [teams[0], score, teams[1], ...(why ? [`No score: ${why}`] : [])];
+  return [teams[0], score, teams[1], ...(why ? [message('join.capital', { text: message('site.no_score', { why }) })] : [])];
 }
 
 /** Shows a match and its score there. */
@@ -73,7 +74,7 @@ class PinnedCard extends Card {
     this.pin = this.root.appendChild(element('button', 'pin', UNPINNED));
     this.pin.type = 'button';
     this.pin.tabIndex = -1;
-    this.pin.setAttribute('aria-label', `Board ${number} in front`);
+    this.pin.setAttribute('aria-label', message('show.in_front', { board: number }));
     this.pin.setAttribute('aria-keyshortcuts', 'f');
     this.pin.addEventListener('click', () => pin(number));
   }
@@ -170,7 +171,7 @@ class Spectators extends Boards {
     const isPinned = this.pinned.includes(number);
     if (this.cards.has(number)) this.cards.get(number).showPinned(isPinned);
     this.showFront();
-    say(at('said'), `Board ${number} is ${isPinned ? '' : 'no longer '}in front`);
+    say(at('said'), message(isPinned ? 'show.is_in_front' : 'show.no_longer_in_front', { board: number }));
     this.chosen();
   }
 
@@ -221,8 +222,9 @@ class Spectators extends Boards {
 
   line(how) {
     const late = this.stream && this.stream.said.late;
-    if (how === 'stopped') return this.stream.stands ? `Nothing heard since ${timeOf(this.stream.stands)}` : LINES.silent;
-    return how === 'live' && late ? `${late} late` : LINES[how];
+    const since = this.stream && this.stream.stands;
+    if (how === 'stopped') return since ? message('line.nothing_since', { time: timeOf(since) }) : LINES.silent;
+    return how === 'live' && late ? message('line.late', { delay: late }) : LINES[how];
   }
 
   titled() {
@@ -286,7 +288,7 @@ class Spectators extends Boards {
     const place = element('li', 'match');
     const button = place.appendChild(element('button'));
     button.type = 'button';
-    button.title = 'To its boards';
+    button.title = message('show.to_its_boards');
     button.addEventListener('click', () => this.goTo(this.matches[index].boards));
     return place;
   }
@@ -327,7 +329,8 @@ class Spectators extends Boards {
       at(name).hidden = number === undefined;
       if (number !== undefined) {
         at(name).href = `#${number}`;
-        say(at(name), by < 0 ? `\u2190 Board ${number}` : `Board ${number} \u2192`);
+        const board = message('label.board', { board: number });
+        say(at(name), by < 0 ? `\u2190 ${board}` : `${board} \u2192`);
       }
     }
   }
@@ -366,7 +369,7 @@ class Spectators extends Boards {
         say(place.lastChild, whereFrom(board, index));
       });
       const outcome = outcomeOf(board);
-      say(row.result, outcome || (board.moves.length > 0 ? 'playing' : ''));
+      say(row.result, outcome || (board.moves.length > 0 ? message('show.playing') : ''));
       row.root.classList.toggle('goes', outcome === '');
     }
     this.rows = kept;
@@ -399,7 +402,7 @@ class Spectators extends Boards {
     const root = element('tr');
     const link = element('a', '', String(number));
     link.href = `#${number}`;
-    link.setAttribute('aria-label', `Board ${number}`);
+    link.setAttribute('aria-label', message('label.board', { board: number }));
     const head = root.appendChild(element('th'));
     head.scope = 'row';
     head.append(link);
