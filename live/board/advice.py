@@ -104,7 +104,7 @@ def if_not(look: Look, typed: Typed, moves: Moves) -> str:
     if look.why == AFTER_RESULT:
         return Message("advice.this_one_is_right", reopens=typed(REOPENS))
     if is_of(look.why, "look.unheard_after_result"):
-        return Message("advice.not_over", reopens=typed(REOPENS))
+        return Message("advice.not_over", how=Message("typed.line", line=typed(REOPENS)))
     if look.about.startswith(ABOUT_RESULT):
         return Message("advice.take_off_before_result", hold=HOLD_A_KING, back=typed(f"{BACK} {(NO_PLIES if ply == THE_START else ply)}"))
     if look.about.startswith(ABOUT_CLOCK):

@@ -1,10 +1,11 @@
 /** A board whose game is over: what is said of it, and where the next game begins. The program says which moves count. */
-import { corrected, isReadAnew, nextBegins, wentOn } from "/web/game/afterwards.js";
+import { corrected, isReadAnew, nextBegins, unheard, wentOn } from "/web/game/afterwards.js";
 import { Looks, textOfLook } from "/web/game/looks.js";
 
 export function looks(counts, cases) {
   for (const [after, moves, result, expected] of cases("went_on")) counts.same(expected, textOfLook(wentOn(after, moves, result)), expected);
   for (const [ply, expected] of cases("corrected")) counts.same(expected, textOfLook(corrected(ply)), expected);
+  for (const [ply, expected] of cases("unheard")) counts.same(expected, textOfLook(unheard(ply)), expected);
   const more = new Looks([wentOn("38. Kf2", 2, "1-0")]).withOneMore(wentOn("38. Kf2", 3, "1-0"));
   counts.same("a later count", more.open, [wentOn("38. Kf2", 3, "1-0")]);
 }

@@ -2,7 +2,7 @@
 // that attends its board gives its PGN.
 
 import { joined } from '../device/protocol.js';
-import { ISNT_OVER, corrected, wentOn } from '../game/afterwards.js';
+import { ISNT_OVER, corrected, unheard, wentOn } from '../game/afterwards.js';
 import { Alarms, acknowledged } from '../game/alarms.js';
 import { Course } from '../game/course.js';
 import { countingForfeit } from '../game/forfeits.js';
@@ -37,7 +37,7 @@ const UNSEEN = ['UNPLUGGED', 'SILENT', 'WAITS']; // states in which the board ma
 
 const HOW = message('press.no_result');
 // Why a game is over, as the program says it.
-const [CORRECTED, UNFINISHED] = ['CORRECTED', 'UNFINISHED'];
+const [CORRECTED, STOOD, UNFINISHED] = ['CORRECTED', 'STOOD', 'UNFINISHED'];
 const WHY = {
   STOOD: message('over.has_a_result'),
   'PLAYS-ON': message('over.if_it_goes_on', { why: message('over.played_on'), how: HOW }),
@@ -553,6 +553,7 @@ export class Recorder {
     this.alarms.end(bytes);
     if (why === UNFINISHED) this.tellSetUp(plies.filter((_, at) => settledAt[at] >= bytes), isSure);
     if (why === CORRECTED) this.tellLook(this.alarms.add(corrected(reached(plies))));
+    if (why === STOOD && !isSure) this.tellLook(this.alarms.add(unheard(reached(plies))), ISNT_OVER);
     this.closeGame(bytes, WHY[why] || why);
   }
 

@@ -18,6 +18,11 @@ export function corrected(ply) {
   return lookAt(message('look.at', { ply }), message('look.after_result'));
 }
 
+/** The board wasn't heard until the result had stood, with which the game is over. This is its last ply. */
+export function unheard(ply) {
+  return lookAt(message('look.after', { ply }), message('look.unheard_after_result'));
+}
+
 const isSame = (one, other) => same(codesOf(one), codesOf(other));
 
 /**

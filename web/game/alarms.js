@@ -1,6 +1,6 @@
 // The alarms of a game until somebody has looked. The program raises them; here are their sentences. Pure; the caller keeps `looks`.
 
-import { AFTER, SINCE, SUSPECT } from './attended.js';
+import { AFTER, SINCE, SUSPECT, UNPLAYED } from './attended.js';
 import { Looks, OVER, lookAt } from './looks.js';
 import { shortOf } from './report.js';
 import { isSame, linked, message, plural } from '../../live/web/page/message.js';
@@ -19,6 +19,7 @@ const WHY = {
 const UNKNOWN = message('doubt.unknown'); // for another word
 const CABLE = message('look.at_the_cable');
 const CLOCK = 'clock'; // what an alarm about a stopped clock is about, before the ply
+const RESULT = 'result'; // and one about moves that nobody may have played before the result
 
 /** The message about what was acknowledged. */
 export function acknowledged(seen) {
@@ -42,6 +43,9 @@ export function toldOfExchange(others) {
 export function lookOf({ where, plies: count, why, moves }, plies) {
   if (where === SUSPECT) return toldOfExchange([count]);
   const ply = nameOf(count, plies);
+  if (where === SINCE && why === UNPLAYED) {
+    return lookAt(message('look.since', { ply }), plural('doubt.unplayed', moves), `${RESULT} ${ply}`);
+  }
   if (where === SINCE) return lookAt(message('look.since', { ply }), plural('doubt.clock_stopped', moves), `${CLOCK} ${ply}`);
   return lookAt(where === AFTER ? message('look.after', { ply }) : message('look.at', { ply }), WHY[why] || UNKNOWN);
 }

@@ -6,6 +6,7 @@ const ALARMED = ['TURNED-ROUND', 'OTHER-BOARD'];
 export const [KEEP, HOLD, OTHER] = ['keep', 'hold', 'other'];
 export const [KEPT, NUMBER, LENT, WAKE, TEXT] = ['kept', 'number', 'lent', 'wake', 'text'];
 export const [AT, AFTER, SINCE, SUSPECT] = ['at', 'after', 'since', 'SUSPECT']; // where somebody must look
+export const UNPLAYED = 'UNPLAYED'; // nobody may have played these moves
 
 const OVER = /^([A-Z-]+) (1-0|0-1|1\/2-1\/2|\*) ([0-9]+) (sure|unsure)$/;
 const COUNTS = ['played', 'begins'];
