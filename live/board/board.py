@@ -145,8 +145,11 @@ class Board:
 
         def opened(found: Opened) -> None:
             close = guard.opened(found.game.capture.close)
+            assert found.reader
+            reader_unused = guard.opened(found.reader.close)
             opening.take()
             self._opened(guard, worker, wanted.plan, dataclasses.replace(found, close=close), asked[0] if asked else None)
+            reader_unused()
             opening.untold = ()  # it has been said
 
         if not wanted.plan.shows:

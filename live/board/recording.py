@@ -96,7 +96,7 @@ class Recording(AttendedGame):
         self._tick = guard.after(TICK, self._each_second)
         if opened.old.lines:
             self._tell_old()
-        self.attend(self.game.options.of_live(), with_times=True, known=opened.old.lines)
+        self.attend(self.game.options.of_live(), with_times=True, known=opened.old.lines, reader=opened.reader)
         if opened.old.lines:
             self.attending.then(lambda: self._hear_result(self.course.result))
         if self._old == front_of(self.game.paths, self.game.capture) != 0:  # nothing has come since plies were taken off

@@ -98,9 +98,9 @@ class Text:
         self._closed = True
         self.kill()
 
-    def look(self, limit: Optional[int]) -> None:
-        """Finds out whether the text that another call left is what `record` makes of the whole capture, of its first `limit`
-        bytes, or of the capture from before plies were taken off. If not, somebody has edited it. Call this before the capture
+    def look(self, limit: Optional[int], recorded: bytes = b"") -> None:
+        """Finds out whether the text that another call left is what was `recorded`, what `record` makes of the whole capture, of its first
+        `limit` bytes, or of the capture from before plies were taken off. If not, somebody has edited it. Call this before the capture
         or the options change."""
         game, text = self._game, b""
         with contextlib.suppress(OSError):
@@ -108,7 +108,7 @@ class Text:
         if text and game.written.text is None:
             with contextlib.suppress(OSError):
                 before = game.paths.last_before_back
-                if is_recorded(game.program, game.options, game.capture.bytes(0, limit), text) or (
+                if text == recorded or is_recorded(game.program, game.options, game.capture.bytes(0, limit), text) or (
                     before and is_recorded(game.program, game.options, existing(before), text)
                 ):
                     game.written.text = text
