@@ -2,8 +2,9 @@
 
 from __future__ import annotations
 
+import functools
 import os
-from typing import Optional
+from typing import Callable, Optional
 
 from live.board import adding, forfeited, renaming, taking_off
 from live.board.obeying import Obeying
@@ -11,7 +12,8 @@ from live.called import DGT_LIVE
 from live.game.files import Paths
 from live.game.forfeiting import drop_forfeit
 from live.game.forfeits import Forfeit, read_typed
-from live.game.naming import is_naming
+from live.game.naming import IN_A_TABLE, is_naming
+from live.game.opening import Chooses, named
 from live.game.reply import Answer, Refused, refusal
 from live.game.typed import ONE_BOARD, WAYS, Acknowledged, Added, Back, Nothing, Quit, Reopened, Typed, with_more
 from live.refused import DONE
@@ -42,9 +44,16 @@ class Arbiter:
         """A line that was typed elsewhere."""
         return (yield from self._obeyed(text, None, is_sure, may_quit=False))
 
+    def rename(self, text: str, prepares: Callable[[], Chooses]) -> Steps[Answer]:
+        """The names of a table, which somebody has read again by this."""
+        return (yield from self._ended(text, renaming.rename(self._obeying, prepares)))
+
     def _obeyed(self, text: str, before: Optional[Paths], sure: bool, may_quit: bool) -> Steps[Answer]:
+        return (yield from self._ended(text, self._obeys(text, before, sure, may_quit)))
+
+    def _ended(self, text: str, steps: Steps[Answer]) -> Steps[Answer]:
         try:
-            answer = yield from self._obeys(text, before, sure, may_quit)
+            answer = yield from steps
         except (Refused, OSError, Failed) as error:
             answer = refusal(text, error)
         except Exception:
@@ -55,7 +64,9 @@ class Arbiter:
 
     def _obeys(self, text: str, before: Optional[Paths], sure: bool, may_quit: bool) -> Steps[Answer]:
         if is_naming(text) and not before:
-            return (yield from renaming.rename(self._obeying, text))
+            if self._obeying.plan.board:
+                raise Refused(IN_A_TABLE)
+            return (yield from renaming.rename(self._obeying, functools.partial(named, self._games.game.program, text)))
         typed = read_typed(text, os.path.basename(self._games.game.paths.name))
         if isinstance(typed, Nothing):
             return DONE, ""

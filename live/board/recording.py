@@ -170,10 +170,11 @@ class Recording(AttendedGame):
         self._maker.want()
 
     def renamed(self, game: Game) -> None:
-        """The game has other tags from now on."""
-        self.game = game
-        self.attending.begin_again(game.options.of_live())
-        self._maker.makes(game)
+        """The game has other tags from now on. Its text follows, if they are in it."""
+        before, self.game = self.game.options, game
+        if game.options.of_live() != before.of_live():
+            self.attending.begin_again(game.options.of_live())
+            self._maker.makes(game)
 
     def _each_second(self) -> None:
         self._tick = self._guard.after(TICK, self._each_second)

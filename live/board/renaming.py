@@ -4,14 +4,12 @@ from __future__ import annotations
 
 import dataclasses
 import functools
+from typing import Callable
 
-from live.board.obeying import Obeying
+from live.board.obeying import JUST_ENDED, Obeying
 from live.board.recording import Recording
 from live.game.changing import put_names_right
-from live.game.game import Game, keep_options
-from live.game.naming import IN_A_TABLE, read_names, told_of_names
-from live.game.opening import checked
-from live.game.options import Options
+from live.game.opening import Chooses
 from live.game.reply import Answer, Refused
 from live.refused import DONE
 from live.steps import Steps
@@ -20,41 +18,25 @@ from live.words.message import Message, linked
 RENAMED = Message("done.renamed")
 
 
-def rename(obeying: Obeying, text: str) -> Steps[Answer]:
-    """The game has the tags of `name White=Anna` from now on; its text follows. Those of a round come from its table."""
+def rename(obeying: Obeying, prepares: Callable[[], Chooses]) -> Steps[Answer]:
+    """The game has other tags from now on: those of `name White=Anna`, or of its line in a table. Its text follows. If it is over, so has
+    the next one."""
     games = obeying.games
-    if obeying.plan.board:
-        raise Refused(IN_A_TABLE)
-    if not isinstance(games.now, Recording):
-        return (yield from _rename_last(obeying, text))
-    now, before = games.now, games.game.options
-    options = yield from obeying.beside(functools.partial(_kept, games.game, text))
-    games.game = dataclasses.replace(games.game, options=options)
-    now.renamed(games.game)
-    return _renamed(obeying, told_of_names(options, before))
-
-
-def _rename_last(obeying: Obeying, text: str) -> Steps[Answer]:
-    """The game that is over has them, while the pieces are set up or its board is watched; and so has the next one."""
-    games = obeying.games
-    now = games.now
-    options, told = yield from obeying.changed(RENAMED, functools.partial(put_names_right, games.game, text))
-    games.game = dataclasses.replace(games.game, options=options)
-    if now:
-        now.close()
-    answer = _renamed(obeying, told)
-    games.watch_on()
-    return answer
-
-
-def _renamed(obeying: Obeying, told: str) -> Answer:
-    obeying.screen.say(told)
+    now, game, has_moves = games.now, games.game, bool(games.course.plies)
+    is_recorded = isinstance(now, Recording)
+    if now is None:
+        raise Refused(JUST_ENDED)
+    if not is_recorded:
+        yield from obeying.held(RENAMED)
+    options, told = yield from obeying.beside(functools.partial(put_names_right, game, prepares, has_moves, is_recorded))
+    if games.game is not game:
+        raise Refused(JUST_ENDED)
+    if games.now is not now:  # the game is over meanwhile, and its text is made
+        return (yield from rename(obeying, prepares))
+    games.game = dataclasses.replace(game, options=options)
+    if isinstance(now, Recording):
+        now.renamed(games.game)
+    for line in told:
+        obeying.screen.say(line)
     obeying.hears.placed()
-    return DONE, linked("colon", (obeying.games.game.paths.name, told))
-
-
-def _kept(game: Game, text: str) -> Options:
-    """The options of a game with the tags that a line gives, when they are kept beside it."""
-    options = game.options.with_given(checked(game.program, read_names(text)))
-    keep_options(game.paths, options)
-    return options
+    return DONE, linked("colon", (game.paths.name, linked("semicolon", told)))

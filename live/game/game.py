@@ -6,7 +6,7 @@ import contextlib
 import os
 import re
 from dataclasses import dataclass, field
-from typing import Optional
+from typing import Optional, Tuple
 
 from live.game.files import NO_SUCH_FILE, LARGEST, Capture, Paths
 from live.game.files import beginning, existing, not_written, put_in_place, remove, sync_folder, text_of
@@ -38,9 +38,14 @@ def mebibytes(options: Options) -> int:
 
 @dataclass
 class Written:
-    """The text that last replaced NAME.pgn; None if that isn't known."""
+    """The text that last replaced NAME.pgn, if that is known, and the options that it has."""
 
-    text: Optional[bytes] = None
+    last: Optional[Tuple[bytes, Options]] = None
+
+    @property
+    def text(self) -> Optional[bytes]:
+        """The text."""
+        return self.last[0] if self.last else None
 
 
 @dataclass(frozen=True)

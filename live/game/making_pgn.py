@@ -111,7 +111,7 @@ class Text:
                 if text == recorded or is_recorded(game.program, game.options, game.capture.bytes(0, limit), text) or (
                     before and is_recorded(game.program, game.options, existing(before), text)
                 ):
-                    game.written.text = text
+                    game.written.last = text, game.options
 
     def make(self, limit: Optional[int]) -> Made:
         """Has `record` make it of the whole capture or of its first `limit` bytes, and waits for that. Returns the outcome."""
@@ -203,7 +203,7 @@ class Text:
             if before and before not in (text, self._game.written.text):
                 edited = keep(paths, before)
             os.replace(self._new, paths.pgn)
-            self._game.written.text = text
+            self._game.written.last = text, self._game.options
             sync_folder(paths.folder)
         return edited
 

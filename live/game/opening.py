@@ -14,6 +14,7 @@ from live.game.edited import told_of_edit
 from live.game.files import LOCK_PATIENCE, Capture, Paths, open_game, size_of
 from live.game.game import Game, end_mark, is_full, keep_options, kept_options, result_in
 from live.game.making_pgn import Made, Text, told_of_reading, told_of_result
+from live.game.naming import read_names, told_of_names
 from live.game.options import PUBLISHED, UNKNOWN, Options, as_typed
 from live.game.program import Program
 from live.game.reading import Old, Reader, words_of
@@ -331,6 +332,18 @@ def of_a_line(given: Options, name: str) -> Chooses:
         if kept is not None and not told and chosen.players != kept.players and has_moves():
             told.append(chosen.told_of_tags(kept))  # they are recorded in the same letters as before
         return Chosen(chosen, tuple(told))
+
+    return chooses
+
+
+def named(program: Program, text: str) -> Chooses:
+    """For a game that gets the tags of `name White=Anna`. Refused if it can't have them."""
+    given = checked(program, read_names(text))
+
+    def chooses(kept: Optional[Options], has_moves: Callable[[], bool]) -> Chosen:
+        before = kept or Options()
+        chosen = before.with_given(given)
+        return Chosen(chosen, (told_of_names(chosen, before),))
 
     return chooses
 

@@ -31,7 +31,7 @@ from live.game.reading import game_of
 from live.game.reply import REOPENS, Answer, refusal
 from live.game.tags import SIDES, Tags
 from live.loop import Turns
-from live.refused import REFUSED, Refused
+from live.refused import DONE, REFUSED, Refused
 from live.round.pairings import Pairing
 from live.round.table import NOT_RECORDED, RowView
 from live.terminal.screen import Screen
@@ -194,10 +194,21 @@ def typed_options(hall: Hall, pairing: Pairing) -> Options:
     return recordable(numbered, lambda option: f"{option[2:].capitalize()} {pairing.board}")
 
 
+def chosen_by(hall: Hall, pairing: Pairing) -> Chooses:
+    """What a line says of its game. Refused if the program refuses that."""
+    return of_a_line(checked(hall.program, typed_options(hall, pairing)), f"{hall.folder}/{pairing.file_name}")
+
+
 def same_but_for_result(one: Pairing, other: Pairing) -> bool:
     """Whether two lines have the same game, wherever they are in their tables."""
     first, second = (dataclasses.replace(pairing, line=0, result="", remarks=()) for pairing in (one, other))
     return first == second
+
+
+def same_but_for_names(one: Pairing, other: Pairing) -> bool:
+    """Whether two lines have the same game on the same board, but for names and other tags, and for the result."""
+    first, second = (dataclasses.replace(pairing, white="", black="", tags=()) for pairing in (one, other))
+    return same_but_for_result(first, second)
 
 
 @dataclass(frozen=True)
@@ -302,16 +313,15 @@ class Row:
         has_cable = self.board.cable and pairing.device == self._device
         device = self.board.cable if has_cable else pairing.device
         self._device = pairing.device
-        name = f"{hall.folder}/{pairing.file_name}"
 
         def prepares() -> Chooses:
             if self.held:
                 raise Refused(REFUSED, Message("row.game_of_others", of_others=self.held.of_others, advice=self.held.advice))
-            given = checked(hall.program, typed_options(hall, pairing))
+            chooses = chosen_by(hall, pairing)
             check(device, may_wait=True)
-            return of_a_line(given, name)
+            return chooses
 
-        plan = Plan(device, name, Rules(listens=True), board=str(pairing.board), serial=pairing.serial)
+        plan = Plan(device, f"{hall.folder}/{pairing.file_name}", Rules(listens=True), board=str(pairing.board), serial=pairing.serial)
         return Wanted(plan, lambda: Opening(hall.program, plan.paths, prepares, 0))
 
     def changed(self) -> None:
@@ -348,8 +358,8 @@ class Row:
     # Its line is read again.
 
     def take(self, pairing: Pairing) -> None:
-        """Takes the line as it is now. If it has changed, the recording begins anew, and the game goes on. A game of another pair is
-        left alone as long as the line is as it was: somebody may have typed `r` for another board."""
+        """Takes the line as it is now. Its names are put right while the game goes on; if more has changed, the recording begins anew. A
+        game of another pair is left alone as long as the line is as it was: somebody may have typed `r` for another board."""
         before, self.pairing = self.pairing, pairing
         if self.held and not (self.held.are_others and pairing == before):
             self.held = None
@@ -360,7 +370,19 @@ class Row:
             self._loop.after(0, self._apply_result)
             if not self.board.is_recorded and not self.board.is_over:
                 self.board.begin()
-        elif self.board.is_begun:
+        elif self.board.is_recorded and same_but_for_names(before, pairing):
+            self.board.rename("r", functools.partial(chosen_by, self._hall, pairing), self._renamed)
+            self._loop.after(0, self._apply_result)
+        else:
+            self._begins_otherwise()
+
+    def _renamed(self, answer: Answer) -> None:
+        """Its game has the names of its line; or it hasn't, and its row is to say why."""
+        if answer[0] != DONE:
+            self._begins_otherwise()
+
+    def _begins_otherwise(self) -> None:
+        if self.board.is_begun:
             self._wants_result = False  # until it is recorded again
             self.board.end(self._begin_anew)
         else:
