@@ -59,8 +59,9 @@ class Recording(AttendedGame):
     """A game on a board, from its first byte to its text. What came before this call was reported then."""
 
     def __init__(
-        self, guard: Guard, worker: Worker, screen: Screen, opened: Opened, rules: Rules, hears: HearsRecording
-    ) -> None:
+        self, guard: Guard, worker: Worker, screen: Screen, opened: Opened, rules: Rules, hears: HearsRecording,
+        before: Optional[AttendedGame] = None
+    ) -> None:  # fmt: skip
         super().__init__(guard, screen, opened.game, hears)
         self._hears, self._rules = hears, rules
         self.course = opened.old.course
@@ -78,7 +79,9 @@ class Recording(AttendedGame):
         self._marks = False  # and whether NAME.end must say how many bytes are the game's
         self._done: Callable[[str], None] = lambda unwritten: None
         self._is_heard = False  # whether all is heard, and what comes now doesn't count
-        self.standing: Standing = Standing(guard, screen, self.game.options.rotated)
+        has_shown = before is not None and before.attending.has_shown
+        stood = before.standing if has_shown and isinstance(before, Recording) else None
+        self.standing: Standing = Standing(guard, screen, self.game.options.rotated, has_shown=has_shown, before=stood)
         self.standing.was_away = bool(opened.old.lines)  # what it showed before this call is long ago
         self._maker = Maker(guard, worker, self.game, self)
         self._heard_at: Optional[float] = None  # when the board was heard last in this call
@@ -97,6 +100,7 @@ class Recording(AttendedGame):
         if opened.old.lines:
             self._tell_old()
         self.attend(self.game.options.of_live(), with_times=True, known=opened.old.lines, reader=opened.reader)
+        self.attending.has_shown = has_shown
         if opened.old.lines:
             self.attending.then(lambda: self._hear_result(self.course.result))
         if self._old == front_of(self.game.paths, self.game.capture) != 0:  # nothing has come since plies were taken off

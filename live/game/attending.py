@@ -87,7 +87,7 @@ class Attending(Child):
         self._due = math.inf  # when it is to be woken
         self._timer: Optional[Timer] = None  # which may come before that
         self._is_paused = self._is_due = False
-        self._has_shown = False  # whether the board has shown something
+        self.has_shown = False  # whether the board has shown its pieces in this call, and is there
         self._gets_text: Optional[Callable[[bytes], None]] = None  # when it is answered
         self.start()
 
@@ -294,10 +294,10 @@ class Attending(Child):
 
     def _look_at_state(self, answer: Answer) -> None:
         """That a child waits for the board is no news if another one has heard it in this call."""
-        if answer.stood and answer.stood.kind == WAITS and self._has_shown:
+        if answer.stood and answer.stood.kind == WAITS and self.has_shown:
             answer.stood = None
         elif answer.stood:
-            self._has_shown = self._has_shown or answer.stood.kind not in UNSEEN
+            self.has_shown = answer.stood.kind not in UNSEEN
 
     def unreported(self, lines: int) -> None:
         """So many lines of the report weren't used, since their bytes aren't in the capture."""
