@@ -12,7 +12,7 @@ from typing import Callable, Dict, List, Optional, Protocol, Sequence, Tuple
 from live.game import names, tags
 from live.game.edited import told_of_edit
 from live.game.files import LOCK_PATIENCE, Capture, Paths, open_game, size_of
-from live.game.game import Game, end_mark, is_full, keep_options, kept_options, result_in
+from live.game.game import Game, end_mark, is_full, keep_options, kept_options, result_in, result_of
 from live.game.making_pgn import Made, Text, told_of_reading, told_of_result
 from live.game.naming import read_names, told_of_names
 from live.game.options import PUBLISHED, UNKNOWN, Options, as_typed
@@ -227,7 +227,7 @@ class Opening:
         told = (*chosen.told, told_of_edit(paths.pgn, made.edited)) if made.edited else chosen.told
         pairs = old.course.recovered if before and bool(before.recover) != bool(options.recover) else []
         read_anew = told_of_reading(before or options, options, pairs)
-        results = told_of_result(result, old.course.result)
+        results = told_of_result(result, result_of(old.text))
         old = dataclasses.replace(old, size=capture.size, lines=old.lines if capture.size else 0)
         told = (*told, *times.unexpected)
         return Opened(game, old, end is not None, is_full(game), told, tuple(read_anew), tuple(results), reader=self._reader)

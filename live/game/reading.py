@@ -3,7 +3,6 @@ with that child. For callers that may wait."""
 
 from __future__ import annotations
 
-import array
 import contextlib
 import os
 import select
@@ -12,7 +11,6 @@ from dataclasses import dataclass
 from typing import Iterator, Optional, Sequence, Tuple
 
 from live.device import protocol
-from live.device.protocol import DUMP_BEGINS
 from live.game.attended import CAPTURE, KEPT, TEXT, Answers, entry, pieces
 from live.game.course import Course
 from live.game.files import open_regular
@@ -62,18 +60,17 @@ class Reader:
         self._child: Optional[subprocess.Popen[bytes]] = game.program.start(self.words, subprocess.PIPE, subprocess.PIPE, subprocess.DEVNULL)
 
     def read(self, now: float) -> Old:
-        """What the capture has, at this time. Raises OSError if it can't be read."""
+        """What the capture has. Its clock times count as just come. Raises OSError if it can't be read."""
         assert self._child
         course, lines, answers, left = new_course(self._options), 0, Answers(), 1 + bool(self.times) + len(pieces(self.times, 0, self.size))
         source = open_regular(self._path, os.O_RDONLY)  # by its path: if the loop closes a file, its number may become another file's
         try:
-            came = Times(source, self.size, now)
             for part in _exchanged(self._child, self._told(source)):
                 ended = answers.take(part)
                 texts = [text for answer in ended for text in answer.report] + answers.unended()
                 lines += len(texts)
                 for line in filter(None, map(line_of, wanted(texts, course.start) if texts else ())):
-                    course.take(line, came.of(line.offset))
+                    course.take(line, now)
                 left -= len(ended)
                 if left == 0:
                     return Old(self.size, lines, course, ended[-1].game or b"")
@@ -110,7 +107,7 @@ class Reader:
 
 
 def read_game(game: Game, limit: Optional[int], now: float = 0.0) -> Old:
-    """What the capture has, or this many bytes of it, at this time. Raises OSError if it can't be read."""
+    """What the capture has, or this many bytes of it. Raises OSError if it can't be read."""
     reader = Reader(game, limit)
     try:
         return reader.read(now)
@@ -150,36 +147,6 @@ def game_of(program: Program, options: Options, sent: bytes) -> Course:
         if line:
             course.take(line, 0.0)
     return course
-
-
-class Times:
-    """When the bytes of a capture came, as far as known: there is a dump every second, and the last one came now."""
-
-    def __init__(self, source: int, size: int, now: float) -> None:
-        self._dumps = array.array("Q", dumps_in(source, size))
-        self._began, self._at = now - len(self._dumps), 0
-
-    def of(self, offset: int) -> float:
-        """The time of one byte; they are requested in order."""
-        while self._at < len(self._dumps) and self._dumps[self._at] <= offset:
-            self._at += 1
-        return self._began + self._at
-
-
-def dumps_in(source: int, size: int) -> Iterator[int]:
-    """The offsets of the dumps in a file."""
-    at, before = 0, b""
-    while at < size:
-        part = os.pread(source, 1 << 20, at)
-        if not part:
-            return
-        text = before + part
-        found = text.find(DUMP_BEGINS)
-        while found >= 0:
-            yield at - len(before) + found
-            found = text.find(DUMP_BEGINS, found + 1)
-        at += len(part)
-        before = text[1 - len(DUMP_BEGINS) :]
 
 
 def wanted(texts: Sequence[str], start: protocol.Picture) -> Sequence[str]:
