@@ -17,11 +17,9 @@ from live.game import times
 from live.game.afterwards import corrected
 from live.game.attended import SUSPECT, Doubt, Over
 from live.game.doubted import byte_of, look_of
-from live.game.edited import told_of_edit
 from live.game.files import text_of
-from live.game.front import front_of
-from live.game.game import Game, forget_question, largest, mark_end, mebibytes
-from live.game.making_pgn import Made, Maker
+from live.game.game import Game, forget_question, front_of, largest, mark_end, mebibytes
+from live.game.making_pgn import Made, Maker, told_of_edit
 from live.game.opening import Opened
 from live.game.report import NEWS, Clock, Differs, Event, Fault, Line, Move, Picture, Position, Recovered, Result, by_byte, event_of
 from live.game.times import ADDED, BACK, HEARD, OVER, REOPENED

@@ -157,8 +157,8 @@ def put_names_right(
     keep_options(game.paths, options)
     if needs_text and not is_recorded:
         told = (*told, *filter(None, [made_of(game, Text(replace(game, options=options)).make(end_mark(game.paths)))]))
-    elif not needs_text and game.written.text is not None:
-        game.written.last = game.written.text, options
+    elif not needs_text and game.written.last:
+        game.written.last = game.written.last[0], options
     return options, told
 
 

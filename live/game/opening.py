@@ -10,10 +10,9 @@ from dataclasses import dataclass
 from typing import Callable, Dict, List, Optional, Protocol, Sequence, Tuple
 
 from live.game import names, tags
-from live.game.edited import told_of_edit
 from live.game.files import LOCK_PATIENCE, Capture, Paths, open_game, size_of
 from live.game.game import Game, end_mark, is_full, keep_options, kept_options, result_in, result_of
-from live.game.making_pgn import Made, Text, told_of_reading, told_of_result
+from live.game.making_pgn import Made, Text, told_of_edit, told_of_reading, told_of_result
 from live.game.naming import read_names, told_of_names
 from live.game.options import PUBLISHED, UNKNOWN, Options, as_typed
 from live.game.program import Program
@@ -259,7 +258,7 @@ class Opening:
 def _make_again(game: Game) -> None:
     """Makes the text of a game that doesn't go on: a call that was killed may have left an old one. One that somebody has edited
     stays."""
-    if game.written.text is not None or not size_of(game.paths.pgn):
+    if game.written.last or not size_of(game.paths.pgn):
         Text(game).make(end_mark(game.paths))
 
 
