@@ -87,12 +87,13 @@ def turned(given: Options) -> Options:
     return given.turned({option: turn(option) for option in TURNS})
 
 
-def checked(program: Program, typed: Options) -> Options:
-    """With names and dates as PGN has them. Refused if the program refuses them. It is asked about a position alone: names and dates
-    are as it takes them by now."""
+def checked(program: Program, typed: Options, paths: Optional[Paths] = None) -> Options:
+    """With names and dates as PGN has them. Refused if the program refuses them. It is asked about a position alone, unless that is kept
+    beside the game: names and dates are as it takes them by now."""
     typed.refuse_breaks()
     given = turned(recordable(typed))
-    if given.fen is None and given.first in (None, *SIDES_OF_CLOCK):
+    kept = kept_options(paths) if paths and given.fen is not None else None
+    if given.fen == (kept.fen if kept else None) and given.first in (None, *SIDES_OF_CLOCK):
         return given
     answer = program.run("record", *given.of_record())
     if answer.returncode != 0:

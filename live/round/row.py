@@ -196,7 +196,8 @@ def typed_options(hall: Hall, pairing: Pairing) -> Options:
 
 def chosen_by(hall: Hall, pairing: Pairing) -> Chooses:
     """What a line says of its game. Refused if the program refuses that."""
-    return of_a_line(checked(hall.program, typed_options(hall, pairing)), f"{hall.folder}/{pairing.file_name}")
+    name = f"{hall.folder}/{pairing.file_name}"
+    return of_a_line(checked(hall.program, typed_options(hall, pairing), Paths(name)), name)
 
 
 def same_but_for_result(one: Pairing, other: Pairing) -> bool:

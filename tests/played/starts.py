@@ -2,6 +2,7 @@
 
 import pathlib
 
+from play_board import BLACK, EMPTY, KING, PAWN
 from played import words
 from played.failing import counted
 from played.recorder import Live
@@ -66,4 +67,16 @@ def never_waited_for(folder: pathlib.Path) -> None:
     same((stop(live), live.lines().count(words.WAITS)), (0, waited))
 
 
-CASES = [opened_once, never_waited_for]
+def position_known(folder: pathlib.Path) -> None:
+    """A game from a position is begun, and again with the same one: the program is asked about it once."""
+    door, started = counted(folder)
+    board = a_board(folder, [{4: BLACK + KING, 52: PAWN, 60: KING}.get(number, EMPTY) for number in range(64)])
+    for wanted in (["record", *OPENED], OPENED):
+        live = Live(board.device, folder / "game", "--fen", "4k3/8/8/8/8/8/4P3/4K3 w - - 0 1", program=door)
+        begun(live)
+        same(sorted(started()), sorted(wanted))
+        same(stop(live), 0)
+        same(started(), ["record"])
+
+
+CASES = [position_known, opened_once, never_waited_for]
