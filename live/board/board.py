@@ -347,9 +347,7 @@ class Board:
         """The names of a table, which somebody has read again by this: its game has them once the lines before are answered."""
 
         def obeys() -> Steps[Answer]:
-            if self._recorder is None:
-                return refusal(text, NotDone(BEING_OPENED))
-            return (yield from self._recorder.arbiter.rename(text, prepares))
+            return (yield from self._recorder.arbiter.rename(text, prepares)) if self._recorder else refusal(text, NotDone(BEING_OPENED))
 
         self._lines.take(Line(text, obeys, answered))
 
@@ -380,7 +378,7 @@ class Board:
         """Adds to a game that isn't recorded now, and reads its new state."""
         worker, self._is_changed = Worker(self._loop), True
         try:
-            answer = yield from beside(worker, functools.partial(_add_by_name, self._program, self.paths, text))
+            answer = yield from beside(worker, functools.partial(add_by_name, self._program, self.paths, text, 0))
         finally:
             worker.close()
             self._is_changed = False
@@ -487,8 +485,7 @@ class Board:
     @property
     def differing(self) -> Tuple[str, ...]:
         """The squares that a page marks."""
-        state = self.state
-        return state.differing if state else ()
+        return self.state.differing if self.state else ()
 
     def _read_pgn(self) -> None:
         """Takes the text of its game: the one that this recording has put in place last, if it has; else what the file has."""
@@ -501,7 +498,3 @@ class Board:
             with contextlib.suppress(OSError):
                 self.pgn = files.existing(self.paths.pgn)
         self.forfeit = forfeit_of(self.paths, self.pgn)
-
-
-def _add_by_name(program: Program, paths: Paths, text: str) -> Answer:
-    return add_by_name(program, paths, text, 0)

@@ -2,7 +2,6 @@
 
 from __future__ import annotations
 
-import dataclasses
 import functools
 from dataclasses import dataclass
 from typing import Callable, List, Optional, Protocol, Tuple
@@ -32,7 +31,7 @@ from live.game.reply import REOPENS, Answer, refusal
 from live.game.tags import SIDES, Tags
 from live.loop import Turns
 from live.refused import DONE, REFUSED, Refused
-from live.round.pairings import Pairing
+from live.round.pairings import Pairing, same_but_for_names, same_but_for_result
 from live.round.table import NOT_RECORDED, RowView
 from live.terminal.screen import Screen
 from live.terminal.terminal import Terminal
@@ -200,18 +199,6 @@ def chosen_by(hall: Hall, pairing: Pairing) -> Chooses:
     return of_a_line(checked(hall.program, typed_options(hall, pairing), Paths(name)), name)
 
 
-def same_but_for_result(one: Pairing, other: Pairing) -> bool:
-    """Whether two lines have the same game, wherever they are in their tables."""
-    first, second = (dataclasses.replace(pairing, line=0, result="", remarks=()) for pairing in (one, other))
-    return first == second
-
-
-def same_but_for_names(one: Pairing, other: Pairing) -> bool:
-    """Whether two lines have the same game on the same board, but for names and other tags, and for the result."""
-    first, second = (dataclasses.replace(pairing, white="", black="", tags=()) for pairing in (one, other))
-    return same_but_for_result(first, second)
-
-
 @dataclass(frozen=True)
 class Earlier:
     """The game of a line as it is found when a round is started: its options; and what it is, if its line would give it to other
@@ -275,6 +262,7 @@ class Row:
         self._of_line: Tuple[Optional[Pairing], Options] = (None, Options())  # a line, and its options
         self._wants_result = True
         self._gets_result = False  # whether its game is just getting that of its line
+        self._lacks_names = False  # whether its game couldn't get those of its line
         self._begun_with: Optional[Callable[[], None]] = None  # adds what was typed before its game was open
         self.held: Optional[Earlier] = None  # its game, if that isn't opened before `r`
 
@@ -313,7 +301,7 @@ class Row:
         pairing, hall = self.pairing, self._hall
         has_cable = self.board.cable and pairing.device == self._device
         device = self.board.cable if has_cable else pairing.device
-        self._device = pairing.device
+        self._device, self._lacks_names = pairing.device, False
 
         def prepares() -> Chooses:
             if self.held:
@@ -367,7 +355,7 @@ class Row:
         self._wants_result = True
         if before.result == self.board.forfeit != "" and not pairing.result:
             self._hears.say_of_table(Message("row.no_forfeit", number=self.number, reopens=REOPENS))
-        if same_but_for_result(before, pairing):
+        if same_but_for_result(before, pairing) and not self._lacks_names:
             self._loop.after(0, self._apply_result)
             if not self.board.is_recorded and not self.board.is_over:
                 self.board.begin()
@@ -378,11 +366,15 @@ class Row:
             self._begins_otherwise()
 
     def _renamed(self, answer: Answer) -> None:
-        """Its game has the names of its line; or it hasn't, and its row is to say why."""
-        if answer[0] != DONE:
+        """Its game has the names of its line; or it hasn't, and gets them at the next `r`, or as it is opened."""
+        self._lacks_names = answer[0] != DONE
+        if self._lacks_names and self.board.is_recorded:
+            self._hears.say_of_table(linked("space", (str(self.number), answer[1])))
+        elif self._lacks_names:
             self._begins_otherwise()
 
     def _begins_otherwise(self) -> None:
+        """Its game is opened as its line says."""
         if self.board.is_begun:
             self._wants_result = False  # until it is recorded again
             self.board.end(self._begin_anew)

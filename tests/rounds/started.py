@@ -120,4 +120,25 @@ def names_on_open_lines(folder: pathlib.Path) -> None:
     same((stop(live), live.lines().count(words.WAITS)), (0, before.count(words.WAITS)))
 
 
-CASES = [result_before_a_move, name_put_right_while_off, names_on_open_lines]
+def names_not_kept(folder: pathlib.Path) -> None:
+    """Names that are put right can't be written: a line says so, both boards go on, and the next `r` puts them right."""
+    hall = Hall(folder, 2)
+    live = hall.record(typed=True)
+    hall.begun(live)
+    hall.play(0, 2)
+    block = pathlib.Path(hall.name(1) + ".options.new")
+    block.mkdir()
+    hall.file.write_text(hall.file.read_text().replace("White 1", "Anna"))
+    live.type("r")
+    until_line(live, f"1 refused: {hall.name(1)}.options can't be written")
+    hall.play(2, 3)
+    assert b"White 1" in bytes_of(hall.name(1) + ".pgn")
+    block.rmdir()
+    live.type("r")
+    until_line(live, "  1  White is now Anna, and was White 1\n")
+    until(lambda: b'[White "Anna"]' in bytes_of(hall.name(1) + ".pgn"), "the name that was put right")
+    hall.play(3, 4)
+    same((stop(live), live.lines().count("isn't recorded")), (0, 0))
+
+
+CASES = [result_before_a_move, name_put_right_while_off, names_on_open_lines, names_not_kept]
