@@ -3,7 +3,7 @@ game's result. The kings may have been in the centre by mistake, and the players
 
 from __future__ import annotations
 
-from typing import Callable
+from typing import Callable, Optional
 
 from live.board.recording import Recording
 from live.game.afterwards import went_on
@@ -12,6 +12,7 @@ from live.game.attending import Attending, HearsAnswers, Past, Told
 from live.game.course import Course
 from live.game.game import Game
 from live.game.looks import Look
+from live.game.reading import Reader
 from live.game.times import BEGIN, HEARD
 from live.game.way_back import reached
 from live.guard import Guard
@@ -62,10 +63,10 @@ def after_recording(before: Recording, looks: Callable[[Look], None]) -> Afterwa
     return Afterwards(before.hand_over, before.course, before.played, looks)
 
 
-def after_kept(guard: Guard, game: Game, course: Course, looks: Callable[[Look], None]) -> Afterwards:
-    """Starts a child for a game that was over before this call, and tells it all that is kept."""
+def after_kept(guard: Guard, game: Game, course: Course, looks: Callable[[Look], None], reader: Optional[Reader]) -> Afterwards:
+    """For a game that was over before this call: another child is told all that is kept, unless one was told it."""
 
     def attends(hears: HearsAnswers) -> Attending:
-        return Attending(guard, game.program, game.options.of_live(), Past(game.capture, 0, game.times), hears)
+        return Attending(guard, game.program, game.options.of_live(), Past(game.capture, 0, game.times, reader), hears)
 
     return Afterwards(attends, course, 0, looks)

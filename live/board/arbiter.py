@@ -2,22 +2,29 @@
 
 from __future__ import annotations
 
+import dataclasses
+import functools
 import os
-from typing import Optional
+from typing import Callable, Optional
 
-from live.board import adding, forfeited, renaming, taking_off
-from live.board.obeying import Obeying
+from live.board import adding, taking_off
+from live.board.obeying import JUST_ENDED, Obeying
+from live.board.recording import Recording
 from live.called import DGT_LIVE
+from live.game.changing import put_names_right
 from live.game.files import Paths
-from live.game.forfeiting import drop_forfeit
-from live.game.forfeits import Forfeit, read_typed
-from live.game.naming import is_naming
+from live.game.forfeiting import drop_forfeit, keep_forfeit
+from live.game.forfeits import NO_RESULT, Forfeit, read_typed, refuse_played
+from live.game.naming import IN_A_TABLE, is_naming
+from live.game.opening import Chooses, named
 from live.game.reply import Answer, Refused, refusal
 from live.game.typed import ONE_BOARD, WAYS, Acknowledged, Added, Back, Nothing, Quit, Reopened, Typed, with_more
 from live.refused import DONE
 from live.refused import Refused as Failed
 from live.steps import Steps
-from live.words.message import Message
+from live.words.message import Message, linked
+
+RENAMED = Message("done.renamed")
 
 
 class Arbiter:
@@ -42,9 +49,16 @@ class Arbiter:
         """A line that was typed elsewhere."""
         return (yield from self._obeyed(text, None, is_sure, may_quit=False))
 
+    def rename(self, text: str, prepares: Callable[[], Chooses]) -> Steps[Answer]:
+        """The names of a table, which somebody has read again by this."""
+        return (yield from self._ended(text, rename(self._obeying, prepares)))
+
     def _obeyed(self, text: str, before: Optional[Paths], sure: bool, may_quit: bool) -> Steps[Answer]:
+        return (yield from self._ended(text, self._obeys(text, before, sure, may_quit)))
+
+    def _ended(self, text: str, steps: Steps[Answer]) -> Steps[Answer]:
         try:
-            answer = yield from self._obeys(text, before, sure, may_quit)
+            answer = yield from steps
         except (Refused, OSError, Failed) as error:
             answer = refusal(text, error)
         except Exception:
@@ -55,7 +69,9 @@ class Arbiter:
 
     def _obeys(self, text: str, before: Optional[Paths], sure: bool, may_quit: bool) -> Steps[Answer]:
         if is_naming(text) and not before:
-            return (yield from renaming.rename(self._obeying, text))
+            if self._obeying.plan.board:
+                raise Refused(IN_A_TABLE)
+            return (yield from rename(self._obeying, functools.partial(named, self._games.game.program, text)))
         typed = read_typed(text, os.path.basename(self._games.game.paths.name))
         if isinstance(typed, Nothing):
             return DONE, ""
@@ -67,7 +83,7 @@ class Arbiter:
         if before:
             return (yield from adding.add_before(self._obeying, before, text, isinstance(typed, (Reopened, Back))))
         if isinstance(typed, Forfeit):
-            return (yield from forfeited.forfeit(self._obeying, typed))
+            return (yield from forfeit(self._obeying, typed))
         return (yield from self._plays_on(typed, sure))
 
     def _plays_on(self, typed: Typed, sure: bool) -> Steps[Answer]:
@@ -82,3 +98,40 @@ class Arbiter:
             raise Refused(WAYS)
         drop_forfeit(self._games.game.paths)
         return answer
+
+
+def rename(obeying: Obeying, prepares: Callable[[], Chooses]) -> Steps[Answer]:
+    """The game has other tags from now on: those of `name White=Anna`, or of its line in a table. Its text follows. If it is over, so has
+    the next one."""
+    games = obeying.games
+    now, game, has_moves = games.now, games.game, bool(games.course.plies)
+    is_recorded = isinstance(now, Recording)
+    if now is None:
+        raise Refused(JUST_ENDED)
+    if not is_recorded:
+        yield from obeying.held(RENAMED)
+    options, told = yield from obeying.beside(functools.partial(put_names_right, game, prepares, has_moves, is_recorded))
+    if games.game is not game:
+        raise Refused(JUST_ENDED)
+    if games.now is not now:  # the game is over meanwhile, and its text is made
+        return (yield from rename(obeying, prepares))
+    games.game = dataclasses.replace(game, options=options)
+    if isinstance(now, Recording):
+        now.renamed(games.game)
+    for line in told:
+        obeying.screen.say(line)
+    obeying.hears.placed()
+    return DONE, linked("colon", (game.paths.name, linked("semicolon", told)))
+
+
+def forfeit(obeying: Obeying, typed: Forfeit) -> Steps[Answer]:
+    """The result ends the game as if it had been typed; if both players are absent, it has none."""
+    game, has = obeying.games.game, obeying.games.course.result
+    paths = game.paths
+    refuse_played(len(obeying.games.course.plies), has, typed)
+    keep_forfeit(paths, typed.kind, game.capture.total)
+    if typed.result not in (NO_RESULT, has):
+        yield from adding.add(obeying, typed.result, sure=True)
+    obeying.screen.say(Message("typed.added_by_hand", what=typed.words))
+    obeying.hears.placed()
+    return DONE, Message("forfeit.not_played_of", name=paths.name, words=typed.words)

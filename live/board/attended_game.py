@@ -12,6 +12,7 @@ from live.game.attending import Attending, HearsAnswers, Past, Told
 from live.game.files import text_of
 from live.game.game import Game
 from live.game.looks import Look, Looks
+from live.game.reading import Reader
 from live.game.times import BEGIN, BROUGHT, HEARD, LOOKED
 from live.guard import Guard
 from live.loop import Timer
@@ -49,9 +50,12 @@ class AttendedGame:
         self._is_ending = self._is_closed = self._is_handed_over = False
         self.took_over = False  # whether the program attended the board for another one before
 
-    def attend(self, words: Tuple[str, ...], start: int = 0, with_times: bool = False, known: int = 0) -> None:
-        """The program reads what is kept, from an offset on. The first `known` lines of its report are left out."""
-        past = Past(self.game.capture, start, self.game.times if with_times else None)
+    def attend(
+        self, words: Tuple[str, ...], start: int = 0, with_times: bool = False, known: int = 0, reader: Optional[Reader] = None
+    ) -> None:
+        """The program reads what is kept, from an offset on, unless a child has read it. The first `known` lines of its report are left
+        out."""
+        past = Past(self.game.capture, start, self.game.times if with_times else None, reader)
         self.attending = Attending(self._guard, self.game.program, words, past, self, known)
 
     def take_over(self, before: AttendedGame) -> None:

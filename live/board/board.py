@@ -28,7 +28,7 @@ from live.game.game import kept_serial, result_of
 from live.game.log import Log, log_once
 from live.game.looks import Looks
 from live.game.names import today
-from live.game.opening import Opened, Opening
+from live.game.opening import Chooses, Opened, Opening
 from live.game.options import Options
 from live.game.program import Program
 from live.game.reading import new_course
@@ -86,8 +86,8 @@ class Board:
     def __init__(self, loop: Turns, program: Program, screen: Screen, paths: Paths, hears: HearsBoard) -> None:
         self._loop, self._program, self._screen, self._hears = loop, program, screen, hears
         self._paths = paths
-        self._options = Options()
-        self.course: Course = new_course(self._options)
+        self.options = Options()  # of the game, as its text has them
+        self.course: Course = new_course(self.options)
         self.trouble = ""  # why it isn't recorded
         self._back: Optional[Return] = None  # when it was away last, and heard again
         self.refused: Optional[Refused] = None  # why its recording has ended, if that was an error
@@ -145,8 +145,11 @@ class Board:
 
         def opened(found: Opened) -> None:
             close = guard.opened(found.game.capture.close)
+            assert found.reader
+            reader_unused = guard.opened(found.reader.close)
             opening.take()
             self._opened(guard, worker, wanted.plan, dataclasses.replace(found, close=close), asked[0] if asked else None)
+            reader_unused()
             opening.untold = ()  # it has been said
 
         if not wanted.plan.shows:
@@ -157,7 +160,7 @@ class Board:
     def _opened(self, guard: Guard, worker: Worker, plan: Plan, opened: Opened, asked: Optional[AskedFirst]) -> None:
         """The game is open: it is recorded, or its board is listened to, since it is over."""
         self.trouble, self.is_new, self._begun_at = "", False, self._loop.now()
-        self._paths, self._options, self.course = opened.game.paths, opened.game.options, opened.old.course
+        self._paths, self.options, self.course = opened.game.paths, opened.game.options, opened.old.course
         self._read_pgn()
         guard.opened(lambda: self._screen.keep(None))
         self._screen.keep(Log(self._paths.log))
@@ -186,7 +189,7 @@ class Board:
         was_recorded = self._recorder is not None
         if self._recorder:
             game = self._recorder.game
-            self.course, self._paths, self._options, self.cable = self._recorder.course, game.paths, game.options, self._recorder.cable
+            self.course, self._paths, self.options, self.cable = self._recorder.course, game.paths, game.options, self._recorder.cable
             self._number = self._recorder.number
         self._guard = self._recorder = None
         if was_recorded:
@@ -340,6 +343,14 @@ class Board:
 
         self._lines.take(Line(text, obeys, then))
 
+    def rename(self, text: str, prepares: Callable[[], Chooses], answered: Callable[[Answer], None]) -> None:
+        """The names of a table, which somebody has read again by this: its game has them once the lines before are answered."""
+
+        def obeys() -> Steps[Answer]:
+            return (yield from self._recorder.arbiter.rename(text, prepares)) if self._recorder else refusal(text, NotDone(BEING_OPENED))
+
+        self._lines.take(Line(text, obeys, answered))
+
     def asked(self, text: str, answered: Callable[[Answer], None]) -> None:
         """What another call asks for."""
 
@@ -367,7 +378,7 @@ class Board:
         """Adds to a game that isn't recorded now, and reads its new state."""
         worker, self._is_changed = Worker(self._loop), True
         try:
-            answer = yield from beside(worker, functools.partial(_add_by_name, self._program, self.paths, text))
+            answer = yield from beside(worker, functools.partial(add_by_name, self._program, self.paths, text, 0))
         finally:
             worker.close()
             self._is_changed = False
@@ -427,11 +438,6 @@ class Board:
         return self._recorder.game.paths if self._recorder else self._paths
 
     @property
-    def options(self) -> Options:
-        """The options of the game."""
-        return self._recorder.game.options if self._recorder else self._options
-
-    @property
     def result(self) -> str:
         """The result in its text."""
         return result_of(self.pgn)
@@ -479,18 +485,16 @@ class Board:
     @property
     def differing(self) -> Tuple[str, ...]:
         """The squares that a page marks."""
-        state = self.state
-        return state.differing if state else ()
+        return self.state.differing if self.state else ()
 
     def _read_pgn(self) -> None:
         """Takes the text of its game: the one that this recording has put in place last, if it has; else what the file has."""
-        written = self._recorder.game.written.text if self._recorder else None
+        written = self._recorder.game.written.last if self._recorder else None
         if self._recorder is None:
             self._looks = kept_looks(self.paths)
-        with contextlib.suppress(OSError):
-            self.pgn = files.existing(self.paths.pgn) if written is None else written
+        if written:
+            self.pgn, self.options = written
+        else:
+            with contextlib.suppress(OSError):
+                self.pgn = files.existing(self.paths.pgn)
         self.forfeit = forfeit_of(self.paths, self.pgn)
-
-
-def _add_by_name(program: Program, paths: Paths, text: str) -> Answer:
-    return add_by_name(program, paths, text, 0)

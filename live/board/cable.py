@@ -6,14 +6,13 @@ from __future__ import annotations
 from typing import List, Optional, Protocol
 
 from live.board import advice
-from live.board.another_board import AnotherBoard
 from live.board.asked_first import AskedFirst
 from live.board.on_the_way import ANOTHER
 from live.board.standing import Standing
 from live.called import DGT_LIVE
 from live.device.connection import Connection
-from live.game.attended import KEEP, OTHER, SILENT, UNPLUGGED, WAITS, WAKE, Answer
-from live.game.attending import OF_THE_LINE, Told
+from live.game.attended import KEEP, NUMBER, OTHER, SILENT, UNPLUGGED, WAITS, WAKE, Answer
+from live.game.attending import OF_THE_LINE, Attending, Told
 from live.game.files import MEMORY
 from live.game.program import Program
 from live.game.times import HEARD, OPENED, TOOK
@@ -181,7 +180,7 @@ class Cable:
     def _attend_another(self) -> None:
         """The game's own board may come over another cable, so another child attends this one."""
         self._hears.happened(ANOTHER)
-        self._another = AnotherBoard(self._guard, self._program, self.number, self)
+        self._another = AnotherBoard(self._guard, self._program, self)
 
     def _is_other(self, number: str) -> None:
         """The board with this number is on the cable, and has sent what nobody knew the sender of."""
@@ -298,6 +297,35 @@ class Cable:
     def busy(self) -> None:
         """Another process has the line."""
         self._hears.gone(recorded_elsewhere(self._device), False)
+
+
+class AnotherBoard:
+    """Another board on the cable of a game. A child of its own attends it, which knows nothing but the number of the game's board: when the
+    other board is asked, and whether the game's own is back. Meanwhile that one may play on another game's cable."""
+
+    def __init__(self, guard: Guard, program: Program, cable: Cable) -> None:
+        self._cable = cable
+        self._attending = Attending(guard, program, (), None, self)
+        self._attending.tell(NUMBER, cable.number.encode("ascii"))
+        self._attending.tell(OPENED)
+
+    def came(self, sent: bytes) -> None:
+        """It has sent this."""
+        self._attending.tell(HEARD, sent)
+
+    def answered(self, told: Told, answer: Answer) -> None:
+        """The child says this."""
+        self._cable.of_another(told, answer)
+
+    def says(self, text: str) -> None:
+        """The child is started again."""
+
+    def broken(self, what: str) -> None:
+        """The child ends again and again: the other board isn't asked any more."""
+
+    def close(self) -> None:
+        """It isn't attended any more."""
+        self._attending.close()
 
 
 def isnt_there(name: str, why: str, advice: str) -> str:

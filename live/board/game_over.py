@@ -17,6 +17,7 @@ from live.game.attending import Told
 from live.game.course import Course
 from live.game.game import Game, end_mark
 from live.game.making_pgn import Made
+from live.game.reading import Reader
 from live.game.report import Event, Picture, line_of
 from live.game.times import BEGIN
 from live.game.way_back import NO_RESULT, reached
@@ -46,8 +47,9 @@ class Listening(AttendedGame):
     start."""
 
     def __init__(
-        self, guard: Guard, screen: Screen, game: Game, course: Course, hears: HearsListening, before: Optional[Recording] = None
-    ) -> None:
+        self, guard: Guard, screen: Screen, game: Game, course: Course, hears: HearsListening, before: Optional[Recording] = None,
+        reader: Optional[Reader] = None
+    ) -> None:  # fmt: skip
         super().__init__(guard, screen, game, hears, before)
         self._hears = hears
         self._last = reached(course.plies)
@@ -65,7 +67,7 @@ class Listening(AttendedGame):
         if course.result == NO_RESULT:
             self.attend(game.options.of_board(), self._from)
         elif before is None or before.attending.is_closed:
-            self.attend(game.options.of_live(), with_times=True)
+            self.attend(game.options.of_live(), with_times=True, reader=reader)
         else:
             self.take_over(before)
             guard.after(0, functools.partial(self._has_heard, before))

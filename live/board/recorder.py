@@ -35,7 +35,7 @@ from live.game.log import Log
 from live.game.looks import Look, Looks
 from live.game.making_pgn import Made
 from live.game.opening import Opened
-from live.game.reading import nothing_old
+from live.game.reading import Reader, nothing_old
 from live.game.reply import Answer as Reply
 from live.guard import Guard
 from live.loop import Callback
@@ -72,11 +72,13 @@ class Recorder:
             self.numbered(plan.serial)
         self.course = opened.old.course
         if plan.rules.series and (opened.is_over or opened.is_full):
-            self._await_start(None)
+            self._await_start(None, reader=opened.reader)
         elif plan.rules.listens and opened.is_over:
-            self._await_moves()
+            self._await_moves(reader=opened.reader)
         else:
             self._record(opened)
+        if opened.reader:
+            opened.reader.close()  # unless it attends the board
         self._cable.begin()
 
     def _take(self, game: Game, close: Optional[Callback] = None) -> None:
@@ -105,7 +107,7 @@ class Recorder:
 
     # Its games.
 
-    def _record(self, opened: Opened, says: bool = True, remakes: bool = False) -> None:
+    def _record(self, opened: Opened, says: bool = True, remakes: bool = False, before: Optional[AttendedGame] = None) -> None:
         self._reason = None
         paths = self.game.paths
         if says:
@@ -113,7 +115,7 @@ class Recorder:
             records = Message("board.records", device=device, capture=paths.capture, pgn=paths.pgn)
             # In a round Ctrl-C would end all boards.
             self._screen.say(records if self._plan.board else linked("semicolon", (records, Message("board.ctrl_c_ends"))))
-        recording = Recording(self._guard, self._worker, self._screen, opened, self._plan.rules, self)
+        recording = Recording(self._guard, self._worker, self._screen, opened, self._plan.rules, self, before)
         self.course = recording.course
         self._look_at(recording)
         if remakes:
@@ -161,9 +163,9 @@ class Recorder:
             self._await_moves(before)
             self._hears.over()
 
-    def _await_moves(self, before: Optional[Recording] = None) -> None:
+    def _await_moves(self, before: Optional[Recording] = None, reader: Optional[Reader] = None) -> None:
         """The game is over: moves that are still made are reported."""
-        listening = Listening(self._guard, self._screen, self.game, self.course, self, before)
+        listening = Listening(self._guard, self._screen, self.game, self.course, self, before, reader)
         if before:
             before.close()
         self._look_at(listening)
@@ -184,7 +186,7 @@ class Recorder:
         """The alarms of a game that is over have changed."""
         self._hears.placed()
 
-    def _await_start(self, end: Optional[int], before: Optional[Recording] = None) -> None:
+    def _await_start(self, end: Optional[int], before: Optional[Recording] = None, reader: Optional[Reader] = None) -> None:
         """The game is over, and the next one begins when the pieces are at the start."""
         paths = self.game.paths
         mark = end_mark(paths)
@@ -197,10 +199,10 @@ class Recorder:
             except OSError as error:
                 self._screen.say(Message("file.unwritten_so", path=paths.end, why=text_of(error)))
         self._screen.say(Message("over.next_begins", name=self._next().name))
-        self._look_for_start(end, self.course, before)
+        self._look_for_start(end, self.course, before, reader)
 
-    def _look_for_start(self, end: int, course: Course, before: Optional[Recording] = None) -> None:
-        setting_up = SettingUp(self._guard, self._screen, self.game, course, end, self, before)
+    def _look_for_start(self, end: int, course: Course, before: Optional[Recording] = None, reader: Optional[Reader] = None) -> None:
+        setting_up = SettingUp(self._guard, self._screen, self.game, course, end, self, before, reader)
         if before:
             before.close()
         self._look_at(setting_up)
@@ -449,7 +451,7 @@ class Recorder:
         """The game is recorded, from its new capture. Nothing of it is reported again."""
         self.restored()
         opened.old.course.news.clear()
-        self._record(opened, says=False, remakes=True)
+        self._record(opened, says=False, remakes=True, before=self.now)
 
     def acknowledge(self) -> Reply:
         """Acknowledges the alarms of this game."""

@@ -17,11 +17,9 @@ from live.game import times
 from live.game.afterwards import corrected, unheard
 from live.game.attended import STOOD, SUSPECT, Doubt, Over
 from live.game.doubted import byte_of, look_of, name_of
-from live.game.edited import told_of_edit
 from live.game.files import text_of
-from live.game.front import front_of
-from live.game.game import Game, forget_question, largest, mark_end, mebibytes
-from live.game.making_pgn import Made, Maker
+from live.game.game import Game, forget_question, front_of, largest, mark_end, mebibytes
+from live.game.making_pgn import Made, Maker, told_of_edit
 from live.game.opening import Opened
 from live.game.report import NEWS, Clock, Differs, Event, Fault, Line, Move, Picture, Position, Recovered, Result, by_byte, event_of
 from live.game.times import ADDED, BACK, HEARD, OVER, REOPENED
@@ -59,8 +57,9 @@ class Recording(AttendedGame):
     """A game on a board, from its first byte to its text. What came before this call was reported then."""
 
     def __init__(
-        self, guard: Guard, worker: Worker, screen: Screen, opened: Opened, rules: Rules, hears: HearsRecording
-    ) -> None:
+        self, guard: Guard, worker: Worker, screen: Screen, opened: Opened, rules: Rules, hears: HearsRecording,
+        before: Optional[AttendedGame] = None
+    ) -> None:  # fmt: skip
         super().__init__(guard, screen, opened.game, hears)
         self._hears, self._rules = hears, rules
         self.course = opened.old.course
@@ -78,7 +77,9 @@ class Recording(AttendedGame):
         self._marks = False  # and whether NAME.end must say how many bytes are the game's
         self._done: Callable[[str], None] = lambda unwritten: None
         self._is_heard = False  # whether all is heard, and what comes now doesn't count
-        self.standing: Standing = Standing(guard, screen, self.game.options.rotated)
+        has_shown = before is not None and before.attending.has_shown
+        stood = before.standing if has_shown and isinstance(before, Recording) else None
+        self.standing: Standing = Standing(guard, screen, self.game.options.rotated, has_shown=has_shown, before=stood)
         self.standing.was_away = bool(opened.old.lines)  # what it showed before this call is long ago
         self._maker = Maker(guard, worker, self.game, self)
         self._heard_at: Optional[float] = None  # when the board was heard last in this call
@@ -96,7 +97,8 @@ class Recording(AttendedGame):
         self._tick = guard.after(TICK, self._each_second)
         if opened.old.lines:
             self._tell_old()
-        self.attend(self.game.options.of_live(), with_times=True, known=opened.old.lines)
+        self.attend(self.game.options.of_live(), with_times=True, known=opened.old.lines, reader=opened.reader)
+        self.attending.has_shown = has_shown
         if opened.old.lines:
             self.attending.then(lambda: self._hear_result(self.course.result))
         if self._old == front_of(self.game.paths, self.game.capture) != 0:  # nothing has come since plies were taken off
@@ -170,10 +172,11 @@ class Recording(AttendedGame):
         self._maker.want()
 
     def renamed(self, game: Game) -> None:
-        """The game has other tags from now on."""
-        self.game = game
-        self.attending.begin_again(game.options.of_live())
-        self._maker.makes(game)
+        """The game has other tags from now on. Its text follows, if they are in it."""
+        before, self.game = self.game.options, game
+        if game.options.of_live() != before.of_live():
+            self.attending.begin_again(game.options.of_live())
+            self._maker.makes(game)
 
     def _each_second(self) -> None:
         self._tick = self._guard.after(TICK, self._each_second)

@@ -17,6 +17,7 @@ from live.game.files import LARGEST
 from live.game.game import Game
 from live.game.looks import Look
 from live.game.making_pgn import Made
+from live.game.reading import Reader
 from live.game.report import Differs, Picture, line_of
 from live.game.way_back import NO_RESULT
 from live.guard import Guard
@@ -49,7 +50,7 @@ class SettingUp(AttendedGame):
 
     def __init__(
         self, guard: Guard, screen: Screen, game: Game, course: Course, end: int, hears: HearsSettingUp,
-        before: Optional[Recording] = None
+        before: Optional[Recording] = None, reader: Optional[Reader] = None
     ) -> None:  # fmt: skip
         super().__init__(guard, screen, game, hears, before)
         self._hears, self._course = hears, course
@@ -64,7 +65,7 @@ class SettingUp(AttendedGame):
             self._before = after_recording(before, self._looks)
             hears.left(self._before.undecided)
         elif before is None:
-            self._attend_after()
+            self._attend_after(reader)
 
     def _look_from(self, end: int) -> None:
         """Looks from this offset on. Reading begins at the last dump before it: without one no update would count."""
@@ -82,10 +83,10 @@ class SettingUp(AttendedGame):
         self._has_lost = False
         self.attend(options.of_board(), self._from)
 
-    def _attend_after(self) -> None:
+    def _attend_after(self, reader: Optional[Reader] = None) -> None:
         """From now on another child hears of moves after the game's result, if it has one."""
         if self._course.result != NO_RESULT:
-            self._before = after_kept(self._guard, self.game, self._course, self._looks)
+            self._before = after_kept(self._guard, self.game, self._course, self._looks, reader)
 
     def _look_again_from(self, end: int) -> None:
         """Another child looks from there on."""

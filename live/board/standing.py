@@ -2,6 +2,8 @@
 
 from __future__ import annotations
 
+from typing import Optional
+
 from live.board.state import TURNED_ROUND, BoardState, Kind, State
 from live.game.attended import Stood
 from live.loop import Turns
@@ -12,19 +14,23 @@ IN_A_SET_UP = (Kind.WAITS, Kind.AGREES, Kind.IN_HAND)  # states that say nothing
 
 
 class Standing:
-    """Keeps a board's state, and shows it on a screen. If no game is `played`, pieces are being set up."""
+    """Keeps a board's state, and shows it on a screen. If no game is `played`, pieces are being set up. A board that `has_shown` its pieces
+    stands as it did `before`, or nobody knows how, until the program says it."""
 
-    def __init__(self, loop: Turns, screen: Screen, rotated: bool, played: bool = True) -> None:
+    def __init__(
+        self, loop: Turns, screen: Screen, rotated: bool, played: bool = True, has_shown: bool = False, before: Optional[Standing] = None
+    ) -> None:
         self._loop, self._screen, self._played = loop, screen, played
-        self.board = BoardState(linked("space", (TURNED_ROUND, screen.turn(rotated))))
+        self.board: BoardState = before.board if before else BoardState(linked("space", (TURNED_ROUND, screen.turn(rotated))))
+        self._is_unknown = has_shown and before is None
         self.was_away = False  # unplugged or silent since it was last heard
         self._hint = ""
         self._closed = False
 
     @property
-    def state(self) -> State:
-        """The board's state."""
-        return self.board.state
+    def state(self) -> Optional[State]:
+        """The board's state, if it is known."""
+        return None if self._is_unknown else self.board.state
 
     @property
     def trouble(self) -> str:
@@ -33,7 +39,7 @@ class Standing:
 
     def show(self) -> None:
         """Shows the state. Call this after each change."""
-        if self._closed:
+        if self._closed or self._is_unknown:
             return
         state = self.board.state
         if not self._played and state.kind in IN_A_SET_UP:
@@ -50,6 +56,7 @@ class Standing:
 
     def stands(self, at: float, stood: Stood) -> None:
         """The program says that the board stood so at that time. This is shown with the rest of its answer."""
+        self._is_unknown = False
         self.board.stands(at, stood)
 
     def plugged(self) -> None:
@@ -63,7 +70,7 @@ class Standing:
         what to do."""
         self.was_away, self.board.line = True, line
         if is_server:
-            self.board.unplugged_since = at
+            self._is_unknown, self.board.unplugged_since = False, at
             self.show()
 
     def silence(self, silent: bool) -> None:

@@ -16,7 +16,7 @@ from live.broadcast.games import Shots
 from live.broadcast.running import STANDS
 from live.broadcast.shot import Shot
 from live.game import timed
-from live.game.attended import CAPTURE, TEXT, Answer, Answers, entry
+from live.game.attended import CAPTURE, PIECE, TEXT, Answer, Answers, entry
 from live.game.began import read_began, this_start
 from live.game.course import Course
 from live.game.files import Opened, Paths, existing, open_regular, part_of
@@ -24,7 +24,7 @@ from live.game.forfeiting import forfeit_of, forfeited_after
 from live.game.game import end_mark, kept_options
 from live.game.options import Options
 from live.game.program import CHUNK, Program, told_of_ending
-from live.game.reading import PIECE, new_course, wanted
+from live.game.reading import new_course, wanted
 from live.game.report import Clock, Move, Recovered, Result, line_of
 from live.game.times import HEADED
 from live.words.message import Message

@@ -69,11 +69,11 @@ def record(call: Call, program: Program, signals: Signals) -> Outcome:
 
 def record_in(call: Call, program: Program, signals: Signals) -> Outcome:
     """The same, with files that may be left."""
-    given = checked(program, call.options)
+    plan = Plan(call.device, call.name, Rules(call.series), call.once, shows=call.shows)
+    given = checked(program, call.options, plan.paths)
     loop = Loop()
     audience = door("audience").Audience(loop, program, call, given) if is_watched(call, given) else None
     terminal = Terminal(loop)
-    plan = Plan(call.device, call.name, Rules(call.series), call.once, shows=call.shows)
     choice = Choice(given, (*call.told, *given.told_of_turned(call.options)), audience is not None and audience.is_unseen)
     single = Single(loop, program, Screen(terminal), plan, choice)
     if audience:

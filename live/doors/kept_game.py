@@ -72,6 +72,8 @@ def remake(call: Call, program: Program) -> Outcome:
     except files.Recorded:
         raise Refused(REFUSED, *is_recorded(paths.name, control.board_of(paths.capture), call.options)) from None
     opened.game.capture.close()
+    assert opened.reader
+    opened.reader.close()
     options = opened.game.options
     said = [first_time(options.side)] if call.options.first else []
     said += [*opened.told, *opened.old.course.recovered]

@@ -9,6 +9,7 @@ from typing import List, NamedTuple, Optional, Tuple
 
 # What is told, beside the words of NAME.times.
 KEPT, CAPTURE, NUMBER, LENT, WAKE, TEXT = "kept", "capture", "number", "lent", "wake", "text"
+PIECE = 64 * 1024  # bytes of a capture: the report of a piece is in the program's memory as a whole
 AT, AFTER, SINCE, SUSPECT = "at", "after", "since", "SUSPECT"  # where somebody must look
 UNPLAYED, STOOD = "UNPLAYED", "STOOD"  # nobody may have played these moves; the result has stood
 DOUBT = re.compile(f"look (?:({SUSPECT}) ([0-9]+)|({AT}|{AFTER}|{SINCE}) ([0-9]+) ([A-Z-]+)(?: ([0-9]+))?)")
@@ -31,6 +32,12 @@ class NoAnswer(ValueError):
 def entry(at: int, what: str, count: Optional[int] = None, sent: bytes = b"") -> bytes:
     """The line about something that happens, at so many milliseconds of this call, and the bytes behind it."""
     return f"{at} {what}{'' if count is None else f' {count}'}\n".encode() + sent
+
+
+def pieces(lines: bytes, start: int, end: int) -> List[Tuple[int, int]]:
+    """The parts of a capture that are told at once, from one offset to another; with the lines of its times it is told as a whole."""
+    size = end - start if lines else PIECE
+    return [(at, min(at + size, end)) for at in range(start, end, size or PIECE)]
 
 
 class Stood(NamedTuple):
@@ -130,6 +137,11 @@ class Answers:
             at = behind
         self._come = come[at:]
         return found
+
+    def unended(self) -> List[str]:
+        """The lines of the report that have come of the answer that hasn't ended: it has them no more."""
+        report, self._answer.report = self._answer.report, []
+        return report
 
     def _skip(self, come: bytes) -> Tuple[List[Answer], int]:
         """Passes over the answers to a capture, if all of it is known: a report may be long. Returns them, and the place behind

@@ -5,20 +5,21 @@ from __future__ import annotations
 import collections
 import math
 import os
+import subprocess
 from dataclasses import dataclass
 from typing import Callable, Deque, List, Optional, Protocol, Tuple, Union
 
 from live.game import times
-from live.game.attended import CAPTURE, HOLD, KEEP, KEPT, LENT, NUMBER, TEXT, UNSEEN, WAITS, WAKE, Answer, Answers, entry
+from live.game.attended import CAPTURE, HOLD, KEEP, KEPT, LENT, NUMBER, TEXT, UNSEEN, WAITS, WAKE, Answer, Answers, entry, pieces
 from live.game.files import Capture
 from live.game.program import CHUNK, Child, HearsChild, Program
+from live.game.reading import Reader
 from live.game.timed import Times
 from live.guard import Guard
 from live.loop import Callback, Counting, Timer
 from live.refused import FAILED, Refused
 from live.words.message import Message
 
-PIECE = 64 * 1024  # bytes of a capture without times that are told at once; with its times it is told as a whole
 LATER = 0.01  # seconds by which it is woken later than it has said: two times that are close need one wake
 OF_THE_LINE = (times.OPENED, times.ANSWERED, times.GONE, times.CALLED)
 OF_THE_PAST = (KEPT, CAPTURE, times.BEGIN, times.AWAY)  # with the answers to these no game gets bytes
@@ -46,11 +47,12 @@ class HearsAnswers(HearsChild, Protocol):
 
 @dataclass(frozen=True)
 class Past:
-    """What is kept of a game: its capture from an offset on, and its times, if they are told."""
+    """What is kept of a game: its capture from an offset on, and its times, if they are told; and a child that was told it."""
 
     capture: Capture
     start: int = 0
     times: Optional[Times] = None
+    reader: Optional[Reader] = None
 
 
 Part = Union[bytes, Tuple[int, int]]  # to be told: bytes, or those of the capture from one offset to another
@@ -69,7 +71,7 @@ class Attending(Child):
         self, guard: Guard, program: Program, words: Tuple[str, ...], past: Optional[Past], hears: HearsAnswers, known: int = 0
     ) -> None:
         super().__init__(guard, program, ("live", *words), hears)
-        self._past, self._hears = past, hears
+        self._past, self._hears, self._reader = past, hears, past.reader if past else None
         self._reported = known  # lines
         self._answers = Answers()
         self._told: Deque[Told] = collections.deque()  # and isn't answered
@@ -85,7 +87,7 @@ class Attending(Child):
         self._due = math.inf  # when it is to be woken
         self._timer: Optional[Timer] = None  # which may come before that
         self._is_paused = self._is_due = False
-        self._has_shown = False  # whether the board has shown something
+        self.has_shown = False  # whether the board has shown its pieces in this call, and is there
         self._gets_text: Optional[Callable[[bytes], None]] = None  # when it is answered
         self.start()
 
@@ -198,14 +200,14 @@ class Attending(Child):
 
     # How it begins.
 
-    def _begins_anew(self) -> None:
+    def _begins_anew(self) -> Optional["subprocess.Popen[bytes]"]:
         self._note_lines(are_all=True)
         thens, left = self._thens(), self.undecided()
         self._told.clear()
         self._out.clear()
         self._held.clear()
-        self._answers = Answers(self._reported)
-        self._tell_past()
+        begun = self._tell_past()
+        self._answers = Answers(0 if begun else self._reported)
         if self._number:
             self._tell(Told(self._guard.now(), NUMBER, self._number.encode()))
         for what in self._line:
@@ -216,28 +218,30 @@ class Attending(Child):
             self._tell(Told(self._guard.now(), TEXT))
         self._told[-1].thens += thens
         self._note_lines()
+        return begun
 
-    def _tell_past(self) -> None:
-        """What is kept, and that a call begins."""
+    def _tell_past(self) -> Optional["subprocess.Popen[bytes]"]:
+        """What is kept, and that a call begins. Returns the child that was told what is kept before, if there is one."""
         past, now = self._past, self._guard.now()
         size = 0 if past is None else past.capture.size - past.start
         begun = self._times.attended() if self._times else None
         self._began = self._last = begun.at if begun else self._clock()
         content = begun.content if begun else past.times.content() if past and past.times else b""
-        if content and size > 0:
+        content = content if size > 0 else b""
+        reader, self._reader = self._reader, None
+        child = reader.hand_over() if reader and (reader.words, reader.size, reader.times) == (self._words, size, content) else None
+        if content and not child:
             self._tell(Told(now, KEPT, content))
-        if past:
-            piece = size if self._told else PIECE
-            for at in range(past.start, past.capture.size, piece or PIECE):
-                until = min(at + piece, past.capture.size)
-                self._tell(Told(now, CAPTURE, count=until - at))
-                self._out.append((at, until))
+        for at, until in pieces(content, past.start, past.capture.size) if past and not child else ():
+            self._tell(Told(now, CAPTURE, count=until - at))
+            self._out.append((at, until))
         self._tell(Told(now, times.BEGIN, count=size))
         if begun and begun.away is not None:
             self._tell(Told(now, times.AWAY, count=begun.away))
         if past and past.capture.pending:
             self._tell(Told(now, times.BROUGHT, past.capture.pending))
             self._told[-1].is_noted = True  # when it came
+        return child
 
     def _writes(self, number: int) -> bool:
         if not self._out:
@@ -290,10 +294,10 @@ class Attending(Child):
 
     def _look_at_state(self, answer: Answer) -> None:
         """That a child waits for the board is no news if another one has heard it in this call."""
-        if answer.stood and answer.stood.kind == WAITS and self._has_shown:
+        if answer.stood and answer.stood.kind == WAITS and self.has_shown:
             answer.stood = None
         elif answer.stood:
-            self._has_shown = self._has_shown or answer.stood.kind not in UNSEEN
+            self.has_shown = answer.stood.kind not in UNSEEN
 
     def unreported(self, lines: int) -> None:
         """So many lines of the report weren't used, since their bytes aren't in the capture."""

@@ -2,9 +2,10 @@
 
 from __future__ import annotations
 
+import functools
 import os
 from dataclasses import replace
-from typing import Optional, Tuple
+from typing import Callable, Optional, Tuple
 
 from live.called import DGT_LIVE
 from live.game import answers
@@ -18,8 +19,8 @@ from live.game.game import Game, end_mark, forget_question, is_unplayed, keep_op
 from live.game.log import log_once
 from live.game.made_anew import go_back_closed, and_made, made_of, reopen, replace_result
 from live.game.making_pgn import Text, told_of_result
-from live.game.naming import is_naming, read_names, told_of_names
-from live.game.opening import checked
+from live.game.naming import is_naming
+from live.game.opening import Chooses, named
 from live.game.options import Options
 from live.game.program import Program
 from live.game.reading import game_of
@@ -83,7 +84,10 @@ def add_by_name(program: Program, paths: Paths, text: str, patience: float) -> A
     times = Times(paths, capture)
     try:
         if is_naming(text):
-            return DONE, rename_closed(Game(program, paths, capture, kept_options(paths) or Options(), times), text)
+            game = Game(program, paths, capture, kept_options(paths) or Options(), times)
+            told = linked("semicolon", put_names_right(game, functools.partial(named, program, text), False)[1])
+            log_once(paths, told)
+            return DONE, linked("colon", (paths.name, told))
         typed = read_typed(text, os.path.basename(paths.name))
         if isinstance(typed, Acknowledged):
             return DONE, acknowledge_closed(paths, times)
@@ -140,22 +144,22 @@ def forfeit_closed(game: Game, typed: Forfeit) -> str:
     return Message("forfeit.not_played", words=typed.words)
 
 
-def rename_closed(game: Game, text: str) -> str:
-    """A game that nobody records now gets these tags. Returns the message. Refused if it can't have them."""
-    told = put_names_right(game, text)[1]
-    log_once(game.paths, told)
-    return linked("colon", (game.paths.name, told))
-
-
-def put_names_right(game: Game, text: str) -> Tuple[Options, str]:
-    """A game that isn't recorded just now gets these tags, and its text is made. Returns its options then, and the message. Refused if it
-    can't have them."""
-    options = game.options.with_given(checked(game.program, read_names(text)))
-    told = told_of_names(options, game.options)
-    made_before = Text(game)
-    made_before.look(end_mark(game.paths))
+def put_names_right(
+    game: Game, prepares: Callable[[], Chooses], has_moves: bool, is_recorded: bool = False
+) -> Tuple[Options, Tuple[str, ...]]:
+    """A game gets the tags that are chosen, and its text is made with them if it has others; while it `is_recorded`, that is to follow.
+    Returns its options then, and the messages. Refused if it can't have them."""
+    chosen = prepares()(game.options, lambda: has_moves)
+    options, told = game.options.with_tags_of(chosen.options), chosen.told
+    needs_text = options.of_record() != game.options.of_record()
+    if needs_text and not is_recorded:
+        Text(game).look(end_mark(game.paths))
     keep_options(game.paths, options)
-    return options, and_made(told, made_of(game, Text(replace(game, options=options)).make(end_mark(game.paths))))
+    if needs_text and not is_recorded:
+        told = (*told, *filter(None, [made_of(game, Text(replace(game, options=options)).make(end_mark(game.paths)))]))
+    elif not needs_text and game.written.last:
+        game.written.last = game.written.last[0], options
+    return options, told
 
 
 # What is still to be done then.

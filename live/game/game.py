@@ -1,12 +1,14 @@
-"""An open game, and what is kept beside its capture: its options, its board's number, the mark of its end, and a question."""
+"""An open game, and what is kept beside its capture: its options, its board's number, the mark of its end, how many bytes a way
+back has made at its beginning, and a question."""
 
 from __future__ import annotations
 
 import contextlib
 import os
 import re
+import zlib
 from dataclasses import dataclass, field
-from typing import Optional
+from typing import Optional, Tuple
 
 from live.game.files import NO_SUCH_FILE, LARGEST, Capture, Paths
 from live.game.files import beginning, existing, not_written, put_in_place, remove, sync_folder, text_of
@@ -21,6 +23,7 @@ RESULT = re.compile(rb'^\[Result "([^"]*)"\]$', re.MULTILINE)
 SERIAL = re.compile(rb"([!-~]{5})\s*")
 LONGEST_SERIAL = 80  # bytes of the file with a board's number, whoever wrote it
 LONGEST_MARK = 18  # digits of the mark of an end
+LONGEST_FRONT = 64  # bytes of the file with the front of a capture, whoever wrote it
 
 
 ROOM = 1024 * 1024  # bytes for what `recover` puts in, some 5,000 pairs: no call of the program reads more than LARGEST
@@ -38,9 +41,9 @@ def mebibytes(options: Options) -> int:
 
 @dataclass
 class Written:
-    """The text that last replaced NAME.pgn; None if that isn't known."""
+    """The text that last replaced NAME.pgn, if that is known, and the options that it has."""
 
-    text: Optional[bytes] = None
+    last: Optional[Tuple[bytes, Options]] = None
 
 
 @dataclass(frozen=True)
@@ -96,6 +99,26 @@ def forget_question(paths: Paths) -> None:
     """The game has changed, or ends: a question from before would be asked again."""
     with contextlib.suppress(OSError):
         remove(paths.question)
+
+
+def keep_front(paths: Paths, content: bytes) -> None:
+    """Keeps how many bytes the new capture begins with, and their checksum. Raises OSError if that fails."""
+    put_in_place(paths.front, b"%d %d\n" % (len(content), _checksum(content)))
+
+
+def front_of(paths: Paths, capture: Capture) -> int:
+    """How many bytes a way back has made at the beginning of this capture; 0 if none, or of another one."""
+    with contextlib.suppress(OSError, ValueError):
+        kept = existing(paths.front)[:LONGEST_FRONT].split()
+        if kept:
+            size, checksum = map(int, kept)
+            if 0 < size <= capture.size and _checksum(capture.bytes(0, size)) == checksum:
+                return size
+    return 0
+
+
+def _checksum(content: bytes) -> int:
+    return zlib.crc32(content)
 
 
 def _number_in(path: str) -> str:

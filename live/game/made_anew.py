@@ -15,12 +15,10 @@ from live.game import answers
 from live.game.alarms import keep_looks, kept_looks
 from live.game.answers import Said
 from live.game.course import Course
-from live.game.edited import told_of_edit
 from live.game.files import Capture, Paths, existing, not_written, put_in_place, sync_folder
 from live.game.forfeiting import drop_forfeit, kept_forfeit
-from live.game.front import keep_front
-from live.game.game import Game, end_mark, forget_question, mark_end, unmark_end
-from live.game.making_pgn import Made, Text
+from live.game.game import Game, end_mark, forget_question, keep_front, mark_end, unmark_end
+from live.game.making_pgn import Made, Text, told_of_edit
 from live.game.reading import game_of, read_game
 from live.game.reply import Asked, Refused
 from live.game.report import Move, Picture, line_of

@@ -6,19 +6,20 @@ from __future__ import annotations
 import contextlib
 import errno
 import functools
+import itertools
 import os
 import signal
 import subprocess
 from dataclasses import dataclass
-from typing import Callable, List, Optional, Protocol, Sequence, Tuple
+from typing import Callable, Iterator, List, Optional, Protocol, Sequence, Tuple
 
 from live.beside import Worker
-from live.game.edited import is_recorded, keep
-from live.game.files import LARGEST, NO_ROOM, AnyPath, Opened
-from live.game.files import content_of, existing, new_of, open_new, open_regular, sync_folder, text_of, unwritten, write_all
+from live.game.files import LARGEST, NO_ROOM, AnyPath, Opened, Paths
+from live.game.files import content_of, existing, new_of, open_new, open_regular, put_in_place, sync_folder, text_of, unwritten, write_all
 from live.game.game import Game
 from live.game.options import Options
-from live.game.program import told_of_ending, wake
+from live.game.program import Program, told_of_ending, wake
+from live.game.report import Move, Result, line_of
 from live.guard import Guard
 from live.loop import Timer
 from live.words.message import Message
@@ -26,6 +27,49 @@ from live.words.message import Message
 AGAIN = 1.0  # seconds after a try that failed
 WRITE_FAULT = 3  # the program's status if a stream failed
 SLOWEST = 60.0  # seconds that a call may take before it is ended and begun anew
+CHANGES = 16  # the last changes of a game: its text may have been made after any of them
+COMPARED = 4 * 1024 * 1024  # bytes of a capture whose text is compared so closely
+
+
+# A text that somebody has edited by hand is kept beside the game before a new one replaces it.
+
+
+def told_of_edit(pgn: str, kept: str) -> str:
+    """The message about an edited text."""
+    return Message("text.edited", pgn=pgn, kept=kept)
+
+
+def keep_edited(paths: Paths, text: bytes) -> str:
+    """Keeps a text under the first free name, unless it is kept already. Returns its name. Raises OSError if it can't be written."""
+    for number in itertools.count(1):
+        place = paths.edited(number)
+        if not os.path.lexists(place):
+            put_in_place(place, text)
+            break
+        with contextlib.suppress(OSError):
+            if existing(place) == text:
+                break
+    return place
+
+
+def is_recorded(program: Program, options: Options, sent: bytes, text: bytes) -> bool:
+    """Whether `record` makes this text of what a board has sent, or made it after one of the game's last changes: a killed call
+    may have left that. Raises OSError if the program fails."""
+    return any(recorded == text for recorded in _texts(program, options, sent))
+
+
+def _texts(program: Program, options: Options, sent: bytes) -> Iterator[bytes]:
+    whole = program.whole(options, sent)
+    yield program.run("record", *options.of_record(), given=whole).stdout
+    if len(sent) > COMPARED:
+        return
+    lines = map(line_of, program.lines("watch", *options.of_board(), given=whole))
+    changes = [line.offset for line in lines if line and isinstance(line.event, (Move, Result))]
+    for size in (*(offset + 1 for offset in reversed(changes[-CHANGES:])), 0):
+        yield program.run("record", *options.of_record(), given=whole[:size]).stdout
+
+
+# How it is made.
 
 
 def first_time(side: str) -> str:
@@ -98,20 +142,20 @@ class Text:
         self._closed = True
         self.kill()
 
-    def look(self, limit: Optional[int]) -> None:
-        """Finds out whether the text that another call left is what `record` makes of the whole capture, of its first `limit`
-        bytes, or of the capture from before plies were taken off. If not, somebody has edited it. Call this before the capture
+    def look(self, limit: Optional[int], recorded: bytes = b"") -> None:
+        """Finds out whether the text that another call left is what was `recorded`, what `record` makes of the whole capture, of its first
+        `limit` bytes, or of the capture from before plies were taken off. If not, somebody has edited it. Call this before the capture
         or the options change."""
         game, text = self._game, b""
         with contextlib.suppress(OSError):
             text = existing(game.paths.pgn)
-        if text and game.written.text is None:
+        if text and game.written.last is None:
             with contextlib.suppress(OSError):
                 before = game.paths.last_before_back
-                if is_recorded(game.program, game.options, game.capture.bytes(0, limit), text) or (
+                if text == recorded or is_recorded(game.program, game.options, game.capture.bytes(0, limit), text) or (
                     before and is_recorded(game.program, game.options, existing(before), text)
                 ):
-                    game.written.text = text
+                    game.written.last = text, game.options
 
     def make(self, limit: Optional[int]) -> Made:
         """Has `record` make it of the whole capture or of its first `limit` bytes, and waits for that. Returns the outcome."""
@@ -200,10 +244,10 @@ class Text:
             os.fsync(capture)
             os.fsync(target)
             text, before = content_of(target, LARGEST), self._before(opened)  # read last: somebody may save it meanwhile
-            if before and before not in (text, self._game.written.text):
-                edited = keep(paths, before)
+            if before and before not in (text, *(self._game.written.last or ())[:1]):
+                edited = keep_edited(paths, before)
             os.replace(self._new, paths.pgn)
-            self._game.written.text = text
+            self._game.written.last = text, self._game.options
             sync_folder(paths.folder)
         return edited
 

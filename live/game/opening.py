@@ -10,13 +10,13 @@ from dataclasses import dataclass
 from typing import Callable, Dict, List, Optional, Protocol, Sequence, Tuple
 
 from live.game import names, tags
-from live.game.edited import told_of_edit
 from live.game.files import LOCK_PATIENCE, Capture, Paths, open_game, size_of
-from live.game.game import Game, end_mark, is_full, keep_options, kept_options, result_in
-from live.game.making_pgn import Text, told_of_reading, told_of_result
+from live.game.game import Game, end_mark, is_full, keep_options, kept_options, result_in, result_of
+from live.game.making_pgn import Made, Text, told_of_edit, told_of_reading, told_of_result
+from live.game.naming import read_names, told_of_names
 from live.game.options import PUBLISHED, UNKNOWN, Options, as_typed
 from live.game.program import Program
-from live.game.reading import Old, nothing_old, read_game
+from live.game.reading import Old, Reader, words_of
 from live.game.refusal import reason
 from live.game.timed import Times
 from live.loop import Callback
@@ -43,6 +43,7 @@ CALLED: Dict[str, str] = {
 
 
 SIDES_OF_CLOCK = ("white", "black")
+LARGE = 1024 * 1024  # bytes of a capture that takes long to be read: its board is asked meanwhile
 
 
 def unknown(option: str) -> str:
@@ -86,12 +87,13 @@ def turned(given: Options) -> Options:
     return given.turned({option: turn(option) for option in TURNS})
 
 
-def checked(program: Program, typed: Options) -> Options:
-    """With names and dates as PGN has them. Refused if the program refuses them. It is asked about a position alone: names and dates
-    are as it takes them by now."""
+def checked(program: Program, typed: Options, paths: Optional[Paths] = None) -> Options:
+    """With names and dates as PGN has them. Refused if the program refuses them. It is asked about a position alone, unless that is kept
+    beside the game: names and dates are as it takes them by now."""
     typed.refuse_breaks()
     given = turned(recordable(typed))
-    if given.fen is None and given.first in (None, *SIDES_OF_CLOCK):
+    kept = kept_options(paths) if paths and given.fen is not None else None
+    if given.fen == (kept.fen if kept else None) and given.first in (None, *SIDES_OF_CLOCK):
         return given
     answer = program.run("record", *given.of_record())
     if answer.returncode != 0:
@@ -129,6 +131,7 @@ class Opened:
     results: Tuple[str, ...] = ()  # if its result has changed
     close: Optional[Callback] = None  # closes its capture, unless that is done already
     is_reopened: bool = False  # whether an arbiter has just said that it isn't over
+    reader: Optional[Reader] = None  # the child that has read it
 
 
 class Opening:
@@ -141,9 +144,11 @@ class Opening:
         self._program, self._paths, self._prepares, self._patience = program, paths, prepares, patience
         self._lock = threading.Lock()
         self._capture: Optional[Capture] = None
-        self._dropped = False
+        self._reader: Optional[Reader] = None
+        self._found: Optional[Old] = None  # what that has read
+        self._dropped = self._is_read = False
         self.untold: Tuple[str, ...] = ()  # errors that aren't the system's, to be said even if nobody gets what is opened
-        self.held: Callback = lambda: None  # called in the worker's thread when a game that goes on is held, and is to be read
+        self.held: Callback = lambda: None  # called in the worker's thread when a game that goes on is held, and takes long to be read
 
     def open(self, now: float, today: str) -> Opened:
         """Opens it at this time of the loop, and on this day. Refused if that isn't possible."""
@@ -160,6 +165,8 @@ class Opening:
             self._remove_if_empty()
             self.drop()
             raise
+        finally:
+            self._ends()
 
     def _remove_if_empty(self) -> None:
         """A game that couldn't be begun leaves no capture."""
@@ -169,70 +176,90 @@ class Opening:
                     os.unlink(self._paths.capture)
 
     def take(self) -> None:
-        """From now on the caller owns the capture."""
+        """From now on the caller owns the capture, and the child that has read it."""
         with self._lock:
-            self._capture = None
+            self._capture = self._reader = None
 
     def drop(self) -> None:
-        """Closes the capture; the result of the opening isn't used."""
+        """Closes both; the result of the opening isn't used."""
         with self._lock:
             self._dropped = True
             capture, self._capture = self._capture, None
             if capture:
                 capture.close()
+            if self._reader:
+                self._reader.close(self._is_read)
+
+    def _ends(self) -> None:
+        """Nothing more is read."""
+        with self._lock:
+            self._is_read = True
+            if self._reader and self._dropped:
+                self._reader.close()
 
     def _read(self, capture: Capture, chooses: Chooses, now: float, today: str) -> Opened:
         paths, times = self._paths, Times(self._paths, capture)
         times.look()
         self.untold = times.unexpected
-        before = kept_options(paths) if capture.size else None
+        kept = kept_options(paths)
+        before = kept if capture.size else None
+        was = Game(self._program, paths, capture, kept or Options(), times)
 
         def has_moves() -> bool:
-            return self._has_moves(Game(self._program, paths, capture, before or Options(), times), now)
+            return bool(capture.size and self._old(was, now).course.plies)
 
         chosen = chooses(before, has_moves)
         options = chosen.options.begun(before.day(today, has_moves) if before else None if capture.size else today)
-        kept = kept_options(paths)
-        game = Game(self._program, paths, capture, kept or Options(), times)
-        if capture.size and not chosen.refused and _goes_on(game):
+        end = end_mark(paths)
+        if capture.size >= LARGE and end is None and not chosen.refused and not is_full(was):
             self.held()
-        Text(game).look(end_mark(paths))
+        Text(was).look(end, self._text_of(was, now))
         if chosen.refused:
-            _make_again(game)
+            _make_again(was)
             raise chosen.refused
-        game = dataclasses.replace(game, options=options)
+        game = dataclasses.replace(was, options=options)
         if options != kept:
             keep_options(paths, options)
-        result, end = result_in(paths), end_mark(paths)
-        made = Text(game).make(end)
+        result, old = result_in(paths), self._old(game, now)
+        made = Text(game).put(old.text)
         if made.trouble:
             raise Refused(FAILED, made.told(paths.pgn))
         told = (*chosen.told, told_of_edit(paths.pgn, made.edited)) if made.edited else chosen.told
-        old = read_game(game, end, now) if capture.size else nothing_old(options, 0)
         pairs = old.course.recovered if before and bool(before.recover) != bool(options.recover) else []
         read_anew = told_of_reading(before or options, options, pairs)
-        results = told_of_result(result, result_in(paths))
-        old = dataclasses.replace(old, size=capture.size)
+        results = told_of_result(result, result_of(old.text))
+        old = dataclasses.replace(old, size=capture.size, lines=old.lines if capture.size else 0)
         told = (*told, *times.unexpected)
-        return Opened(game, old, end is not None, is_full(game), told, tuple(read_anew), tuple(results))
+        return Opened(game, old, end is not None, is_full(game), told, tuple(read_anew), tuple(results), reader=self._reader)
 
-    @staticmethod
-    def _has_moves(game: Game, now: float) -> bool:
-        return bool(game.capture.size and read_game(game, None, now).course.plies)
+    def _old(self, game: Game, now: float) -> Old:
+        """What the game has. It is read once with the same options. Refused if it can't be read."""
+        if self._found and self._reader and self._reader.words == words_of(game.options):
+            return self._found
+        try:
+            reader = Reader(game, end_mark(game.paths))
+            with self._lock:
+                before, self._reader = self._reader, reader
+                if self._dropped:
+                    reader.close(is_read=False)
+            if before:
+                before.close()
+            self._found = reader.read(now)
+        except OSError as error:
+            raise Refused(FAILED, Made.of_error(error).told(game.paths.pgn)) from None
+        return self._found
 
-
-def _goes_on(game: Game) -> bool:
-    """Whether it is recorded; not if the mark of its end can't be read, which is said later."""
-    try:
-        return end_mark(game.paths) is None and not is_full(game)
-    except OSError:
-        return False
+    def _text_of(self, game: Game, now: float) -> bytes:
+        """The text that an earlier call made, unless it was killed on the way; empty if none is there, or it can't be read."""
+        with contextlib.suppress(Refused):
+            return self._old(game, now).text if size_of(game.paths.pgn) else b""
+        return b""
 
 
 def _make_again(game: Game) -> None:
     """Makes the text of a game that doesn't go on: a call that was killed may have left an old one. One that somebody has edited
     stays."""
-    if game.written.text is not None or not size_of(game.paths.pgn):
+    if game.written.last or not size_of(game.paths.pgn):
         Text(game).make(end_mark(game.paths))
 
 
@@ -305,6 +332,18 @@ def of_a_line(given: Options, name: str) -> Chooses:
         if kept is not None and not told and chosen.players != kept.players and has_moves():
             told.append(chosen.told_of_tags(kept))  # they are recorded in the same letters as before
         return Chosen(chosen, tuple(told))
+
+    return chooses
+
+
+def named(program: Program, text: str) -> Chooses:
+    """For a game that gets the tags of `name White=Anna`. Refused if it can't have them."""
+    given = checked(program, read_names(text))
+
+    def chooses(kept: Optional[Options], has_moves: Callable[[], bool]) -> Chosen:
+        before = kept or Options()
+        chosen = before.with_given(given)
+        return Chosen(chosen, (told_of_names(chosen, before),))
 
     return chooses
 

@@ -165,22 +165,23 @@ class Child:
     def start(self) -> None:
         """Starts it, and tells it what it must know first."""
         self._is_blocked, self._child = False, None
-        self._begins_anew()
+        begun = self._begins_anew()
         try:
-            child = self._program.start(self._words, subprocess.PIPE, subprocess.PIPE, subprocess.DEVNULL)
+            child = begun or self._program.start(self._words, subprocess.PIPE, subprocess.PIPE, subprocess.DEVNULL)
         except OSError as error:
             self._fail(Message("program.cannot_start", why=error.strerror))
             return
         self._child = child
-        self._let_go = self._guard.opened(functools.partial(_end, child))
+        self._let_go = self._guard.opened(functools.partial(end_child, child))
         assert child.stdin and child.stdout
         os.set_blocking(child.stdin.fileno(), False)
         os.set_blocking(child.stdout.fileno(), False)
         self._guard.watch(child.stdout.fileno(), self._readable)
         self._feed()
 
-    def _begins_anew(self) -> None:
-        """Another child begins."""
+    def _begins_anew(self) -> Optional[subprocess.Popen[bytes]]:
+        """Another child begins. Returns it, if it was started before."""
+        raise NotImplementedError
 
     def _writes(self, number: int) -> bool:
         """Writes something of what is to be told there. Returns whether there is more. Raises BlockingIOError if it must wait."""
@@ -265,7 +266,7 @@ class Child:
         return child.returncode
 
 
-def _end(child: subprocess.Popen[bytes]) -> None:
+def end_child(child: subprocess.Popen[bytes]) -> None:
     """Ends it at once."""
     child.kill()
     _let_go(child)

@@ -1,36 +1,37 @@
-"""The course of a game from its capture: by one call of the program, for callers that may wait for it. It is `watch`, or `live` if pairs
-of moves are recovered."""
+"""A game is read from its capture by a child of the program, which says its course and its text. Whoever attends its board then goes on
+with that child. For callers that may wait."""
 
 from __future__ import annotations
 
-import array
+import contextlib
 import os
+import select
 import subprocess
 from dataclasses import dataclass
-from typing import Iterator, List, Optional, Sequence
+from typing import Iterator, Optional, Sequence, Tuple
 
 from live.device import protocol
-from live.device.protocol import DUMP_BEGINS
-from live.game.attended import CAPTURE, entry
+from live.game.attended import CAPTURE, KEPT, TEXT, Answers, entry, pieces
 from live.game.course import Course
-from live.game.files import Opened
+from live.game.files import open_regular
 from live.game.game import Game
-from live.game.making_pgn import source_of
 from live.game.options import Options
-from live.game.program import CHUNK, Program, told_of_ending
+from live.game.program import CHUNK, Program, end_child, told_of_ending
 from live.game.report import Agrees, Clock, Differs, Picture, event_of, line_of
+from live.refused import FAILED, Refused
+from live.words.message import Message
 
 ONE_MOVE = 4  # squares that a move changes, at most
-PIECE = 64 * 1024  # bytes of a capture that `live` is told at once: the report of a piece is in its memory as a whole
 
 
 @dataclass(frozen=True)
 class Old:
-    """What a capture had when it was opened: its bytes, the number of their lines in the report, and the course of the game."""
+    """What a capture had when it was opened: its bytes, the number of their lines in the report, the course of the game, and its text."""
 
     size: int
     lines: int
     course: Course
+    text: bytes = b""
 
 
 def new_course(options: Options) -> Course:
@@ -43,17 +44,98 @@ def nothing_old(options: Options, size: int) -> Old:
     return Old(size, 0, new_course(options))
 
 
-def read_game(game: Game, limit: Optional[int], now: float) -> Old:
-    """What the capture has, or this many bytes of it, at this time. Raises OSError if it can't be read."""
-    with Opened() as opened:
-        source = opened.keep(source_of(game, limit))
-        times = Times(source, now)
-        words = ("watch", *game.options.of_board())
-        if game.options.recover:
-            source, words = opened.keep(_as_told(source, times.size)), ("live", *game.options.of_live())
-        course = new_course(game.options)
-        count = take_all(course, game.program, words, source, times)
-    return Old(times.size, count, course)
+def words_of(options: Options) -> Tuple[str, ...]:
+    """The words of a child that attends a game with these options."""
+    return ("live", *options.of_live())
+
+
+class Reader:
+    """A child that is told the times of a game, and its capture up to an offset."""
+
+    def __init__(self, game: Game, limit: Optional[int] = None) -> None:
+        self._path, self._options, size = game.paths.capture, game.options, game.capture.size
+        self.words = words_of(game.options)
+        self.size = size if limit is None else min(limit, size)  # bytes of the capture that it is told
+        self.times = game.times.content() if 0 < self.size == size else b""  # that it is told
+        self._child: Optional[subprocess.Popen[bytes]] = game.program.start(self.words, subprocess.PIPE, subprocess.PIPE, subprocess.DEVNULL)
+
+    def read(self, now: float) -> Old:
+        """What the capture has. Its clock times count as just come. Raises OSError if it can't be read."""
+        assert self._child
+        course, lines, answers, left = new_course(self._options), 0, Answers(), 1 + bool(self.times) + len(pieces(self.times, 0, self.size))
+        source = open_regular(self._path, os.O_RDONLY)  # by its path: if the loop closes a file, its number may become another file's
+        try:
+            for part in _exchanged(self._child, self._told(source)):
+                ended = answers.take(part)
+                texts = [text for answer in ended for text in answer.report] + answers.unended()
+                lines += len(texts)
+                for line in filter(None, map(line_of, wanted(texts, course.start) if texts else ())):
+                    course.take(line, now)
+                left -= len(ended)
+                if left == 0:
+                    return Old(self.size, lines, course, ended[-1].game or b"")
+        finally:
+            os.close(source)
+        raise OSError(told_of_ending("live", self._child.wait()))
+
+    def _told(self, source: int) -> Iterator[bytes]:
+        """What it is told."""
+        if self.times:
+            yield entry(0, KEPT, len(self.times), self.times)
+        for at, until in pieces(self.times, 0, self.size):
+            yield entry(0, CAPTURE, until - at)
+            while at < until:
+                part = os.pread(source, min(CHUNK, until - at), at)
+                if not part:
+                    raise Refused(FAILED, Message("file.shorter", path=self._path))
+                yield part
+                at += len(part)
+        yield entry(0, TEXT)
+
+    def hand_over(self) -> "subprocess.Popen[bytes]":
+        """From now on the caller has the child."""
+        child, self._child = self._child, None
+        assert child
+        return child
+
+    def close(self, is_read: bool = True) -> None:
+        """Ends the child, unless somebody else has it. While another thread reads, that fails then, and is to close it."""
+        if self._child and is_read:
+            end_child(self.hand_over())
+        elif self._child:
+            self._child.kill()
+
+
+def read_game(game: Game, limit: Optional[int], now: float = 0.0) -> Old:
+    """What the capture has, or this many bytes of it. Raises OSError if it can't be read."""
+    reader = Reader(game, limit)
+    try:
+        return reader.read(now)
+    finally:
+        reader.close()
+
+
+def _exchanged(child: "subprocess.Popen[bytes]", told: Iterator[bytes]) -> Iterator[bytes]:
+    """Tells a child this, and gives what it writes meanwhile, until it has ended."""
+    assert child.stdin and child.stdout
+    into, out, left = child.stdin.fileno(), child.stdout.fileno(), memoryview(b"")
+    os.set_blocking(into, False)
+    poll = select.poll()
+    poll.register(out, select.POLLIN)
+    poll.register(into, select.POLLOUT)
+    while True:
+        if out in dict(poll.poll()):
+            part = os.read(out, CHUNK)
+            if not part:
+                return
+            yield part
+            continue
+        left = left or memoryview(next(told, b""))
+        if not left:
+            poll.unregister(into)
+            continue
+        with contextlib.suppress(BlockingIOError, BrokenPipeError):  # it is full, or the child has ended, as its output shows
+            left = left[os.write(into, left) :]
 
 
 def game_of(program: Program, options: Options, sent: bytes) -> Course:
@@ -65,75 +147,6 @@ def game_of(program: Program, options: Options, sent: bytes) -> Course:
         if line:
             course.take(line, 0.0)
     return course
-
-
-class Times:
-    """When the bytes of a capture came, as far as known: there is a dump every second, and the last one came now."""
-
-    def __init__(self, source: int, now: float) -> None:
-        self.size = os.fstat(source).st_size
-        self._dumps = array.array("Q", dumps_in(source, self.size))
-        self._began, self._at = now - len(self._dumps), 0
-
-    def of(self, offset: int) -> float:
-        """The time of one byte; they are requested in order."""
-        while self._at < len(self._dumps) and self._dumps[self._at] <= offset:
-            self._at += 1
-        return self._began + self._at
-
-
-def dumps_in(source: int, size: int) -> Iterator[int]:
-    """The offsets of the dumps in a file."""
-    at, before = 0, b""
-    while at < size:
-        part = os.pread(source, 1 << 20, at)
-        if not part:
-            return
-        text = before + part
-        found = text.find(DUMP_BEGINS)
-        while found >= 0:
-            yield at - len(before) + found
-            found = text.find(DUMP_BEGINS, found + 1)
-        at += len(part)
-        before = text[1 - len(DUMP_BEGINS) :]
-
-
-def take_all(course: Course, program: Program, words: Sequence[str], source: int, times: Times) -> int:
-    """Takes the lines of a child that reads a file. Returns their number."""
-    into, out = os.pipe()
-    try:
-        child = program.start(words, source, out, subprocess.DEVNULL)
-    except OSError:
-        os.close(into)
-        raise
-    finally:
-        os.close(out)
-    count, has_others = 0, words[0] == "live"  # as `done -`
-    try:
-        for texts in _lines(into):
-            if has_others or texts[-1].startswith("rest "):
-                texts = [text for text in texts if text[0].isdigit()]
-            count += len(texts)
-            for line in filter(None, map(line_of, wanted(texts, course.start))):
-                course.take(line, times.of(line.offset))
-    finally:
-        os.close(into)
-        status = child.wait()
-    if status != 0:
-        raise OSError(told_of_ending(words[0], status))
-    return count
-
-
-def _lines(source: int) -> Iterator[List[str]]:
-    """The complete lines that come, several at once."""
-    part = ""
-    while True:
-        more = os.read(source, CHUNK).decode("ascii", "replace")
-        if not more:
-            return
-        *lines, part = (part + more).split("\n")
-        if lines:
-            yield lines
 
 
 def wanted(texts: Sequence[str], start: protocol.Picture) -> Sequence[str]:
@@ -160,19 +173,3 @@ def wanted(texts: Sequence[str], start: protocol.Picture) -> Sequence[str]:
 def _last(words: Sequence[str], letter: str) -> Sequence[int]:
     """The index of the last word that begins with this letter, if any."""
     return next(([at] for at in range(len(words) - 1, -1, -1) if words[at][0] == letter), [])
-
-
-def _as_told(source: int, size: int) -> int:
-    """A file with what `live` is told of a capture. It has no name, and is in memory."""
-    told = os.memfd_create("told")
-    try:
-        for at in range(0, size, PIECE):
-            part = os.pread(source, PIECE, at)
-            text = entry(0, CAPTURE, len(part), part)
-            while text:
-                text = text[os.write(told, text) :]
-        os.lseek(told, 0, os.SEEK_SET)
-    except BaseException:
-        os.close(told)
-        raise
-    return told

@@ -3,7 +3,7 @@
 from __future__ import annotations
 
 import re
-from dataclasses import dataclass, field
+from dataclasses import dataclass, field, replace
 from typing import Dict, List, Optional, Sequence, Tuple, Union
 
 from live.called import DGT_LIVE
@@ -91,6 +91,18 @@ class Pairing:
         if self.recover is not None:
             words.append(RECOVER if self.recover else STRICT)
         return tuple(words)
+
+
+def same_but_for_result(one: Pairing, other: Pairing) -> bool:
+    """Whether two lines have the same game, wherever they are in their tables."""
+    first, second = (replace(pairing, line=0, result="", remarks=()) for pairing in (one, other))
+    return first == second
+
+
+def same_but_for_names(one: Pairing, other: Pairing) -> bool:
+    """Whether two lines have the same game on the same board, but for names and other tags, and for the result."""
+    first, second = (replace(pairing, white="", black="", tags=()) for pairing in (one, other))
+    return same_but_for_result(first, second)
 
 
 @dataclass(frozen=True)

@@ -2,7 +2,6 @@
 
 from __future__ import annotations
 
-import dataclasses
 import functools
 from dataclasses import dataclass
 from typing import Callable, List, Optional, Protocol, Tuple
@@ -31,8 +30,8 @@ from live.game.reading import game_of
 from live.game.reply import REOPENS, Answer, refusal
 from live.game.tags import SIDES, Tags
 from live.loop import Turns
-from live.refused import REFUSED, Refused
-from live.round.pairings import Pairing
+from live.refused import DONE, REFUSED, Refused
+from live.round.pairings import Pairing, same_but_for_names, same_but_for_result
 from live.round.table import NOT_RECORDED, RowView
 from live.terminal.screen import Screen
 from live.terminal.terminal import Terminal
@@ -194,10 +193,10 @@ def typed_options(hall: Hall, pairing: Pairing) -> Options:
     return recordable(numbered, lambda option: f"{option[2:].capitalize()} {pairing.board}")
 
 
-def same_but_for_result(one: Pairing, other: Pairing) -> bool:
-    """Whether two lines have the same game, wherever they are in their tables."""
-    first, second = (dataclasses.replace(pairing, line=0, result="", remarks=()) for pairing in (one, other))
-    return first == second
+def chosen_by(hall: Hall, pairing: Pairing) -> Chooses:
+    """What a line says of its game. Refused if the program refuses that."""
+    name = f"{hall.folder}/{pairing.file_name}"
+    return of_a_line(checked(hall.program, typed_options(hall, pairing), Paths(name)), name)
 
 
 @dataclass(frozen=True)
@@ -263,6 +262,7 @@ class Row:
         self._of_line: Tuple[Optional[Pairing], Options] = (None, Options())  # a line, and its options
         self._wants_result = True
         self._gets_result = False  # whether its game is just getting that of its line
+        self._lacks_names = False  # whether its game couldn't get those of its line
         self._begun_with: Optional[Callable[[], None]] = None  # adds what was typed before its game was open
         self.held: Optional[Earlier] = None  # its game, if that isn't opened before `r`
 
@@ -301,17 +301,16 @@ class Row:
         pairing, hall = self.pairing, self._hall
         has_cable = self.board.cable and pairing.device == self._device
         device = self.board.cable if has_cable else pairing.device
-        self._device = pairing.device
-        name = f"{hall.folder}/{pairing.file_name}"
+        self._device, self._lacks_names = pairing.device, False
 
         def prepares() -> Chooses:
             if self.held:
                 raise Refused(REFUSED, Message("row.game_of_others", of_others=self.held.of_others, advice=self.held.advice))
-            given = checked(hall.program, typed_options(hall, pairing))
+            chooses = chosen_by(hall, pairing)
             check(device, may_wait=True)
-            return of_a_line(given, name)
+            return chooses
 
-        plan = Plan(device, name, Rules(listens=True), board=str(pairing.board), serial=pairing.serial)
+        plan = Plan(device, f"{hall.folder}/{pairing.file_name}", Rules(listens=True), board=str(pairing.board), serial=pairing.serial)
         return Wanted(plan, lambda: Opening(hall.program, plan.paths, prepares, 0))
 
     def changed(self) -> None:
@@ -348,19 +347,35 @@ class Row:
     # Its line is read again.
 
     def take(self, pairing: Pairing) -> None:
-        """Takes the line as it is now. If it has changed, the recording begins anew, and the game goes on. A game of another pair is
-        left alone as long as the line is as it was: somebody may have typed `r` for another board."""
+        """Takes the line as it is now. Its names are put right while the game goes on; if more has changed, the recording begins anew. A
+        game of another pair is left alone as long as the line is as it was: somebody may have typed `r` for another board."""
         before, self.pairing = self.pairing, pairing
         if self.held and not (self.held.are_others and pairing == before):
             self.held = None
         self._wants_result = True
         if before.result == self.board.forfeit != "" and not pairing.result:
             self._hears.say_of_table(Message("row.no_forfeit", number=self.number, reopens=REOPENS))
-        if same_but_for_result(before, pairing):
+        if same_but_for_result(before, pairing) and not self._lacks_names:
             self._loop.after(0, self._apply_result)
             if not self.board.is_recorded and not self.board.is_over:
                 self.board.begin()
-        elif self.board.is_begun:
+        elif self.board.is_recorded and same_but_for_names(before, pairing):
+            self.board.rename("r", functools.partial(chosen_by, self._hall, pairing), self._renamed)
+            self._loop.after(0, self._apply_result)
+        else:
+            self._begins_otherwise()
+
+    def _renamed(self, answer: Answer) -> None:
+        """Its game has the names of its line; or it hasn't, and gets them at the next `r`, or as it is opened."""
+        self._lacks_names = answer[0] != DONE
+        if self._lacks_names and self.board.is_recorded:
+            self._hears.say_of_table(linked("space", (str(self.number), answer[1])))
+        elif self._lacks_names:
+            self._begins_otherwise()
+
+    def _begins_otherwise(self) -> None:
+        """Its game is opened as its line says."""
+        if self.board.is_begun:
             self._wants_result = False  # until it is recorded again
             self.board.end(self._begin_anew)
         else:

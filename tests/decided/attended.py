@@ -2,7 +2,7 @@
 
 from typing import List
 
-from live.game.attended import Answer, Answers, Doubt, NoAnswer, Over, Stood, entry
+from live.game.attended import PIECE, Answer, Answers, Doubt, NoAnswer, Over, Stood, entry, pieces
 from live.game.times import ANSWERED, CALLED, GONE, OPENED, TOOK, line_after
 
 from decided.table import refused, same
@@ -95,6 +95,30 @@ def known() -> None:
     same("one more line, byte by byte", byte_by_byte(text, len(lines) + 1), expected)
 
 
+def taken_early() -> None:
+    """Lines of the report are taken before their answer has ended: each is there once, in order, and the answers have the rest."""
+    text = HISTORY + LIVE
+    whole = cut(text, len(text), 0)
+    for at in range(len(text) + 1):
+        answers = Answers()
+        first, early = answers.take(text[:at]), answers.unended()
+        rest = answers.take(text[at:])
+        lines = [line for answer in first for line in answer.report] + early + [line for answer in rest for line in answer.report]
+        same(f"cut at {at}", (lines, len(first) + len(rest)), ([line for answer in whole for line in answer.report], len(whole)))
+
+
+def told_at_once() -> None:
+    """The parts of a capture."""
+    for lines, start, end, expected in (
+        (b"", 0, 0, []),
+        (b"0 begin 0\n", 0, 0, []),
+        (b"", 0, PIECE, [(0, PIECE)]),
+        (b"", 5, PIECE + 6, [(5, PIECE + 5), (PIECE + 5, PIECE + 6)]),
+        (b"0 begin 0\n", 0, 9 * PIECE, [(0, 9 * PIECE)]),
+    ):
+        same(f"{lines!r}, {start}, {end}", pieces(lines, start, end), expected)
+
+
 def of_the_line() -> None:
     """What is told of a line to whoever begins later."""
     for told, expected in [
@@ -112,4 +136,4 @@ def of_the_line() -> None:
         same(f"{told}", line, expected)
 
 
-TABLES = [entries, answers, known, of_the_line]
+TABLES = [entries, answers, known, taken_early, told_at_once, of_the_line]

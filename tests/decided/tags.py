@@ -1,4 +1,7 @@
-"""Tags: which values they may have, and the text of a game as it is published. With the options that keep them."""
+"""Tags: which values they may have, and the text of a game as it is published. With the options that keep them,
+and lines of a table that change nothing else."""
+
+from dataclasses import replace
 
 from live.game.naming import is_naming, line_of, read_names, told_of_names
 from live.game.opening import added_to_kept, read_otherwise, recordable, strictly
@@ -6,6 +9,7 @@ from live.game.options import Options
 from live.game.reply import Refused as NotNamed
 from live.game.tags import Malformed, pair_of, published, value_of
 from live.refused import Refused
+from live.round.pairings import Pairing, same_but_for_names, same_but_for_result
 
 from decided.cases import cases
 from decided.table import refused, same
@@ -177,4 +181,23 @@ def named() -> None:
     same("nothing", told_of_names(before, before), "nothing has changed")
 
 
-TABLES = [added_to_what_is_kept, named, texts, values, names_in_any_script, kept, others_of_one_name]
+def changed_lines() -> None:
+    """What a changed line of a round's table changes: nothing but its place and its result, names and tags too, or more."""
+    line = Pairing(2, 1, "/dev/a", "Anne", "Ben", tags=(("WhiteElo", "2050"),), serial="00007")
+    for now, same_game, same_board in (
+        (line, True, True),
+        (replace(line, line=5, result="1-0", remarks=("said",)), True, True),
+        (replace(line, white="Anna"), False, True),
+        (replace(line, white="Anna", black="", tags=(), result="1-0"), False, True),
+        (replace(line, device="/dev/b"), False, False),
+        (replace(line, white="Anna", serial="00008"), False, False),
+        (replace(line, rotated=True), False, False),
+        (replace(line, first="black"), False, False),
+        (replace(line, fen="4k3/8/8/8/8/8/4P3/4K3 w - - 0 1"), False, False),
+        (replace(line, name="again", white="Anna"), False, False),
+        (replace(line, recover=True), False, False),
+    ):
+        same(f"{now}", (same_but_for_result(line, now), same_but_for_names(line, now)), (same_game, same_board))
+
+
+TABLES = [changed_lines, added_to_what_is_kept, named, texts, values, names_in_any_script, kept, others_of_one_name]

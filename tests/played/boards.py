@@ -87,6 +87,14 @@ class Board(play_board.Board):
         self.line = -1
         self.forget()
 
+    def let_slave_go(self) -> None:
+        """From now on a turn fails once nobody has the device open: whoever records it has closed the line."""
+        self._let_number_go()
+
+    def take_slave(self) -> None:
+        """The line may be closed again."""
+        self.slave = os.open(self.device, os.O_RDWR | os.O_NOCTTY)
+
     def _let_number_go(self) -> None:
         if self.slave >= 0:
             os.close(self.slave)

@@ -8,14 +8,15 @@ from attending.answers import Answer, Entry, all_answers
 from attending.filed import entries_of
 from played import TOP
 
-# Starts the recorder so that each child that is told a game's times leaves two files: what is written to it, and what it has written.
+# Starts the recorder so that each child that is told a game's times leaves two files: what is written to it, and what it has written. One
+# that has read the game before leaves them once it attends the board.
 TAP = """
-import os, pathlib, runpy, sys
+import os, pathlib, runpy, sys, threading
 sys.dont_write_bytecode = True
 folder, sys.argv = pathlib.Path(sys.argv[1]), sys.argv[2:]
 sys.path.insert(0, {top!r})
-from live.game import attending, program
-logs, begins = {{}}, []
+from live.game import attending, program, reading
+logs, begins, told, said, reader = {{}}, [], {{}}, {{}}, threading.local()
 
 class Writing:
     def __getattr__(self, name):
@@ -28,7 +29,19 @@ class Writing:
                 log.write(bytes(content)[:count])
         return count
 
+class Reading(Writing):
+    def write(self, number, content):
+        count = os.write(number, content)
+        told[number] += bytes(content)[:count]
+        return count
+
+    def read(self, number, count):
+        part = os.read(number, count)
+        said[number] += part
+        return part
+
 starts, opens, takes = attending.Attending.start, program.Program.start, attending.Attending._takes
+reads, passes = reading.Reader.__init__, attending.Attending._tell_past
 
 def start(self):
     begins[:] = [pathlib.Path(self._past.capture.path).stem if self.notes else ""]
@@ -36,12 +49,28 @@ def start(self):
 
 def opened(self, words, *streams):
     child = opens(self, words, *streams)
-    if words[0] != "live":
-        return child
+    if words[0] == "live":
+        told[child.stdin.fileno()], said[child.stdout.fileno()] = b"", b""
+        if not getattr(reader, "is_one", False):
+            attends(child)
+    return child
+
+def attends(child):
     number = len(list(folder.glob("*.told")))
     logs[child.stdin.fileno()] = log = folder / f"{{begins[0]}}.{{number:03}}" if begins[0] else None
-    if log:
-        open(f"{{log}}.told", "ab").close()
+    for ending, content in (("told", told[child.stdin.fileno()]), ("said", said[child.stdout.fileno()])) if log else ():
+        if content or ending == "told":
+            pathlib.Path(f"{{log}}.{{ending}}").write_bytes(content)
+
+def read(self, *given):
+    reader.is_one = True
+    reads(self, *given)
+    reader.is_one = False
+
+def passed_on(self):
+    child = passes(self)
+    if child:
+        attends(child)
     return child
 
 def take(self, part):
@@ -52,6 +81,7 @@ def take(self, part):
     takes(self, part)
 
 attending.os, attending.Attending.start, program.Program.start, attending.Attending._takes = Writing(), start, opened, take
+reading.os, reading.Reader.__init__, attending.Attending._tell_past = Reading(), read, passed_on
 runpy.run_path(sys.argv[0], run_name="__main__")
 """
 

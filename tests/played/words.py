@@ -7,6 +7,7 @@ import re
 
 AGREES = "agrees"
 IN_HAND = "in hand"
+WAITS = "waits for the board"
 WRONG = "WRONG"
 NO_START = "NO START"
 SILENT = "SILENT"

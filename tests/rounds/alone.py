@@ -1,7 +1,6 @@
 """Troubles that are one board's alone: what would have ended the call ends that board's recording, which is tried again, and
 the other boards play on meanwhile."""
 
-import contextlib
 import os
 import pathlib
 import signal
@@ -16,6 +15,8 @@ from played.stage import bytes_of, movetext, refuses, rest, same, stop, until, u
 from played.times import read
 from rounds.delayed import stuck_program
 from rounds.hall import Hall, agrees, moves, told
+
+from live.game.opening import LARGE
 
 # A program can't be started for one board as long as a file is there, nor a cable's folder be listed where another one is.
 NOT_STARTED = """
@@ -206,7 +207,7 @@ def large_capture_opened(folder: pathlib.Path) -> None:
     readers: List[int] = []
 
     def are_stopped() -> bool:
-        readers[:] = readers_of(live, hall.name(1) + ".dgt")
+        readers[:] = [child for child in live.children() if "--white=White 1" in command(child)]
         for reader in readers:
             signal_to(reader, signal.SIGSTOP)  # and takes as long as the others need
         return bool(readers)
@@ -228,16 +229,6 @@ def large_capture_opened(folder: pathlib.Path) -> None:
     hall.boards[0].play("e2e4")
     hall.until_text(1, "1. e4 *")
     same(stop_and_measure(live, len(content)), [])
-
-
-def readers_of(live: Live, path: str) -> "list[int]":
-    """The processes of a call whose standard input is this file."""
-    found = []
-    for child in live.children():
-        with contextlib.suppress(OSError):
-            if os.readlink(f"/proc/{child}/fd/0") == os.path.realpath(path):
-                found.append(child)
-    return found
 
 
 def stop_and_measure(live: Live, size: int) -> "list[str]":
@@ -278,14 +269,21 @@ def square_that_chatters(folder: pathlib.Path) -> None:
 
 
 def asked_first(folder: pathlib.Path) -> None:
-    """A game that goes on is read, and that takes long: its board is asked before, and no ply of two is lost that are played meanwhile.
-    A capture of 48 MiB is said to be large, and its times go on."""
+    """A game that goes on is read, and that takes long, since its capture is large: its board is asked before, and no ply of two is lost
+    that are played meanwhile. A capture of 48 MiB is said to be large, and its times go on."""
     hall, stuck = Hall(folder, 1), folder / "stuck"
     live = hall.record()
     hall.begun(live)
     hall.play(0, 2)
     same(stop(live), 0)
-    stuck.write_text("watch")
+    time_message = bytes([0x8D, 0, 10, 0, 0x10, 0, 0, 0x10, 0, 0])
+
+    def grow(size: int) -> None:
+        with open(hall.name(1) + ".dgt", "ab") as capture:
+            capture.write(time_message * ((size - capture.tell()) // len(time_message)))
+
+    grow(LARGE + len(time_message))
+    stuck.write_text("live --")  # who reads the capture has options, and who asks the board has none
     before = hall.boards[0].asked.count(b"BK")
     live = hall.record(program=stuck_program(folder, stuck))
     until(lambda: hall.boards[0].asked.count(b"BK") > before, "that the board is asked")
@@ -295,9 +293,7 @@ def asked_first(folder: pathlib.Path) -> None:
     stuck.unlink()
     hall.until_text(1, "1. e4 e5 2. Nf3 Nc6 *")
     same(stop(live), 0)
-    time_message = bytes([0x8D, 0, 10, 0, 0x10, 0, 0, 0x10, 0, 0])
-    with open(hall.name(1) + ".dgt", "ab") as capture:
-        capture.write(time_message * ((48 << 20) // len(time_message) - 200))
+    grow((48 << 20) - 200 * len(time_message))
     live = hall.record()
 
     def is_said() -> bool:

@@ -362,9 +362,9 @@ def read_while_opened(folder: pathlib.Path) -> None:
     the game of its new line."""
     hall = Hall(folder, 1)
     stuck = folder / "stuck"
-    stuck.write_text("record")
+    stuck.write_text("live")
     live = hall.record(program=stuck_program(folder, stuck), typed=True)
-    until(lambda: any("record" in word for word in words_of(live)), "a call of record that is stuck")
+    until(lambda: "live" in words_of(live), "a call of live that is stuck")
     live.type("1 1-0")
     until_line(live, "1 refused: 1-0: the game is just being opened: type it again in a moment")
     hall.extra = {1: ",other"}

@@ -22,7 +22,7 @@ FIRST, SECOND = ("1. e4 *", "1. e4 e5 *", "1. e4 e5 2. Nf3 *", "1. e4 e5 2. Nf3 
 # A program that waits, in the subcommand that a file names, for as long as that file is there; or fails in the one that another names.
 STUCK = """#!/bin/sh
 [ "$(cat '{stuck}.fails' 2> /dev/null)" = "$1" ] && exit 9
-while [ "$(cat '{stuck}' 2> /dev/null)" = "$1" ]; do sleep 0.05; done
+while begins=$(cat '{stuck}' 2> /dev/null) && case "$*" in "$begins"*) ;; *) false ;; esac; do sleep 0.05; done
 exec '{program}' "$@"
 """
 AWAY = "isn't there: plug it in"
@@ -51,7 +51,7 @@ class Delayed:
 
 
 def stuck_program(folder: pathlib.Path, stuck: pathlib.Path) -> pathlib.Path:
-    """The command, with a program that gets stuck in the subcommand that a file names."""
+    """The command, with a program that gets stuck if its words begin as a file says."""
     place = folder / "place"
     place.mkdir()
     shutil.copy(ROUND, place)
@@ -75,12 +75,12 @@ def ended_while_opened(folder: pathlib.Path) -> None:
             round_.witness.plays(text)
     round_.witness.begin()
     command = stuck_program(folder, folder / "stuck")
-    for number, subcommand in ((signal.SIGINT, "record"), (signal.SIGTERM, "watch"), (signal.SIGINT, "watch"), (signal.SIGKILL, "record")):
-        (folder / "stuck").write_text(subcommand)
+    for number in (signal.SIGINT, signal.SIGTERM, signal.SIGKILL):
+        (folder / "stuck").write_text("live")
         port = free_port()
         live = round_.record("--delay", "15", "--page", str(port), program=command, start=())
         until_line(live, "the round is shown at")
-        until(lambda: any(subcommand in word for word in words_of(live)), f"a call of {subcommand} that is stuck")
+        until(lambda: "live" in words_of(live), "a call of live that is stuck")
         round_.witness.look_at(port)
         live.was_killed = True
         live.send(number)

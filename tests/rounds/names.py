@@ -68,7 +68,7 @@ def names_as_written(folder: pathlib.Path) -> None:
 
 def change_together(folder: pathlib.Path) -> None:
     """Both names of a pair are put right while spectators see the round late. Both pages and the published text have the old names
-    until the game is opened again, and then the new ones: never one of each."""
+    until the program has given the text with the new ones, and then these: never one of each."""
     hall, stuck = Hall(folder, 1), folder / "stuck"
     ports = free_port(), free_port()
 
@@ -94,11 +94,11 @@ def change_together(folder: pathlib.Path) -> None:
     hall.play(0, 2)
     until(lambda: len(texts()) == 2, "the published text, in the file and on the page", 0.05)
     until(lambda: shown() == {CORRECTED[0]}, "the names of the table", 0.05)
-    stuck.write_text("record")
+    stuck.write_text("live")
     write(*CORRECTED[1])
     live.type("r")
     until_line(live, "is read again")
-    until(lambda: "record" in words_of(live), "the game to be opened again", 0.05)
+    until(lambda: "/bin/sh" in words_of(live), "the program that is to give the text", 0.05)
     rest(1)  # what is shown is never older
     same(shown(), {CORRECTED[0]})
     stuck.unlink()

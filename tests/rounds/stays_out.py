@@ -170,7 +170,7 @@ def no_step_back(folder: pathlib.Path) -> None:
     cup.until_hidden(3)
     kill(live)
     stuck = folder / "stuck"
-    for how in ("live", "record", ""):
+    for how in ("live", ""):
         stuck.write_text(how)
         live = cup.record(stuck_program(a_folder(folder / how), stuck) if how else ROUND)
         until_line(live, "the round is shown at")
