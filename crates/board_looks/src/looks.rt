@@ -8,7 +8,9 @@ ghost use Rattle.board_looks.specs.Keeping.{StandsFor};
 ghost use Rattle.board_looks.specs.Looks.{alarms, doubtful, heard, is_looked, listed, stopped, unplayed as unplayed_look};
 
 use crate::look::{Look, Told};
-use board_doubts::{AfterWrong, Doubt, Doubts, Event, Heard, Seen, StoppedClock, Tried, first_of, some_moves};
+use board_doubts::{
+    AfterWrong, Doubt, Doubts, Event, Heard, Seen, StoppedClock, Tried, first_of, some_moves,
+};
 use std::alloc::{AllocError, Global};
 
 /// Whether somebody has looked.

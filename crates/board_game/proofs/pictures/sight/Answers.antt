@@ -1,7 +1,7 @@
-use Rattle.std.proofs.Common.{◌≡◌, ◌∷◌, Bool, subst, sym}
+use Rattle.std.proofs.Common.{Bool, subst}
 use Rattle.board_alarms.specs.Hearing.{HasMoved}
 use Rattle.board_game.specs.declared.pictures.Shown.{Shown}
-use Rattle.board_game.specs.Inside.Shown.{IsShown, is_another}
+use Rattle.board_game.specs.Inside.Shown.{IsShown}
 use Rattle.board_game.proofs.PlyLemmas.{stays_again, stays_unseen}
 use Rattle.board_game.proofs.ShownLemmas.{whole_again, whole_another}
 use Rattle.board_game.proofs.pictures.sight.Goals as goal

@@ -1,4 +1,4 @@
-use Rattle.std.proofs.Common.{◌/◌, ◌||◌, Bool, ℕ, ap, ◌∙◌}
+use Rattle.std.proofs.Common.{◌/◌, ◌||◌, ℕ, ap, ◌∙◌}
 use Rattle.std.specs.Prelude.{nat_le, if◌then◌else◌}
 use Rattle.board_doubts.specs.Doubts.{silent_for}
 use Rattle.board_doubts.specs.Pace.{fits_ply}

@@ -6,7 +6,6 @@ use Rattle.game_over.specs.declared.said.Said.{Said}
 use Rattle.game_over.specs.declared.said.Said.TheVariants.{IsOver}
 use Rattle.game_over.specs.declared.said.Why.{Why}
 use Rattle.game_over.specs.declared.said.Why.TheVariants.{Stood, PlaysOn, Corrected, SetUp, Unfinished}
-use Rattle.game_over.specs.Over.{front}
 use Rattle.game_over.specs.Result.{last_given}
 use Rattle.game_over.specs.Said.{IsSaidFor, ended_with, is_sure_by, with_result}
 use Rattle.game_over.proofs.ending.Ending.say.Goals as goal
