@@ -47,8 +47,24 @@ export function parts(counts) {
   const of = (events, bytes) => [events && heading(0, bytesOf(bytes)) + events, bytes];
   for (const [name, text, capture, expected] of [
     ["a short capture", `${OF_A}${front}`, "abcd", [[`${OF_A}${front}`, "abcd"]]],
-    ["an event with more bytes", `${OF_A}0 begin 1\n12 heard 9\n`, "abcdefghij", [of("0 begin 1\n12 heard 3\n", "abcd"), of("12 heard 4\n", "efgh"), of("12 heard 2\n", "ij")]],
-    ["a call with more before it", `${OF_A}0 begin 1\n0 begin 10\n`, "abcdefghij", [of("0 begin 1\n", "abcd"), ["", "efgh"], of("0 begin 2\n", "ij")]],
+    [
+      "an event with more bytes",
+      `${OF_A}0 begin 1\n12 heard 9\n`,
+      "abcdefghij",
+      [of("0 begin 1\n12 heard 3\n", "abcd"), of("12 heard 4\n", "efgh"), of("12 heard 2\n", "ij")],
+    ],
+    [
+      "a call with more before it",
+      `${OF_A}0 begin 1\n0 begin 10\n`,
+      "abcdefghij",
+      [of("0 begin 1\n", "abcd"), ["", "efgh"], of("0 begin 2\n", "ij")],
+    ],
+    [
+      "more than the capture has",
+      `${OF_A}${front}5 heard 9\n6 heard 9\n`,
+      "abcdefghi",
+      [of(front, "abcde"), of("5 heard 9\n6 heard 9\n", "fghi")],
+    ],
     ["an event with a few more", `${OF_A}${front}`, "abcdefg", [of(front, "abcde"), ["", "fg"]]],
     [
       "a call that begins with more bytes",
@@ -56,7 +72,12 @@ export function parts(counts) {
       "abcdefghijk",
       [of(front, "abcde"), of("20 gone\n0 begin 3\n0 away 500\n5 heard 3\n", "fghijk")],
     ],
-    ["one that begins with fewer", `${OF_A}${front}0 begin 2\n5 heard 2\n`, "abcdefg", [of(front, "abcde"), of("0 begin 0\n5 heard 2\n", "fg")]],
+    [
+      "one that begins with fewer",
+      `${OF_A}${front}0 begin 2\n5 heard 2\n`,
+      "abcdefg",
+      [of(front, "abcde"), of("0 begin 0\n5 heard 2\n", "fg")],
+    ],
     ["what happens behind all bytes", `${OF_A}${front}20 over 5\n`, "abcde", [of(`${front}20 over 5\n`, "abcde")]],
     ["without times", "", "abcdefghij", [["", "abcd"], ["", "efgh"], ["", "ij"]]],
     ["with those of another capture", "1 times 0\n1 digest 5\n", "abcde", [["", "abcd"], ["", "e"]]],

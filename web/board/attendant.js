@@ -3,7 +3,7 @@
 
 import { STOPPED } from '../game/times.js';
 
-const LARGE = 1 << 16; // bytes: so many are given when all before them is answered, since they are copied then
+const LARGE = 1 << 16; // bytes: what follows so many is told, and copied, when they are answered
 
 export class Attendant {
   /**

@@ -118,8 +118,8 @@ export function cut(text, found, size, first) {
 }
 
 /**
- * A capture with its times in parts of so many bytes or up to twice as many, [{ text, bytes }]; the text is empty if there are no times. Told
- * one after the other they tell what they tell whole. Bytes that came before a call are told before it, without a time.
+ * A capture with its times in parts of so many bytes or up to twice as many, [{ text, bytes }]; the text is empty if there are no times.
+ * Told one after the other they tell what they tell whole. Bytes that came before a call are told before it, without a time.
  */
 export function inParts(text, capture, most) {
   if (capture.length <= most) return [{ text, bytes: capture }];
@@ -135,7 +135,7 @@ export function inParts(text, capture, most) {
     const before = covered;
     covered = covers(before, event);
     let coming = Math.max(0, covered - before);
-    for (; coming > most && from + most < capture.length; end()) {
+    for (; coming > most && to < capture.length && from + most < capture.length; end()) {
       const now = from + most - to;
       if (event.what !== BEGIN) events += line([event.at, event.what, now]);
       [to, coming] = [to + now, coming - now];
