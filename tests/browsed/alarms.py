@@ -17,6 +17,8 @@ BACK = ["f3g1", "c6b8"]
 MISSED = "LOOK at 2. Nf3"
 OWN = {"what": "at the game", "why": "somebody kept this earlier", "about": ""}
 UNHURRIED = 2.0  # seconds a ply
+PAUSE = 2.5  # seconds until players take plies back
+COUNTED = 1.5  # seconds a ply that counts if nobody presses for it
 TOLD = 1.2  # seconds after which a dump is sure, and what it says is shown
 # Puts other alarms into the record of the first board's game.
 RECORDED = """
@@ -154,6 +156,11 @@ class Clock:
         self._lever, self._times = False, [600, 600]
         self._show()
 
+    def waits(self) -> None:
+        """A second passes, and the clock says so."""
+        self._stage.rest(1.0)
+        self._show()
+
     def _show(self) -> None:
         white, black = self._times
         self._port.board.clock(white, black, runs=True, lever=self._lever)
@@ -180,8 +187,9 @@ def taken_back_together(folder: pathlib.Path) -> None:
         clock = Clock(stage, port)
         clock.play([*RUY[:2], *KNIGHTS])
         stage.until_moves(page, RUY_SANS[:4])
-        stage.rest(UNHURRIED)
+        stage.rest(PAUSE)
         clock.play(BACK, None, presses=False)
+        clock.waits()
         stage.until_part(page, "#state", "LOOK at 3... Nb8")
         stage.until_part(page, "#ask", "both players went straight back")
         same(page.moves, [*RUY_SANS[:4], "Ng1", "Nb8"])
@@ -202,6 +210,6 @@ def nobody_presses(folder: pathlib.Path) -> None:
         clock.play(RUY[2:8], 1.0)
         stage.until_moves(page, RUY_SANS[:8])
         nobody_need_look(page)
-        clock.play(["e1g1", "c8g4", "h2h3", "g4h5", "d2d3", "f7f6"], 1.0, presses=False)
+        clock.play(["e1g1", "c8g4", "h2h3", "g4h5", "d2d3", "f7f6"], COUNTED, presses=False)
         stage.until_part(page, "#state", "LOOK at 7... f6")
         stage.until_part(page, "#ask", "six moves were made and nobody pressed the clock")
