@@ -94,7 +94,7 @@ class Reader:
 
     def hand_over(self) -> "subprocess.Popen[bytes]":
         """From now on the caller has the child."""
-        child, self._child = self._child, None
+        child, self._child, self.times = self._child, None, b""
         assert child
         return child
 
