@@ -157,6 +157,11 @@ def advice_about_doubts(folder: pathlib.Path) -> None:
                 board.clock(left[at][0], left[at][1], runs=runs, lever=lever[at])
         until_dumped(board, desk.hall.name(number))
 
+    def waits(number: int) -> None:
+        """A second passes, and the clock says so."""
+        rest(1.0)
+        boards[number - 1].clock(left[number - 1][0], left[number - 1][1], runs=True, lever=lever[number - 1])
+
     desk.plays(1, "e2e4", "g8f6")
     desk.plays(2, "e2e4", "e7e5")
     for number in (1, 2):
@@ -188,8 +193,9 @@ def advice_about_doubts(folder: pathlib.Path) -> None:
     desk.types("2 ok")
     desk.has(2, "1. e4 e5 2. Nf3 Nc6 3. Ng1 Nb8 *")
     thinks(3, KNIGHTS)
-    rest(2.0)
+    rest(2.5)
     thinks(3, BACK, presses=False, pace=0)
+    waits(3)
     advice = desk.advice(3, "LOOK at 3... Nb8")
     front = as_typed(advice, "to take them off, lift a king and hold it until all is typed: ", "back 1... e5")
     desk.holds_king(3)
@@ -198,7 +204,7 @@ def advice_about_doubts(folder: pathlib.Path) -> None:
     desk.puts_king(3)
     desk.has(3, "1. e4 e5 *")
     thinks(4, SPANISH[:2])
-    thinks(4, SPANISH[2:], presses=False, pace=1.0)
+    thinks(4, SPANISH[2:], presses=False, pace=1.5)
     advice = desk.advice(4, "LOOK at 4... Nf6")
     front = as_typed(advice, "to take them off, lift a king and hold it until all is typed: ", "back 2. Nf3")
     desk.types(f"{front}back 2. Nf3")
