@@ -3,7 +3,7 @@
 from decided.table import same
 from given.attended import BOTH_PAWNS, HEADING, LIVE, added, brought, heard, kept, said_in
 from given.case import but, left_by, updates
-from given.messages import INITIAL, TIME
+from given.messages import INITIAL, TIME, dump
 
 # A pawn goes to e4, and to e3 more than ten seconds later. In between the board is heard.
 AGAIN = (2900, 4500, 6100, 7700, 9300, 10900)
@@ -19,6 +19,7 @@ PLAYED_BOTH = HEADING + b"0 begin 0\n5 opened\n120 heard 67\n1300 heard 10\n2300
 RUNS, STANDS = TIME[:-1] + b"\x01", TIME
 TRIED = INITIAL + RUNS + updates("e2- e4P e7- e5p") + 3 * STANDS + updates("g1- f3N b8- c6n")
 STOPPED = HEADING + b"0 begin 0\n5 opened\n120 heard 67\n200 heard 10\n1300 heard 10\n2300 heard 10\n"
+WON = dump("r1bq1bnr/pppp1ppp/2n5/4k3/3KP3/5N2/PPPP1PPP/RNBQ1B1R")  # after them the kings show that Black wins
 STOPPED += b"".join(b"%d heard 10\n" % at for at in (3000, 4000, 5000, 6000, 7000))
 
 # A file of times and its capture; what the next call says of them when it begins.
@@ -34,6 +35,7 @@ LOOKS = [
     ("the line was late", PLAYED_BOTH + b"8300 heard 335\n", DUMPED + 5 * BOTH_PAWNS, []),
     ("a dump is missing", PLAYED_BOTH + b"8300 heard 268\n", DUMPED + 4 * BOTH_PAWNS, [b"look after 2 AFTER-GAP"]),
     ("a stopped clock", STOPPED, TRIED, [b"look since 2 STOPPED 1", b"look since 2 STOPPED 2"]),
+    ("and a result", STOPPED + b"8000 added 67\n", TRIED + WON, [b"look since 2 STOPPED 1", b"look since 2 STOPPED 2", b"look since 2 UNPLAYED 2"]),
     ("and a suspicion", STOPPED + b"8000 suspect 3\n", TRIED, [b"look since 2 STOPPED 1", b"look since 2 STOPPED 2", b"look SUSPECT 3"]),
 ]
 

@@ -1,7 +1,7 @@
 """What `live` answers. Times of requests are a second apart, the next one half a second after an update; a square that differs is in a
 player's hand for its first ten seconds."""
 
-from typing import Any, Iterable, List, Tuple
+from typing import Any, Iterable, Iterator, List, Tuple
 
 from decided.table import same
 from given.case import Case, but, dump, leave, leave_by_bytes, left_by, pgn, updates
@@ -425,11 +425,20 @@ def live() -> None:
     leave_by_bytes("live byte by byte", ATTENDED, NUMBERS, TEXTS, KEPT, ALARMS, NO_ENTRIES, BEFORE_NO_ENTRY)
 
 
+def lines_of(out: bytes) -> Iterator[bytes]:
+    """The lines of answers, without the bytes that stand behind some of them."""
+    while out:
+        line, _, out = out.partition(b"\n")
+        if line.startswith((b"kept ", b"game ")):
+            out = out[int(line.split()[1]) :]
+        yield line
+
+
 def said_in(told: Iterable[bytes], words: Tuple[bytes, ...]) -> List[Tuple[int, bytes]]:
     """The lines of the answers that begin with one of these words, and in which answer each is."""
     _, out, _, _ = left_by(but(LIVE, sent=b"".join(told)))
     answers, found = 0, []
-    for line in out.split(b"\n"):
+    for line in lines_of(out):
         answers += line.startswith(b"done ")
         if line.startswith(words):
             found.append((answers, line))
