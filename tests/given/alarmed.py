@@ -2,8 +2,8 @@
 
 from decided.table import same
 from given.attended import BOTH_PAWNS, HEADING, LIVE, added, brought, heard, kept, said_in
-from given.case import but, left_by, updates
-from given.messages import INITIAL, TIME, dump
+from given.case import but, dump, left_by, updates
+from given.messages import INITIAL, TIME
 
 # A pawn goes to e4, and to e3 more than ten seconds later. In between the board is heard.
 AGAIN = (2900, 4500, 6100, 7700, 9300, 10900)
