@@ -135,7 +135,7 @@ def no_second_card(folder: pathlib.Path) -> None:
         stage.until(lambda: page.value(CARDS) == 2, "a card for the other board")
         stage.show_all(page)
         stage.enlarge(page, 2)
-        until_agrees(stage, page)
+        stage.until_part(page, "#state", "LOOK at the cable; agrees")
         for other in (1, 2):
             told = f"LOOK at the cable: board {other} has the same serial number"
             stage.until(lambda: any(told in line for line in page.messages), "a word on both")

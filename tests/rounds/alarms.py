@@ -161,7 +161,7 @@ def one_number(folder: pathlib.Path) -> None:
         until_line(again, f"  {number}  {alike}s {others} have the same serial number")
         again.type(f"{number} ok")
         until_line(again, f"{number}: acknowledged: {alike}s {others} have")
-    same((stop(again), again.lines().count("has the same")), (0, 1))  # of board 2, which is still open
+    same((stop(again), again.lines().count("has the same")), (0, 0))
     once_more = hall.record()
     hall.begun(once_more)
     same((stop(once_more), once_more.lines().count("LOOK at the cable")), (0, 0))
