@@ -7,7 +7,8 @@ import contextlib
 import dataclasses
 
 from live.board.state import mend_of, trouble_of
-from live.game.alarms import carry_over, keep_looks
+from live.board.whose import WHERE
+from live.game.alarms import carry_over, keep_looks, kept_looks
 from live.game.files import NO_ROOM, Capture, Paths, put_in_place, remove
 from live.game.game import Game, put_options
 from live.game.looks import Looks
@@ -48,7 +49,7 @@ def begin_anew(game: Game, content: bytes) -> Game:
     with contextlib.suppress(OSError):
         remove(paths.front)
     with contextlib.suppress(OSError):
-        keep_looks(paths, Looks())  # the alarms were about the set-up
+        keep_looks(paths, Looks(tuple(look for look in kept_looks(paths).open if look.about == WHERE)))  # the others were about the set-up
     return begun
 
 

@@ -6,13 +6,12 @@ import contextlib
 import dataclasses
 import functools
 import math
-from dataclasses import dataclass
 from typing import Callable, List, Optional, Protocol, Sequence, Tuple
 
 from live.beside import Worker
 from live.board.asked_first import AskedFirst
-from live.board.exchanged import Return, Returned, came_back
-from live.board.plan import Plan
+from live.board.exchanged import Return, Returned, came_back, told_of_same_number
+from live.board.plan import Plan, Wanted
 from live.board.recorder import Recorder
 from live.board.recording import Recording
 from live.board.state import State
@@ -28,7 +27,7 @@ from live.game.game import kept_serial, result_of
 from live.game.log import Log, log_once
 from live.game.looks import Looks
 from live.game.names import today
-from live.game.opening import Chooses, Opened, Opening
+from live.game.opening import Chooses, Opened
 from live.game.options import Options
 from live.game.program import Program
 from live.game.reading import new_course
@@ -45,14 +44,6 @@ from live.words.message import Message, linked
 PAUSES = (2.0, 5.0, 10.0, 20.0, 40.0, 60.0)  # seconds between tries to record a board
 ENDED = Message("board.ended")
 BEING_OPENED = Message("board.being_opened")
-
-
-@dataclass(frozen=True)
-class Wanted:
-    """What is to be recorded, and how its game is opened."""
-
-    plan: Plan
-    opening: Callable[[], Opening]
 
 
 class HearsBoard(Protocol):
@@ -72,6 +63,9 @@ class HearsBoard(Protocol):
 
     def came_back(self) -> None:
         """Its board was away, and is there again."""
+
+    def numbered(self) -> None:
+        """The serial number of its board has just become known."""
 
     def missing(self) -> None:
         """Its board, whose serial number is known, isn't on its cable any more."""
@@ -202,8 +196,7 @@ class Board:
             self._hears.remade()
         if self._done:
             self.trouble = why if error else self.trouble  # the reason for the last failure, if recording was just tried again
-            done, self._done = self._done, None
-            done()
+            self._ended()
         elif self._hears.ended(error):
             before, self.trouble = self.trouble, why
             if self._loop.now() - self._begun_at > PAUSES[-1]:
@@ -273,6 +266,15 @@ class Board:
         if self._guard and isinstance(now, Recording):
             self._guard.call(functools.partial(now.suspect, others))
 
+    def numbered(self) -> None:
+        """The serial number of its board has just become known."""
+        self._hears.numbered()
+
+    def shares_number(self, others: Sequence[int]) -> None:
+        """Its board has the same serial number as the boards with these numbers."""
+        if self._guard and self._recorder:
+            self._guard.call(functools.partial(self._recorder.look_at, told_of_same_number(others)))
+
     def missing(self) -> None:
         """Its board isn't on its cable any more."""
         self._hears.missing()
@@ -291,8 +293,7 @@ class Board:
         """Its board has sent this on another board's cable. Returns whether it is recorded. An error there is this board's."""
         if self._guard is None or self._recorder is None:
             return False
-        takes = self._recorder.takes
-        self._guard.call(lambda: takes(sent))
+        self._guard.call(functools.partial(self._recorder.takes, sent))
         return True
 
     def end(self, done: Callable[[], None]) -> None:
@@ -429,8 +430,7 @@ class Board:
     def found_on(self, device: str) -> None:
         """Its board is on this device."""
         if self._guard and self._recorder:
-            moves = self._recorder.move_to
-            self._guard.call(lambda: moves(device))
+            self._guard.call(functools.partial(self._recorder.move_to, device))
 
     @property
     def paths(self) -> Paths:

@@ -1,9 +1,10 @@
-"""Two boards whose cables may have been exchanged, though no square shows it and no serial number. Pure: times are passed in."""
+"""Two boards whose cables may have been exchanged, though no square shows it and no serial number; and boards with one number. Pure: times
+are passed in."""
 
 from __future__ import annotations
 
 from dataclasses import dataclass
-from typing import Optional, Sequence
+from typing import List, Mapping, Optional, Sequence
 
 from live.board.whose import WHERE
 from live.device.protocol import differing, picture_of_placement
@@ -51,6 +52,20 @@ def stand_alike(one: str, other: str) -> bool:
 
 def told_of_exchange(others: Sequence[int]) -> Look:
     """The message at one of them; the others are the boards with these numbers."""
-    names = [str(number) for number in sorted(others)]
-    boards = linked("and", filter(None, (", ".join(names[:-1]), names[-1])))
-    return Look(WHERE, plural("cable.exchanged", len(names), boards=boards), WHERE)
+    return Look(WHERE, plural("cable.exchanged", len(others), boards=_named(others)), WHERE)
+
+
+def same_number(serials: Mapping[int, str], board: int) -> List[int]:
+    """The serial number of this board has just become known. The boards that have it; none if no other one does."""
+    same = sorted(one for one, serial in serials.items() if serial and serial == serials.get(board))
+    return same if len(same) > 1 else []
+
+
+def told_of_same_number(others: Sequence[int]) -> Look:
+    """The message at one of them, about the others."""
+    return Look(WHERE, plural("cable.same_number", len(others), boards=_named(others)), WHERE)
+
+
+def _named(boards: Sequence[int]) -> str:
+    names = [str(number) for number in sorted(boards)]
+    return linked("and", filter(None, (", ".join(names[:-1]), names[-1])))

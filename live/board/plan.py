@@ -9,6 +9,7 @@ from typing import Callable, Optional, Protocol
 from live.board.reasons import Rules
 from live.board.whose import Owner
 from live.game.files import Paths
+from live.game.opening import Opening
 from live.game.reply import Answer
 from live.refused import Refused
 
@@ -56,6 +57,14 @@ class Plan:
         return before if before and os.path.lexists(before.capture) else None
 
 
+@dataclass(frozen=True)
+class Wanted:
+    """What is to be recorded, and how its game is opened."""
+
+    plan: Plan
+    opening: Callable[[], Opening]
+
+
 class HearsRecorder(Protocol):
     """Gets the events of a recorder."""
 
@@ -76,6 +85,9 @@ class HearsRecorder(Protocol):
 
     def came_back(self, heard_at: Optional[float], has_slept: bool) -> None:
         """Its board, which was unplugged or silent and was heard last at this time, is heard again."""
+
+    def numbered(self) -> None:
+        """The serial number of its board has just become known."""
 
     def missing(self) -> None:
         """Its board, whose serial number is known, isn't on its cable any more."""

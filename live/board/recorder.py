@@ -342,8 +342,11 @@ class Recorder:
         """The serial number of its board is this from now on."""
         if self.now:
             self.now.attending.tell(NUMBER, number.encode("ascii"))
-        if number == kept_serial(self.game.paths):
+        kept = kept_serial(self.game.paths)
+        if number == kept:
             return
+        if not kept:
+            self._hears.numbered()  # before that is kept: so it is news only once, and a kill costs no alarm
         try:
             keep_serial(self.game.paths, number)
         except OSError as error:

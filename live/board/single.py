@@ -9,9 +9,9 @@ from dataclasses import dataclass
 from typing import Callable, Optional, Tuple
 
 from live.board.advice import Moves, all_of
-from live.board.board import Board, Wanted
+from live.board.board import Board
 from live.board.finding import Finder
-from live.board.plan import Plan
+from live.board.plan import Plan, Wanted
 from live.board.state import Kind
 from live.called import DGT_LIVE
 from live.device.line import check, check_free
@@ -110,6 +110,9 @@ class Single:
             self.on_change()
 
     def came_back(self) -> None:
+        """There is no other board."""
+
+    def numbered(self) -> None:
         """There is no other board."""
 
     def missing(self) -> None:

@@ -1,4 +1,4 @@
-"""Where the games of a round are kept if no folder is typed for them; what is said if the folder is typed first."""
+"""Where the games of a round are kept if no folder is typed for them; what is said if the folder is typed first; and one for another round."""
 
 from __future__ import annotations
 
@@ -38,3 +38,12 @@ def _has_begun(folder: pathlib.Path, games: Iterable[str]) -> bool:
     of_round = Paths(str(folder / ROUND))
     own = (of_round.pgn, of_round.log, of_round.options, of_round.delay, of_round.out, of_round.pages)
     return any(map(os.path.lexists, (*own, *(Paths(str(folder / name)).capture for name in games))))
+
+
+def another_folder(folder: str) -> str:
+    """A folder for another round: `round4` beside `round3`, `club-2` beside `club`."""
+    if not os.path.basename(folder).strip("."):
+        return "round2"  # beside what is here, or above
+    stem = folder.rstrip("0123456789")
+    number = folder[len(stem) :]
+    return stem + str(int(number) + 1).zfill(len(number)) if number else f"{stem}-2"

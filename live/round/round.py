@@ -13,7 +13,7 @@ from typing import Callable, Dict, List, Mapping, Optional, Sequence, Set, Tuple
 
 from live.beside import Worker
 from live.board.board import Board
-from live.board.exchanged import may_be_exchanged
+from live.board.exchanged import may_be_exchanged, same_number
 from live.board.finding import Finder
 from live.broadcast.broadcast import Broadcast
 from live.broadcast.games import written_name
@@ -40,6 +40,7 @@ from live.round.encodings import is_question
 from live.round.joining import not_plugged_in, with_some
 from live.round.leaving import Leaving
 from live.round.pairings import EXAMPLE, Pairing, Pairings, Wrong, told_of_wrong
+from live.round.place import another_folder
 from live.round.published import Published
 from live.round.row import Earlier, Hall, Row, earlier_game, was_forfeited
 from live.round.sources import Source, without_twice
@@ -78,15 +79,6 @@ def first_pairings(source: Source) -> Pairings:
     return read
 
 
-def another_folder(folder: str) -> str:
-    """A folder for another round: `round4` beside `round3`, `club-2` beside `club`."""
-    if not os.path.basename(folder).strip("."):
-        return "round2"  # beside what is here, or above
-    stem = folder.rstrip("0123456789")
-    number = folder[len(stem) :]
-    return stem + str(int(number) + 1).zfill(len(number)) if number else f"{stem}-2"
-
-
 def with_forfeited(read: Pairings, hall: Hall) -> Pairings:
     """With the pairs whose boards aren't found, if somebody has typed that they aren't played."""
     return with_some(read, [pairing for pairing in read.absent if was_forfeited(hall, pairing)])
@@ -116,6 +108,11 @@ def other_round(source: Source, folder: str) -> str:
     while os.path.lexists(folder):
         folder = another_folder(folder)
     return Message("round.another_folder", dgt_round=DGT_ROUND, words=shlex.join([str(source.file), folder]))
+
+
+def goes_on(board: Board) -> bool:
+    """Whether its game isn't over; the mark of its end tells that before it is open."""
+    return not board.is_over and not size_of(board.paths.end)
 
 
 class Round:
@@ -321,9 +318,14 @@ class Round:
         return [Paired(number, pairing.teams if pairing else ("", ""), pairing.result if pairing else NOT_KNOWN, False) for number, pairing in pairs]
 
     def owner(self, number: str) -> Optional[Board]:
-        """The board that has this serial number, unless its game is over; the mark of its end tells that before it is open."""
-        boards = (row.board for row in self.boards() if row.serial == number)
-        return next((board for board in boards if not board.is_over and not size_of(board.paths.end)), None)
+        """The board that has this serial number, unless its game is over."""
+        return next((row.board for row in self.boards() if row.serial == number and goes_on(row.board)), None)
+
+    def numbered(self, number: int) -> None:
+        """The serial number of this board has just become known: perhaps other boards have the same."""
+        same = same_number({row.number: row.serial for row in self.boards() if goes_on(row.board)}, number)
+        for one in same:
+            self.rows[one].board.shares_number([other for other in same if other != one])
 
     def came_back(self, number: int) -> None:
         """This board was away, and is there again: perhaps on the cable of another one that was away too."""

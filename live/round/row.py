@@ -7,8 +7,8 @@ from dataclasses import dataclass
 from typing import Callable, List, Optional, Protocol, Tuple
 
 from live.board.advice import Moves, all_of
-from live.board.board import Board, Wanted
-from live.board.plan import Plan
+from live.board.board import Board
+from live.board.plan import Plan, Wanted
 from live.board.reasons import Rules
 from live.board.state import OTHER_BOARD, Kind, State
 from live.broadcast.games import written_name
@@ -74,6 +74,9 @@ class HearsRow(Protocol):
 
     def came_back(self, number: int) -> None:
         """This board was away, and is there again."""
+
+    def numbered(self, number: int) -> None:
+        """The serial number of this board has just become known."""
 
     def say(self, text: str) -> None:
         """A line for the screen."""
@@ -255,6 +258,8 @@ class Row:
         paths = Paths(f"{hall.folder}/{pairing.file_name}")
         self._screen = RowScreen(pairing.board, hall.terminal, hears)
         self._screen.needs_board = self._is_played
+        self.came_back = functools.partial(hears.came_back, pairing.board)
+        self.numbered = functools.partial(hears.numbered, pairing.board)
         self.board = Board(loop, hall.program, self._screen, paths, self)
         self.board.called = Message("round.board", board=pairing.board)
         self._screen.is_settled = lambda: bool(self.board.forfeit) or self.board.result == self.pairing.result
@@ -331,10 +336,6 @@ class Row:
         if why is None:
             self._loop.after(0, self._apply_result)
         return True
-
-    def came_back(self) -> None:
-        """Its board was away, and is there again."""
-        self._hears.came_back(self.number)
 
     def missing(self) -> None:
         """The round looks for all boards anyway."""

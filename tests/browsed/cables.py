@@ -114,7 +114,8 @@ def asked_which(folder: pathlib.Path) -> None:
 
 @with_chromium
 def no_second_card(folder: pathlib.Path) -> None:
-    """A device that is chosen again, and one that sends the number of a board that is recorded, get no card of their own."""
+    """A device that is chosen again, and one that sends the number of a board that is recorded, get no card of their own. If it is another
+    board, somebody must look at both: their numbers don't tell them apart."""
     with Hall(folder) as stage:
         page, port = begin(stage)
         numbered(port, 10001)
@@ -134,7 +135,10 @@ def no_second_card(folder: pathlib.Path) -> None:
         stage.until(lambda: page.value(CARDS) == 2, "a card for the other board")
         stage.show_all(page)
         stage.enlarge(page, 2)
-        until_agrees(stage, page)
+        stage.until_part(page, "#state", "LOOK at the cable; agrees")
+        for other in (1, 2):
+            told = f"LOOK at the cable: board {other} has the same serial number"
+            stage.until(lambda: any(told in line for line in page.messages), "a word on both")
         play(stage, page, twin, QUEENS[:1], QUEENS_SANS[:1])
 
 

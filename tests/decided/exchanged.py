@@ -1,6 +1,6 @@
-"""Whether the cables of two boards may have been exchanged, though nothing shows it, and what is said then."""
+"""Whether the cables of two boards may have been exchanged, though nothing shows it; which boards have one number; and what is said then."""
 
-from live.board.exchanged import Return, Returned, came_back, may_be_exchanged, told_of_exchange
+from live.board.exchanged import Return, Returned, came_back, may_be_exchanged, same_number, told_of_exchange, told_of_same_number
 
 from decided.cases import cases
 from decided.table import same
@@ -30,4 +30,14 @@ def told() -> None:
         same("one alarm", look.about, told_of_exchange([*others, 99]).about)
 
 
-TABLES = [returns, boards, told]
+def numbers() -> None:
+    """Boards with one serial number."""
+    for name, serials, board, expected in cases("exchanged", "same_number"):
+        same(name, same_number(dict(serials), board), expected)
+    for others, expected in cases("exchanged", "told_of_number"):
+        look = told_of_same_number(others)
+        same(expected, look.text, expected)
+        same("one alarm", look.about, told_of_exchange(others).about)
+
+
+TABLES = [returns, boards, told, numbers]

@@ -26,7 +26,7 @@ from live.game.options import Options
 from live.game.program import Program
 from live.game.refusal import is_recorded, reason
 from live.refused import Refused
-from live.round.round import another_folder
+from live.round.place import another_folder
 from live.round.ways import ways
 from live.device.numbers import Asked, listing, told_of_shut
 from live.device.serial_line import login_name, may_not_open

@@ -1,7 +1,7 @@
-/** Whether the cables of two boards may have been exchanged, and what is said then. */
-import { toldOfExchange } from "/web/game/alarms.js";
+/** Whether the cables of two boards may have been exchanged; which boards have one number; and what is said then. */
+import { toldOfExchange, toldOfSameNumber } from "/web/game/alarms.js";
 import { textOfLook } from "/web/game/looks.js";
-import { cameBack, mayBeExchanged } from "/web/hall/exchanged.js";
+import { cameBack, mayBeExchanged, sameNumber } from "/web/hall/exchanged.js";
 
 const returned = ([heardAt, cameAt, number, placement]) => ({ heardAt, cameAt, number, placement });
 
@@ -20,4 +20,14 @@ export function boards(counts, cases) {
 
 export function told(counts, cases) {
   for (const [others, expected] of cases("told")) counts.same(expected, textOfLook(toldOfExchange(others)), expected);
+}
+
+export function same_number(counts, cases) {
+  for (const [name, serials, board, expected] of cases("same_number")) {
+    counts.same(name, sameNumber(new Map(serials), board), expected);
+  }
+}
+
+export function told_of_number(counts, cases) {
+  for (const [others, expected] of cases("told_of_number")) counts.same(expected, textOfLook(toldOfSameNumber(others)), expected);
 }

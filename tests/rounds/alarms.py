@@ -140,6 +140,33 @@ def exchanged_as_they_stand_alike(folder: pathlib.Path) -> None:
             Stage.boards.remove(board)
 
 
+def one_number(folder: pathlib.Path) -> None:
+    """Two boards have one serial number: each says so once both numbers are known, and a restart doesn't ask again. At that restart a third
+    board gives that number: all three name each other, until somebody has looked. A board with another number, and one without, say nothing."""
+    hall = Hall(folder, 5)
+    for board, serial in zip(hall.boards, (b"00007", b"00007", b"00008", b"", b"")):
+        board.serial_number = serial
+    alike = "LOOK at the cable: board"
+    live = hall.record(typed=True)
+    hall.begun(live)
+    for number, other in ((1, 2), (2, 1)):
+        until_line(live, f"  {number}  {alike} {other} has the same serial number, and nothing shows it if their cables are exchanged: see that")
+    live.type("1 ok")
+    until_line(live, f"1: acknowledged: {alike} 2 has the same")
+    same(stop(live), 0)
+    hall.boards[4].serial_number = b"00007"
+    again = hall.record(typed=True)
+    hall.begun(again)
+    for number, others in ((1, "2 and 5"), (2, "1 and 5"), (5, "1 and 2")):
+        until_line(again, f"  {number}  {alike}s {others} have the same serial number")
+        again.type(f"{number} ok")
+        until_line(again, f"{number}: acknowledged: {alike}s {others} have")
+    same((stop(again), again.lines().count("has the same")), (0, 0))
+    once_more = hall.record()
+    hall.begun(once_more)
+    same((stop(once_more), once_more.lines().count("LOOK at the cable")), (0, 0))
+
+
 def three_away_together(folder: pathlib.Path) -> None:
     """Three boards that stand alike, on one hub that fails: each alarm names the two others, and one `ok` for each is enough. The hub fails
     again: somebody must look again."""

@@ -1,5 +1,6 @@
 // A game whose pieces were still being set up when its capture began: when the program says so, it begins anew with the start.
 
+import { CABLE } from '../game/alarms.js';
 import { fromStart } from '../game/reading.js';
 import { message } from '../../live/web/page/message.js';
 import { Again } from './again.js';
@@ -37,7 +38,8 @@ export class Beginning {
     const { recorder } = this;
     if (!this.isOn) return;
     const content = await fromStart(recorder.calls, recorder.options, recorder.capture.view(), this.bytes);
-    await recorder.renew(content, true, { looks: [] });
+    const looks = recorder.alarms.looks.kept.filter(({ about }) => about === String(CABLE)); // the others were about the set-up
+    await recorder.renew(content, true, { looks });
     recorder.says(message('board.set_up', { name: recorder.name }));
   }
 }

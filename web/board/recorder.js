@@ -3,7 +3,7 @@
 
 import { joined } from '../device/protocol.js';
 import { ISNT_OVER, corrected, unheard, wentOn } from '../game/afterwards.js';
-import { Alarms, acknowledged } from '../game/alarms.js';
+import { Alarms, acknowledged, toldOfSameNumber } from '../game/alarms.js';
 import { Course } from '../game/course.js';
 import { countingForfeit } from '../game/forfeits.js';
 import { textOfLook } from '../game/looks.js';
@@ -379,6 +379,11 @@ export class Recorder {
   suspect(others) {
     this.alarms.suspect(others);
     for (const other of others) this.attending.tell(SUSPECT, other);
+  }
+
+  /** Its board has the same serial number as those of the boards with these numbers. */
+  sharesNumber(others) {
+    this.tellLook(this.alarms.add(toldOfSameNumber(others)));
   }
 
   /** The program has raised these. Nobody need look at a game that is over, unless it goes on. */

@@ -17,7 +17,7 @@ const WHY = {
   'OTHER-TIME': message('doubt.other_time'),
 };
 const UNKNOWN = message('doubt.unknown'); // for another word
-const CABLE = message('look.at_the_cable');
+export const CABLE = message('look.at_the_cable'); // what an alarm about a cable is about
 const CLOCK = 'clock'; // what an alarm about a stopped clock is about, before the ply
 const RESULT = 'result'; // and one about moves that nobody may have played before the result
 
@@ -32,11 +32,20 @@ function nameOf(count, plies) {
   return count <= plies.length ? shortOf(plies[count - 1]) : message('ply.number', { number: count });
 }
 
+/** The boards with these numbers. */
+function named(boards) {
+  const names = [...boards].sort((one, other) => one - other);
+  return linked('and', [names.slice(0, -1).join(', '), names.at(-1)].filter((part) => part));
+}
+
 /** The message about a cable that may have been exchanged with those of the boards with these numbers. */
 export function toldOfExchange(others) {
-  const names = [...others].sort((one, other) => one - other);
-  const boards = linked('and', [names.slice(0, -1).join(', '), names.at(-1)].filter((part) => part));
-  return lookAt(CABLE, plural('cable.exchanged', names.length, { boards }), CABLE);
+  return lookAt(CABLE, plural('cable.exchanged', others.length, { boards: named(others) }), CABLE);
+}
+
+/** The message about a board that has the same serial number as the boards with these numbers. */
+export function toldOfSameNumber(others) {
+  return lookAt(CABLE, plural('cable.same_number', others.length, { boards: named(others) }), CABLE);
 }
 
 /** An alarm of the program, in a game with these plies. */

@@ -107,10 +107,10 @@ export class Devices {
     await this.record(seat, port, heard);
   }
 
-  /** A board's number has come. If it has a game already, and no move was made here, that game goes on. */
+  /** A board's number has come. If it has a game already, and no move was made here, that game goes on. Returns whether it does. */
   numbered(seat, number) {
     const other = this.hall.seatOf(number, seat);
-    if (!other || !other.isAway || seat.hasMoves) return;
+    if (!other || !other.isAway || seat.hasMoves) return false;
     const { port } = seat;
     const left = seat.recorder.cable.leave();
     seat.port = null;
@@ -119,6 +119,7 @@ export class Devices {
     this.record(other, port, left).catch(fails);
     this.hall.remove(seat).catch(fails);
     if (isShown) this.show(other);
+    return true;
   }
 
   /** A board has come by itself that isn't known to be an awaited one. */

@@ -1,4 +1,4 @@
-// Two boards whose cables may have been exchanged, though no square shows it and no serial number.
+// Two boards whose cables may have been exchanged, though no square shows it and no serial number; and boards with one number.
 
 import { differing, pictureOfPlacement } from '../device/protocol.js';
 
@@ -29,8 +29,20 @@ export function mayBeExchanged(one, other) {
   return went && met && one.number === other.number && standAlike(one.placement, other.placement);
 }
 
+/**
+ * The serial number of this board has just become known. The boards that have it; none if no other one does. `serials` has the number of
+ * each, empty if it has none.
+ */
+export function sameNumber(serials, board) {
+  const same = [...serials.keys()].filter((one) => serials.get(one) && serials.get(one) === serials.get(board));
+  return same.length > 1 ? same.sort((one, other) => one - other) : [];
+}
+
 export class Exchanges {
-  /** `seats` gives the seats that are recorded. Each has id, and returned, as above, null if it wasn't away; and gets suspect(ids). */
+  /**
+   * `seats` gives the seats that are recorded. Each has id and serial, and returned, as above, null if it wasn't away; and gets
+   * suspect(ids) and sharesNumber(ids).
+   */
   constructor(loop, seats) {
     this.loop = loop;
     this.seats = seats;
@@ -41,6 +53,13 @@ export class Exchanges {
   back({ id }) {
     if (this.cameBack.size === 0) this.loop.after(SHOWN, () => this.suspect());
     this.cameBack.set(id, this.loop.now() + SHOWN);
+  }
+
+  /** The serial number of this seat's board has just become known: perhaps other boards have the same. */
+  numbered({ id }) {
+    const seats = new Map(this.seats().map((seat) => [seat.id, seat]));
+    const same = sameNumber(new Map([...seats].map(([one, { serial }]) => [one, serial])), id);
+    for (const one of same) seats.get(one).sharesNumber(same.filter((other) => other !== one));
   }
 
   /** Boards that have come back have shown how they stand. Each seat is told with which others its own may be exchanged. */

@@ -243,7 +243,9 @@ export class Hall {
       keeps: (one, before) => this.folders.orTrouble(this.folders.before(before)),
       nextName: (name) => this.nextName(name),
       seatOf: (number, asks) => this.seatOf(number, asks),
-      numbered: (one, number) => this.devices.numbered(one, number),
+      numbered: (one, number) => {
+        if (!this.devices.numbered(one, number)) this.exchanges.numbered(one);
+      },
       cameBack: (one) => this.exchanges.back(one),
     });
     this.seats.set(board.id, seat);

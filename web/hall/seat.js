@@ -139,6 +139,11 @@ export class Seat {
     this.guard.call(() => this.recorder.suspect(others));
   }
 
+  /** Its board has the same serial number as those of the boards with these numbers. */
+  sharesNumber(others) {
+    this.guard.call(() => this.recorder.sharesNumber(others));
+  }
+
   get serial() {
     return this.recorder ? this.recorder.cable.number : '';
   }
