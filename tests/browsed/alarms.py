@@ -153,7 +153,7 @@ class Clock:
 
     def __init__(self, stage: Hall, port: Port) -> None:
         self._stage, self._port = stage, port
-        self._lever, self._times = False, [600, 600]
+        self._lever, self._times = False, [600, 600]  # while the lever is up, Black's time runs
         self._show()
 
     def waits(self) -> None:
@@ -167,10 +167,10 @@ class Clock:
 
     def play(self, moves: Sequence[str], pace: Optional[float] = UNHURRIED, presses: bool = True) -> None:
         """Both sides by turns, White first."""
-        for number, move in enumerate(moves):
+        for move in moves:
             if pace:
                 self._stage.rest(pace)
-                self._times[number % 2] -= int(pace)
+                self._times[self._lever] -= int(pace)
                 self._show()
             self._port.board.play(move)
             if presses:

@@ -142,14 +142,14 @@ def advice_about_doubts(folder: pathlib.Path) -> None:
     """Moves that may be missing, before the last one and after it; moves that were taken back, that nobody pressed the clock for, and that
     were tried while it stood. Each is put right as the alarm says."""
     desk = Desk(folder, 5)
-    boards, lever, left = desk.hall.boards, [False] * 5, [[TIME, TIME] for _ in range(5)]
+    boards, lever, left = desk.hall.boards, [False] * 5, [[TIME, TIME] for _ in range(5)]  # while the lever is up, Black's time runs
     desk.begin(1, 2, 3, 4, 5)
 
     def thinks(number: int, moves: List[str], presses: bool = True, pace: float = 2.0, runs: bool = True) -> None:
         board, at = boards[number - 1], number - 1
-        for ply, move in enumerate(moves):
+        for move in moves:
             rest(pace)
-            left[at][ply % 2] -= int(pace) if runs else 0
+            left[at][lever[at]] -= int(pace) if runs else 0
             board.clock(left[at][0], left[at][1], runs=runs, lever=lever[at])
             board.play(move)
             if presses:
