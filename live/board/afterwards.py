@@ -64,7 +64,7 @@ def after_recording(before: Recording, looks: Callable[[Look], None]) -> Afterwa
 
 
 def after_kept(guard: Guard, game: Game, course: Course, looks: Callable[[Look], None], reader: Optional[Reader]) -> Afterwards:
-    """For a game that was over before this call: another child is told all that is kept, unless one was told it."""
+    """For a game that was over before this call: starts a child with the whole kept game, unless one has it already."""
 
     def attends(hears: HearsAnswers) -> Attending:
         return Attending(guard, game.program, game.options.of_live(), Past(game.capture, 0, game.times, reader), hears)

@@ -35,7 +35,7 @@ def entry(at: int, what: str, count: Optional[int] = None, sent: bytes = b"") ->
 
 
 def pieces(lines: bytes, start: int, end: int) -> List[Tuple[int, int]]:
-    """The parts of a capture that are told at once, from one offset to another; with the lines of its times it is told as a whole."""
+    """Cuts a capture, from one offset to another, into the parts that are told at once. With the lines of its times it is one part."""
     size = end - start if lines else PIECE
     return [(at, min(at + size, end)) for at in range(start, end, size or PIECE)]
 
