@@ -1,20 +1,21 @@
 -- Lines one behind the other.
 use Rattle.std.proofs.Common.{◌≡◌, ◌<◌, ◌≤◌, ◌==◌, ℕ, Bool, true, false, List, [], ◌∷◌, ◌++◌, Option, Some, None, refl, sym, ap, ◌∙◌, arith}
-use Rattle.std.specs.Prelude.{if◌then◌else◌}
+use Rattle.std.specs.Prelude.{codes, if◌then◌else◌}
+use Rattle.std.specs.Str.{bytes_eq}
 use Rattle.std.proofs.lemmas.List.{append_assoc}
 use Rattle.board_asking.specs.declared.line.Request.{Request}
 use Rattle.board_asking.specs.declared.whose.Handling.{Handling}
 use Rattle.board_asking.specs.declared.whose.Handling.TheVariants.{Keep, Hold, Other}
 use Rattle.board_standing.specs.declared.state.State.{State}
 use Rattle.answer_lines.specs.declared.said.Said.{Said}
-use Rattle.answer_lines.specs.Answers.{answer_text, done_line, done_words, handling_line, handling_words, number_line, number_words, request_line, request_words, room_line, state_line, state_words}
+use Rattle.answer_lines.specs.Answers.{answer_text, clock_line, clock_words, done_line, done_words, handling_line, handling_words, number_line, number_words, request_line, request_words, room_line, state_line, state_words}
 use Rattle.answer_lines.specs.Laws.{HandlingFits, IsSaid, NumberFits, StateFits, TimeFits, lacks}
 use Rattle.answer_lines.proofs.CutLemmas.{cut_once}
 use Rattle.answer_lines.proofs.WordLemmas.{behind, request_lacks_feed, same_handling, same_request, same_state, same_time, state_lacks_feed, time_lacks_feed}
 
 -- the place of a line in an answer, by its first letter
 abbrev pub place_by : ℕ → ℕ
-place_by c = if c == 100 then 5 else (if c == 115 then 4 else (if c == 102 then 3 else (if c == 97 then 2 else (if c == 110 then 1 else 0))))
+place_by c = if c == 100 then 6 else (if c == 115 then 5 else (if c == 99 then 4 else (if c == 102 then 3 else (if c == 97 then 2 else (if c == 110 then 1 else 0)))))
 
 abbrev pub place : List ℕ → ℕ
 place [] = 0
@@ -78,14 +79,38 @@ room_once true false a b p q e = absurd (no_place 3 4 (room_line false ++ b) a r
 room_once false true a b p q e = absurd (no_place 3 4 (room_line false ++ a) b refl (omega arith) q e)
 room_once false false a b p q e = (refl, ap (λ t. behind (behind (behind (behind (behind t))))) e)
 
-pub state_place : (state : State) (text : List ℕ) → place (state_line (Some state) ++ text) ≡ 4
+pub clock_lacks_feed : (stopped : Bool) → lacks 10 (clock_words stopped) ≡ true
+clock_lacks_feed true = refl
+clock_lacks_feed false = refl
+
+pub clock_place : (stopped : Bool) (text : List ℕ) → place (clock_line (Some stopped) ++ text) ≡ 4
+clock_place true text = refl
+clock_place false text = refl
+
+abbrev clock_read : List ℕ → Bool
+clock_read text = bytes_eq text (codes "clock stopped")
+
+clock_back : (stopped : Bool) → clock_read (clock_words stopped) ≡ stopped
+clock_back true = refl
+clock_back false = refl
+
+clock_once : (one other : Option Bool) (a b : List ℕ) → 5 ≤ place a → 5 ≤ place b → clock_line one ++ a ≡ clock_line other ++ b
+    → (one ≡ other) × (a ≡ b)
+clock_once None None a b p q e = (refl, e)
+clock_once None (Some k) a b p q e = absurd (no_place 4 5 (clock_line (Some k) ++ b) a (clock_place k b) (omega arith) p (sym e))
+clock_once (Some h) None a b p q e = absurd (no_place 4 5 (clock_line (Some h) ++ a) b (clock_place h a) (omega arith) q e)
+clock_once (Some h) (Some k) a b p q e =
+    let cut = lines_cut (clock_words h) (clock_words k) a b (clock_lacks_feed h) (clock_lacks_feed k) e in
+    (ap (λ (x : Bool). Some x) (sym (clock_back h) ∙ ap clock_read cut.0 ∙ clock_back k), cut.1)
+
+pub state_place : (state : State) (text : List ℕ) → place (state_line (Some state) ++ text) ≡ 5
 state_place state text = refl
 
-state_once : (one other : Option State) (a b : List ℕ) → StateFits one → StateFits other → 5 ≤ place a → 5 ≤ place b
+state_once : (one other : Option State) (a b : List ℕ) → StateFits one → StateFits other → 6 ≤ place a → 6 ≤ place b
     → state_line one ++ a ≡ state_line other ++ b → (one ≡ other) × (a ≡ b)
 state_once None None a b f g p q e = (refl, e)
-state_once None (Some k) a b f g p q e = absurd (no_place 4 5 (state_line (Some k) ++ b) a (state_place k b) (omega arith) p (sym e))
-state_once (Some h) None a b f g p q e = absurd (no_place 4 5 (state_line (Some h) ++ a) b (state_place h a) (omega arith) q e)
+state_once None (Some k) a b f g p q e = absurd (no_place 5 6 (state_line (Some k) ++ b) a (state_place k b) (omega arith) p (sym e))
+state_once (Some h) None a b f g p q e = absurd (no_place 5 6 (state_line (Some h) ++ a) b (state_place h a) (omega arith) q e)
 state_once (Some h) (Some k) a b f g p q e =
     let cut = lines_cut (state_words h) (state_words k) a b (state_lacks_feed h f) (state_lacks_feed k g) e in
     (ap (λ x. Some x) (same_state h k f g cut.0), cut.1)
@@ -106,8 +131,11 @@ from_done said more = done_line said.due ++ more
 abbrev pub from_state : Said → List ℕ → List ℕ
 from_state said more = state_line said.state ++ from_done said more
 
+abbrev pub from_clock : Said → List ℕ → List ℕ
+from_clock said more = clock_line said.is_clock_stopped ++ from_state said more
+
 abbrev pub from_room : Said → List ℕ → List ℕ
-from_room said more = room_line said.is_whole ++ from_state said more
+from_room said more = room_line said.is_whole ++ from_clock said more
 
 abbrev pub from_request : Said → List ℕ → List ℕ
 from_request said more = request_line said.request ++ from_room said more
@@ -115,9 +143,14 @@ from_request said more = request_line said.request ++ from_room said more
 abbrev pub from_number : Said → List ℕ → List ℕ
 from_number said more = number_line said.number ++ from_request said more
 
-state_high : (state : Option State) (text : List ℕ) → 5 ≤ place text → 4 ≤ place (state_line state ++ text)
+state_high : (state : Option State) (text : List ℕ) → 6 ≤ place text → 5 ≤ place (state_line state ++ text)
 state_high None text h = omega (arith, h)
 state_high (Some state) text h = omega arith
+
+clock_high : (stopped : Option Bool) (text : List ℕ) → 5 ≤ place text → 4 ≤ place (clock_line stopped ++ text)
+clock_high None text h = omega (arith, h)
+clock_high (Some true) text h = omega arith
+clock_high (Some false) text h = omega arith
 
 room_high : (is_whole : Bool) (text : List ℕ) → 4 ≤ place text → 3 ≤ place (room_line is_whole ++ text)
 room_high true text h = omega (arith, h)
@@ -131,14 +164,17 @@ number_high : (number : Option (List ℕ)) (text : List ℕ) → 2 ≤ place tex
 number_high None text h = omega (arith, h)
 number_high (Some number) text h = omega arith
 
-done_high : (said : Said) (more : List ℕ) → 5 ≤ place (from_done said more)
+done_high : (said : Said) (more : List ℕ) → 6 ≤ place (from_done said more)
 done_high said more = omega arith
 
-from_state_high : (said : Said) (more : List ℕ) → 4 ≤ place (from_state said more)
+from_state_high : (said : Said) (more : List ℕ) → 5 ≤ place (from_state said more)
 from_state_high said more = state_high said.state (from_done said more) (done_high said more)
 
+from_clock_high : (said : Said) (more : List ℕ) → 4 ≤ place (from_clock said more)
+from_clock_high said more = clock_high said.is_clock_stopped (from_state said more) (from_state_high said more)
+
 from_room_high : (said : Said) (more : List ℕ) → 3 ≤ place (from_room said more)
-from_room_high said more = room_high said.is_whole (from_state said more) (from_state_high said more)
+from_room_high said more = room_high said.is_whole (from_clock said more) (from_clock_high said more)
 
 from_request_high : (said : Said) (more : List ℕ) → 2 ≤ place (from_request said more)
 from_request_high said more = request_high said.request (from_room said more) (from_room_high said more)
@@ -152,18 +188,22 @@ in_parts said more =
     let n = number_line said.number in
     let r = request_line said.request in
     let w = room_line said.is_whole in
+    let c = clock_line said.is_clock_stopped in
     let s = state_line said.state in
-    append_assoc (h ++ n ++ r ++ w ++ s) (done_line said.due) more
-    ∙ append_assoc (h ++ n ++ r ++ w) s (from_done said more)
-    ∙ append_assoc (h ++ n ++ r) w (from_state said more)
+    append_assoc (h ++ n ++ r ++ w ++ c ++ s) (done_line said.due) more
+    ∙ append_assoc (h ++ n ++ r ++ w ++ c) s (from_done said more)
+    ∙ append_assoc (h ++ n ++ r ++ w) c (from_state said more)
+    ∙ append_assoc (h ++ n ++ r) w (from_clock said more)
     ∙ append_assoc (h ++ n) r (from_room said more)
     ∙ append_assoc h n (from_request said more)
 
-said_same : (a b : Said) → a.handling ≡ b.handling → a.number ≡ b.number → a.request ≡ b.request → a.is_whole ≡ b.is_whole → a.state ≡ b.state → a.due ≡ b.due → a ≡ b
-said_same a b h n r w s d =
+said_same : (a b : Said) → a.handling ≡ b.handling → a.number ≡ b.number → a.request ≡ b.request → a.is_whole ≡ b.is_whole → a.is_clock_stopped ≡ b.is_clock_stopped
+    → a.state ≡ b.state → a.due ≡ b.due → a ≡ b
+said_same a b h n r w c s d =
     ap (λ x. record a { handling = x }) h ∙ ap (λ x. record a { handling = b.handling; number = x }) n
     ∙ ap (λ x. record a { handling = b.handling; number = b.number; request = x }) r
     ∙ ap (λ x. record a { handling = b.handling; number = b.number; request = b.request; is_whole = x }) w
+    ∙ ap (λ x. record b { is_clock_stopped = x; state = a.state; due = a.due }) c
     ∙ ap (λ x. record b { state = x; due = a.due }) s
     ∙ ap (λ x. record b { due = x }) d
 
@@ -177,8 +217,10 @@ said_once one other more rest f g e =
     (from_request_high one more) (from_request_high other rest) h.1 in
     let r = request_once one.request other.request (from_room one more) (from_room other rest)
     (from_room_high one more) (from_room_high other rest) n.1 in
-    let w = room_once one.is_whole other.is_whole (from_state one more) (from_state other rest)
-    (from_state_high one more) (from_state_high other rest) r.1 in
-    let s = state_once one.state other.state (from_done one more) (from_done other rest) f.2 g.2 (done_high one more) (done_high other rest) w.1 in
+    let w = room_once one.is_whole other.is_whole (from_clock one more) (from_clock other rest)
+    (from_clock_high one more) (from_clock_high other rest) r.1 in
+    let c = clock_once one.is_clock_stopped other.is_clock_stopped (from_state one more) (from_state other rest)
+    (from_state_high one more) (from_state_high other rest) w.1 in
+    let s = state_once one.state other.state (from_done one more) (from_done other rest) f.2 g.2 (done_high one more) (done_high other rest) c.1 in
     let d = done_once one.due other.due more rest f.3 g.3 s.1 in
-    (said_same one other h.0 n.0 r.0 w.0 s.0 d.0, d.1)
+    (said_same one other h.0 n.0 r.0 w.0 c.0 s.0 d.0, d.1)

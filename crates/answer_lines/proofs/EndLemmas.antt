@@ -15,10 +15,10 @@ use Rattle.game_over.specs.declared.said.Over.{Over}
 use Rattle.game_over.specs.declared.said.Why.{Why}
 use Rattle.game_over.specs.declared.said.Why.TheVariants.{Stood, PlaysOn, Corrected, SetUp, Unfinished}
 use Rattle.answer_lines.specs.declared.said.Said.{Said}
-use Rattle.answer_lines.specs.Answers.{answer_text, handling_line, number_line, request_line, room_line, state_line}
+use Rattle.answer_lines.specs.Answers.{answer_text, clock_line, handling_line, number_line, request_line, room_line, state_line}
 use Rattle.answer_lines.specs.Ends.{CountFits, EndFits, EndsAreReadInOneWay, OverFits, begins_line, end_text, goes_on_line, over_line, over_words, reason_word, result_word, sure_word}
 use Rattle.answer_lines.specs.Laws.{lacks}
-use Rattle.answer_lines.proofs.AnswerLemmas.{from_done, from_number, from_request, from_room, from_state, in_parts, said_once}
+use Rattle.answer_lines.proofs.AnswerLemmas.{from_clock, from_done, from_number, from_request, from_room, from_state, in_parts, said_once}
 use Rattle.answer_lines.proofs.CutLemmas.{cut_once, decimal_lacks_blank, decimal_lacks_feed, lacks_append}
 use Rattle.answer_lines.proofs.WordLemmas.{behind}
 
@@ -185,6 +185,11 @@ state_rank : (state : Option State) (text : List ℕ) → 4 ≤ rank text → 4 
 state_rank None text h = h
 state_rank (Some state) text h = omega arith
 
+clock_rank : (stopped : Option Bool) (text : List ℕ) → 4 ≤ rank text → 4 ≤ rank (clock_line stopped ++ text)
+clock_rank None text h = h
+clock_rank (Some true) text h = omega arith
+clock_rank (Some false) text h = omega arith
+
 room_rank : (is_whole : Bool) (text : List ℕ) → 4 ≤ rank text → 4 ≤ rank (room_line is_whole ++ text)
 room_rank true text h = h
 room_rank false text h = omega arith
@@ -207,7 +212,8 @@ pub said_rank : (said : Said) (more : List ℕ) → 4 ≤ rank (answer_text said
 said_rank said more =
     let R : List ℕ → Type 0 = λ t. 4 ≤ rank t in
     subst R (sym (in_parts said more)) (handling_rank said.handling (from_number said more) (number_rank said.number (from_request said more)
-    (request_rank said.request (from_room said more) (room_rank said.is_whole (from_state said more) (state_rank said.state (from_done said more) (done_rank said more))))))
+    (request_rank said.request (from_room said more) (room_rank said.is_whole (from_clock said more) (clock_rank said.is_clock_stopped (from_state said more)
+    (state_rank said.state (from_done said more) (done_rank said more)))))))
 
 begins_high : (begins : Option ℕ) (text : List ℕ) → 4 ≤ rank text → 3 ≤ rank (begins_line begins ++ text)
 begins_high None text h = omega (arith, h)

@@ -15,10 +15,10 @@ use Rattle.board_looks.specs.declared.look.Look.{Look}
 use Rattle.board_looks.specs.declared.look.Look.TheVariants.{Doubtful, Stopped, Unplayed, Suspected}
 use Rattle.board_standing.specs.declared.state.State.{State}
 use Rattle.answer_lines.specs.declared.said.Said.{Said}
-use Rattle.answer_lines.specs.Answers.{answer_text, handling_line, number_line, request_line, room_line, state_line}
+use Rattle.answer_lines.specs.Answers.{answer_text, clock_line, handling_line, number_line, request_line, room_line, state_line}
 use Rattle.answer_lines.specs.Laws.{IsSaid, lacks}
 use Rattle.answer_lines.specs.Looks.{LookFits, LooksFit, look_words, looks_text, place_word, why_word}
-use Rattle.answer_lines.proofs.AnswerLemmas.{from_done, from_number, from_request, from_room, from_state, in_parts, said_once}
+use Rattle.answer_lines.proofs.AnswerLemmas.{from_clock, from_done, from_number, from_request, from_room, from_state, in_parts, said_once}
 use Rattle.answer_lines.proofs.CutLemmas.{cut_once, decimal_lacks_blank, decimal_lacks_feed, lacks_append}
 use Rattle.answer_lines.proofs.WordLemmas.{behind, first_of}
 
@@ -246,6 +246,11 @@ state_other : (state : Option State) (text : List ℕ) → BeginsOtherwise text 
 state_other None text other e = other e
 state_other (Some state) text other e = let never : 115 ≡ 108 = e in omega (arith, never)
 
+clock_other : (stopped : Option Bool) (text : List ℕ) → BeginsOtherwise text → BeginsOtherwise (clock_line stopped ++ text)
+clock_other None text other e = other e
+clock_other (Some true) text other e = let never : 99 ≡ 108 = e in omega (arith, never)
+clock_other (Some false) text other e = let never : 99 ≡ 108 = e in omega (arith, never)
+
 room_other : (is_whole : Bool) (text : List ℕ) → BeginsOtherwise text → BeginsOtherwise (room_line is_whole ++ text)
 room_other true text other e = other e
 room_other false text other e = let never : 102 ≡ 108 = e in omega (arith, never)
@@ -269,8 +274,9 @@ said_begins_otherwise said more e =
     handling_other said.handling (from_number said more)
     (number_other said.number (from_request said more)
     (request_other said.request (from_room said more)
-    (room_other said.is_whole (from_state said more)
-    (state_other said.state (from_done said more) (from_done_other said more)))))
+    (room_other said.is_whole (from_clock said more)
+    (clock_other said.is_clock_stopped (from_state said more)
+    (state_other said.state (from_done said more) (from_done_other said more))))))
     (sym (ap first_of (in_parts said more)) ∙ e)
 
 -- Alarms with what is said behind them are read in one way.

@@ -43,6 +43,15 @@ abbrev pub room_line : Bool → List ℕ
 room_line true = []
 room_line false = codes "full\n"
 
+-- whether the clock is stopped, if it is to be said
+abbrev pub clock_words : Bool → List ℕ
+clock_words true = codes "clock stopped"
+clock_words false = codes "clock runs"
+
+abbrev pub clock_line : Option Bool → List ℕ
+clock_line None = []
+clock_line (Some stopped) = clock_words stopped ++ codes "\n"
+
 -- the word of what an arbiter reads first
 abbrev pub kind_word : Kind → List ℕ
 kind_word Waits = codes "WAITS"
@@ -92,4 +101,5 @@ done_line due = done_words due ++ codes "\n"
 
 -- an answer
 abbrev pub answer_text : Said → List ℕ
-answer_text said = handling_line said.handling ++ number_line said.number ++ request_line said.request ++ room_line said.is_whole ++ state_line said.state ++ done_line said.due
+answer_text said = handling_line said.handling ++ number_line said.number ++ request_line said.request ++ room_line said.is_whole ++ clock_line said.is_clock_stopped
+    ++ state_line said.state ++ done_line said.due

@@ -14,6 +14,8 @@ pub struct Said {
     pub request: Option<Request>,
     /// Whether the capture had room for all bytes.
     pub is_whole: bool,
+    /// Whether the clock is stopped, if that is to be said.
+    pub is_clock_stopped: Option<bool>,
     /// How the board stands, if that is to be said.
     pub state: Option<State>,
     /// When to wake, if nothing happens. None: never.

@@ -1,7 +1,7 @@
 //! The lines of an answer, as they are written.
 ghost use Rattle.std.specs.Prelude.{◌≡◌, ◌<◌, ◌+◌, ◌-◌, ◌/◌, ◌%◌, ◌==◌, ◌∷◌, ◌++◌, [], IfOk, OnErr, OnOk, codes, if◌then◌else◌};
 ghost use Rattle.std.specs.Int.{bit_at};
-ghost use Rattle.answer_lines.specs.Answers.{answer_text, done_line, handling_line, hint_text, kind_word, number_line, request_line, room_line, square_text, squares_below, state_line, state_words, time_text};
+ghost use Rattle.answer_lines.specs.Answers.{answer_text, clock_line, done_line, handling_line, hint_text, kind_word, number_line, request_line, room_line, square_text, squares_below, state_line, state_words, time_text};
 
 use crate::said::Said;
 use board_asking::{Handling, Request};
@@ -57,6 +57,16 @@ fn add_room(is_whole: bool, out: &mut Vec<u8>) -> Result<(), AllocError>
         Ok(())
     } else {
         out.extend_from_slice(b"full\n")
+    }
+}
+
+fn add_clock(is_stopped: Option<bool>, out: &mut Vec<u8>) -> Result<(), AllocError>
+    ensures { IfOk result (λ _. out.new.items ≡ out.old.items ++ clock_line is_stopped) }
+{
+    match is_stopped {
+        None => Ok(()),
+        Some(true) => out.extend_from_slice(b"clock stopped\n"),
+        Some(false) => out.extend_from_slice(b"clock runs\n"),
     }
 }
 
@@ -171,6 +181,7 @@ fn answer_text(alloc: Global, said: Said) -> Result<Vec<u8>, AllocError>
     add_number(said.number, &mut text)?;
     add_request(said.request, &mut text)?;
     add_room(said.is_whole, &mut text)?;
+    add_clock(said.is_clock_stopped, &mut text)?;
     add_state(said.state, &mut text)?;
     add_done(said.due, &mut text)?;
     Ok(text)

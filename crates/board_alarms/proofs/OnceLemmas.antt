@@ -19,12 +19,13 @@ use Rattle.board_doubts.specs.declared.heard.Heard.TheVariants.{Shows, Plays, Re
 use Rattle.board_doubts.specs.declared.heard.Seen.{Seen}
 use Rattle.board_doubts.specs.Elsewhere.{Sees}
 use Rattle.board_looks.specs.declared.look.Told.{Told}
-use Rattle.board_looks.specs.Looks.{alarms}
+use Rattle.board_doubts.specs.Clock.{is_stopped}
+use Rattle.board_looks.specs.Looks.{alarms, heard}
 use Rattle.square_runs.specs.Squares.{Marks}
 use Rattle.board_alarms.specs.declared.chunk.Chunk.{Chunk}
 use Rattle.board_alarms.specs.Hearing.{Again, Another, EventHeard, HasResult, HearsEvent, HearsPicture, HearsResult, IsShown, Nothing, Shown, agrees, stands, with_event, with_news}
 use Rattle.board_alarms.specs.Items.{Item, Noted, Sent, events_of}
-use Rattle.board_alarms.specs.Laws.{LookingEndsAll, OpensOnce, TellsOnce}
+use Rattle.board_alarms.specs.Laws.{LookingEndsAll, OpensOnce, StopsOnce, TellsOnce}
 use Rattle.board_alarms.specs.Plies.{CorrectsLast, HearsPlies, MovesOn, heard_ply}
 use Rattle.board_alarms.proofs.PlyLemmas.{same_head}
 
@@ -185,6 +186,9 @@ tells_once setting (Noted at news ∷ items) a b valid g h =
 
 pub opens_once : OpensOnce
 opens_once setting items a b valid g h = g.2 ∙ ap (λ (t : List Told). alarms t) (tells_once setting items g.0 h.0 valid g.1 h.1) ∙ sym h.2
+
+pub stops_once : StopsOnce
+stops_once setting items a b valid g h = g.2 ∙ ap (λ (t : List Told). is_stopped (heard t)) (tells_once setting items g.0 h.0 valid g.1 h.1) ∙ sym h.2
 
 pub looking_ends_all : LookingEndsAll
 looking_ends_all setting items at looks g = g.2 ∙ ap (λ (t : List Told). alarms t) (g.1).4

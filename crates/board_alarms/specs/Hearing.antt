@@ -21,7 +21,8 @@ use Rattle.board_doubts.specs.Elsewhere.{Sees}
 use Rattle.board_looks.specs.declared.look.Look.{Look}
 use Rattle.board_looks.specs.declared.look.Told.{Told}
 use Rattle.board_looks.specs.declared.look.Told.TheVariants.{Hears, Suspects as IsSuspected}
-use Rattle.board_looks.specs.Looks.{alarms}
+use Rattle.board_doubts.specs.Clock.{is_stopped}
+use Rattle.board_looks.specs.Looks.{alarms, heard}
 use Rattle.board_alarms.specs.declared.chunk.Chunk.{Chunk}
 use Rattle.board_alarms.specs.declared.news.News.{News}
 use Rattle.board_alarms.specs.declared.news.News.TheVariants.{Gone, Begins, PutsIn, Looked, PutsBack, Suspects}
@@ -182,6 +183,10 @@ Tells setting (Sent chunk event ∷ items) told = (earlier : List Told) × (old 
 Tells setting (Noted at news ∷ items) told = (earlier : List Told) × (score : Score) × Tells setting items earlier
     × Folds setting.start (deduplicated (entries_in setting (events_of items))) score
     × (told ≡ with_news at (length score.plies) (stands setting.start score.plies (last_picture (entries_in setting (events_of items)))) news earlier)
+
+-- The clock has run, and stands now, or not.
+abbrev pub ClockIsStopped : Setting → List Item → Bool → Type 0
+ClockIsStopped setting items stopped = (told : List Told) × Tells setting items told × (stopped ≡ is_stopped (heard told))
 
 -- These alarms are open.
 abbrev pub AreOpen : Setting → List Item → List Look → Type 0

@@ -4,7 +4,7 @@ ghost use Rattle.board_events.specs.Session.{HasTakenEvents};
 ghost use Rattle.board_events.specs.Settings.{Setting};
 ghost use Rattle.board_looks.specs.declared.look.Told.{Told as ToldOf};
 ghost use Rattle.board_looks.specs.Keeping.{StandsFor as LooksStandFor};
-ghost use Rattle.board_alarms.specs.Hearing.{AreOpen, HasMoved, HasResult, IsShown, last_shown, moves, shown_at, with_news};
+ghost use Rattle.board_alarms.specs.Hearing.{AreOpen, ClockIsStopped, HasMoved, HasResult, IsShown, last_shown, moves, shown_at, with_news};
 ghost use Rattle.board_alarms.specs.Items.{Item, Noted, Sent, events_of};
 ghost use Rattle.board_alarms.specs.Keeping.{StandsFor};
 
@@ -154,6 +154,13 @@ impl Alarms {
         tell_news(&mut self.looks, at, self.course.count, stands, news)?;
         self.line.note(at, news);
         Ok(())
+    }
+
+    /// Whether the clock has run, and stands now.
+    pub fn is_clock_stopped(&self) -> bool
+        ensures { (setting : Setting) (items : List Item) → StandsFor self.now setting items → ClockIsStopped setting items result }
+    {
+        self.looks.is_clock_stopped()
     }
 
     /// The alarms that are open, in the order in which they came.

@@ -12,15 +12,15 @@ use Rattle.board_doubts.specs.declared.heard.Ply.{Ply}
 use Rattle.board_doubts.specs.declared.heard.Seen.{Seen}
 use Rattle.board_doubts.specs.declared.heard.Why.{Why}
 use Rattle.board_doubts.specs.declared.heard.Why.TheVariants.{Late, Elsewhere, BothElsewhere, AfterGap, MovedOn, OtherTime, Returned, TakenBack, Unpressed}
-use Rattle.board_doubts.specs.Doubts.{doubt_by, doubted, hides, is_odd, is_on, may_be_played, is_unhurried, late, may_be_moved, takes_back, was_passed, why_agrees, why_corrects, why_moves, why_played, why_shows}
-use Rattle.board_doubts.specs.Laws.{IsDoubtedFor, OnlyBackIsTakenBack, OnOwnTime, OwnTimePasses, NobodyPresses, PairBackIsDoubted, PressedPlyPasses, PressesEach, SilentReplacementIsDoubted, SixthPlyIsDoubted, StaysUnpressed, has_press, has_press_by, is_own, is_ply, leaves_running, one_by, plies_after, waits_on}
+use Rattle.board_doubts.specs.Doubts.{at_once, doubt_by, doubted, hides, is_odd, is_on, may_be_played, is_unhurried, late, may_be_moved, takes_back, was_passed, why_agrees, why_corrects, why_moves, why_played, why_shows}
+use Rattle.board_doubts.specs.Laws.{IsDoubtedFor, OnlyBackIsTakenBack, OnOwnTime, OwnTimePasses, NobodyPresses, PairBackIsDoubted, PressedPlyPasses, PressesEach, QuickPlyPasses, SilentReplacementIsDoubted, SixthPlyIsDoubted, StaysUnpressed, has_press, has_press_by, is_own, is_ply, leaves_running, one_by, plies_after, waits_on}
 use Rattle.board_doubts.specs.Pace.{last_within, pace_of, quickest, took_longer}
 use Rattle.board_doubts.specs.Pictures.{has_stood, own, stands}
 use Rattle.board_doubts.specs.Plies.{both_back, both_further, ends_pair, is_back, played, played_by}
 use Rattle.board_doubts.specs.Presses.{counts_now, early, is_early, is_left_by, is_press, is_used, known, many, pressed_at, pressed_at_by, presses, quiet, quiet_by, runs, runs_by, unpressed, unpressed_by}
 use Rattle.board_doubts.specs.Recent.{has_gap, pictures, since_news, touched}
-use Rattle.board_doubts.specs.Silent.{has_repeated, is_pair, needed, pause, pending, pending_by, silent, silent_by, soon, suspected, suspects}
-use Rattle.board_doubts.specs.Thinking.{are_most_lent, counting, is_exchanged, is_other, known_counting, lent, lent_by}
+use Rattle.board_doubts.specs.Silent.{has_repeated, is_pair, needed, pause, pending, pending_by, silent, silent_by, suspected, suspects}
+use Rattle.board_doubts.specs.Thinking.{are_most_lent, counting, is_exchanged, is_other, known_counting, lent, lent_by, told_late}
 use Rattle.board_doubts.specs.Unheard.{is_unheard}
 use Rattle.board_doubts.specs.Waiting.{has_moved, ply_times, waited}
 
@@ -424,7 +424,7 @@ taken_not event past each (inl never) shown =
     ∙ ap (λ b. b && rest) (and_false (is_back (plies 0) (plies 2)))
 taken_not event past each (inr low) shown =
     let back : Bool = both_back (played_by event.what (played past)) in
-    let quick : Bool = last_within soon (ply_times past) in
+    let quick : Bool = last_within at_once (ply_times past) in
     let below = few_below (pressed_at past) (has_press past) (unpressed past) low in
     let used : is_used past ≡ true = lt-ltb (unpressed past) many (omega (arith, below)) in
     ap (λ b. back && (ends_pair past || (quick && (is_unhurried past && not b)))) used
@@ -595,3 +595,22 @@ pub own_time_passes : OwnTimePasses
 own_time_passes event past own =
     let all : AllOwn (lent_by event.what false (known_counting past) (lent past)) = own_by event.what false (known_counting past) (lent past) own.0 (own_in past own.1) in
     not_other_time event past (ap (λ b. b && not (are_most_lent (lent past))) (few_lent (lent_by event.what false (known_counting past) (lent past)) all))
+
+lends_none : (what : Heard) (added : Bool) (before : List Bool) → lent_by what added None before ≡ before
+lends_none (Plays ply) added before = refl
+lends_none _ added before = refl
+
+and_not : (b : Bool) → (b && not b) ≡ false
+and_not true = refl
+and_not false = refl
+
+unknown_if_quick : (unheard quick : Bool) (counts : Option Bool) → quick ≡ true → (if unheard || quick then None else counts) ≡ None
+unknown_if_quick true quick counts is = refl
+unknown_if_quick false quick counts is = ap (λ b. if b then None else counts) is
+
+pub quick_ply_passes : QuickPlyPasses
+quick_ply_passes event past quick =
+    let none : known_counting past ≡ None = unknown_if_quick (is_unheard past) (last_within told_late (ply_times past)) (counting past) quick in
+    not_other_time event past (
+    ap (λ k. are_most_lent (lent_by event.what false k (lent past)) && not (are_most_lent (lent past))) none
+    ∙ ap (λ l. are_most_lent l && not (are_most_lent (lent past))) (lends_none event.what false (lent past)) ∙ and_not (are_most_lent (lent past)))

@@ -16,7 +16,7 @@ use Rattle.board_doubts.specs.Plies.{both_back, ends_pair, played, played_by}
 use Rattle.board_doubts.specs.Presses.{counts_now, is_left_by, is_used, known, quiet, runs, unpressed}
 use Rattle.board_doubts.specs.Recent.{gap, has_gap, is_restart, pictures, since_news, touched}
 pub use Rattle.board_doubts.specs.Silent.{has_repeated}
-use Rattle.board_doubts.specs.Silent.{silent, soon}
+use Rattle.board_doubts.specs.Silent.{silent}
 use Rattle.board_doubts.specs.Thinking.{is_exchanged}
 use Rattle.board_doubts.specs.Unheard.{is_unheard}
 use Rattle.board_doubts.specs.Waiting.{has_moved, ply_times, waited}
@@ -107,9 +107,13 @@ unhurried = 6000
 abbrev pub is_unhurried : List Event → Bool
 is_unhurried past = not (half_within unhurried (take pace_of (ply_times past)))
 
--- The last ply was made soon after the one before it, though the players are unhurried and use no clock.
+-- Once one side has taken its ply back, the other one does so within this, in milliseconds.
+abbrev pub at_once : ℕ
+at_once = 2000
+
+-- The last ply was made at once after the one before it, though the players are unhurried and use no clock.
 abbrev pub is_odd : List Event → Bool
-is_odd past = last_within soon (ply_times past) && (is_unhurried past && not (is_used past))
+is_odd past = last_within at_once (ply_times past) && (is_unhurried past && not (is_used past))
 
 -- Both sides have taken plies back, so oddly, or by a pair that is put in: no picture has shown the plies that went back.
 abbrev pub takes_back : Heard → List Event → Bool

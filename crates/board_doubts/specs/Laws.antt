@@ -21,7 +21,7 @@ use Rattle.board_doubts.specs.Plies.{both_back, both_further, ends_pair, is_back
 use Rattle.board_doubts.specs.Presses.{is_early, is_used, pressed_at, presses, quiet, runs, unpressed}
 use Rattle.board_doubts.specs.Silent.{is_pair}
 use Rattle.board_doubts.specs.Recent.{gap, has_gap, is_restart, pictures, since_news, touched}
-use Rattle.board_doubts.specs.Thinking.{counting, is_other, known_counting}
+use Rattle.board_doubts.specs.Thinking.{counting, is_other, known_counting, told_late}
 use Rattle.board_doubts.specs.Unheard.{is_unheard}
 use Rattle.board_doubts.specs.Unplayed.{odd, unplayed_of}
 use Rattle.board_doubts.specs.Waiting.{has_moved, ply_times, waited}
@@ -238,6 +238,10 @@ OnOwnTime (event ∷ past) = (is_own event.what (known_counting past) ≡ true) 
 -- While players think on their own time, no ply is doubted for that.
 abbrev pub OwnTimePasses : Type 0
 OwnTimePasses = (event : Event) (past : List Event) → OnOwnTime (event ∷ past) → IsDoubtedFor OtherTime event past → ⊥
+
+-- Nor is a quick one: the clock may not yet have told of the press before it.
+abbrev pub QuickPlyPasses : Type 0
+QuickPlyPasses = (event : Event) (past : List Event) → last_within told_late (ply_times past) ≡ true → IsDoubtedFor OtherTime event past → ⊥
 
 -- Nothing is heard that says something of the clock, no ply, and no further time in which the board isn't heard.
 abbrev pub is_no_sign : Heard → Bool

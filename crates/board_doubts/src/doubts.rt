@@ -3,11 +3,12 @@ ghost use Rattle.std.specs.Prelude.{◌≡◌, ◌/◌, ◌&&◌, ◌||◌, ◌�
 ghost use Rattle.board_doubts.specs.declared.heard.Event.{Event as EventOf};
 ghost use Rattle.board_doubts.specs.declared.heard.Heard.TheVariants.{Agrees, Shows};
 ghost use Rattle.board_doubts.specs.declared.heard.Seen.{Seen as SeenOf};
-ghost use Rattle.board_doubts.specs.Doubts.{begun_by, doubt_by, doubt_of, doubted as doubted_of, has_room as has_room_of, hides as hides_of, is_odd as is_odd_of, is_on as is_on_of, may_be_played as may_be_played_of, is_recent as is_recent_of, is_unhurried as is_unhurried_of, may_hide as may_hide_of, over_by, passing as passing_of, takes_back as takes_back_of, was_passed as was_passed_of, why_agrees as why_agrees_of, why_by, why_corrects as why_corrects_of, why_moves as why_moves_of, why_played as why_played_of, why_shows as why_shows_of};
+ghost use Rattle.board_doubts.specs.Doubts.{at_once, begun_by, doubt_by, doubt_of, doubted as doubted_of, has_room as has_room_of, hides as hides_of, is_odd as is_odd_of, is_on as is_on_of, may_be_played as may_be_played_of, is_recent as is_recent_of, is_unhurried as is_unhurried_of, may_hide as may_hide_of, over_by, passing as passing_of, takes_back as takes_back_of, was_passed as was_passed_of, why_agrees as why_agrees_of, why_by, why_corrects as why_corrects_of, why_moves as why_moves_of, why_played as why_played_of, why_shows as why_shows_of};
 ghost use Rattle.board_doubts.specs.Pace.{last_within};
 ghost use Rattle.board_doubts.specs.Plies.{both_back, played, played_by};
 ghost use Rattle.board_doubts.specs.Recent.{since_news};
 ghost use Rattle.board_doubts.specs.Silent.{is_pair as is_pair_of, pending as pending_of, repeats_by, soon, suspected as suspected_of};
+ghost use Rattle.board_doubts.specs.Thinking.{is_unknown as is_unknown_of, told_late};
 ghost use Rattle.board_doubts.specs.Unplayed.{unpressed_last};
 ghost use Rattle.board_doubts.specs.Waiting.{moved_by, ply_times, times_by};
 ghost use Rattle.board_doubts.specs.Keeping.{KeepsPace, KeepsRecent, StandsFor};
@@ -38,6 +39,12 @@ const SOON: u64 = 3_000;
 
 /// Before plies are taken back, players stop to think for longer than this.
 const PAUSE: u64 = 2_000;
+
+/// Once one side has taken its ply back, the other one does so within this.
+const AT_ONCE: u64 = 2_000;
+
+/// At a ply that took no longer than this the clock may not yet have told of the press before it.
+const TOLD_LATE: u64 = 2_000;
 
 /// Unhurried players without a clock need longer than this for more than half of their plies.
 const UNHURRIED: u64 = 6_000;
@@ -198,6 +205,7 @@ impl Doubts {
         let time = self.waited.until(event.at);
         let is_press = is_press(event.what, self.thinking.counting());
         let is_quick = self.pace.was_within(QUICKEST);
+        let is_unknown = self.is_unknown();
         let pending = self.pending_after(event);
         self.passing = self.passing_after(event, why);
         self.pending = pending;
@@ -207,7 +215,7 @@ impl Doubts {
         self.plies = self.plies.after(event.what);
         self.presses
             .take(event, is_press, self.is_unheard, is_quick);
-        self.thinking.take(event, self.is_unheard);
+        self.thinking.take(event, is_unknown);
         self.is_unheard = unheard_after(event.what, self.is_unheard);
         self.has_moved = moved_after(event.what, self.has_moved);
         self.has_begun = begun_after(event.what, self.has_begun);
@@ -381,7 +389,7 @@ impl Doubts {
         if self.presses.is_left(what, self.pace.was_within(QUICKEST)) {
             return Some(Why::Unpressed);
         }
-        if self.thinking.is_exchanged(what, self.is_unheard) {
+        if self.thinking.is_exchanged(what, self.is_unknown()) {
             Some(Why::OtherTime)
         } else {
             None
@@ -396,11 +404,18 @@ impl Doubts {
         both(are_back, either(self.pair == 1, self.is_odd()))
     }
 
-    /// Whether the last ply was made soon, by unhurried players without a clock.
+    /// Whether it isn't known on whose time the last ply was thought about.
+    fn is_unknown(&self) -> bool
+        ensures { (past : List EventOf) → StandsFor self.now past → result ≡ is_unknown_of past }
+    {
+        either(self.is_unheard, self.pace.was_within(TOLD_LATE))
+    }
+
+    /// Whether the last ply was made at once, by unhurried players without a clock.
     fn is_odd(&self) -> bool
         ensures { (past : List EventOf) → StandsFor self.now past → result ≡ is_odd_of past }
     {
-        self.pace.was_within(SOON) && (self.is_unhurried() && !self.presses.is_used())
+        self.pace.was_within(AT_ONCE) && (self.is_unhurried() && !self.presses.is_used())
     }
 
     /// What the last ply is doubted for after this is heard, if nobody turns out to have pressed.

@@ -1,5 +1,5 @@
 //! What holds of each history. Each law is the contract of a function, which does nothing.
-ghost use Rattle.board_doubts.specs.Laws.{ClockIsKnownAgain, HandsOffPasses, NoPawnCounts, OnlyBackIsTakenBack, OnlyWhileStopped, OwnTimePasses, PairBackIsDoubted, PressedEndPasses, PressedPlyPasses, QuickCorrectionPasses, ReturnCounts, RunningClockPasses, SecondMoveIsTried, ShortGapPasses, SilenceIsDoubted, SilentReplacementIsDoubted, SixthPlyIsDoubted, StaysDoubtful, StoppedMoveIsNamed, UndoubtedCorrection, UndoubtedMove};
+ghost use Rattle.board_doubts.specs.Laws.{ClockIsKnownAgain, HandsOffPasses, NoPawnCounts, OnlyBackIsTakenBack, OnlyWhileStopped, OwnTimePasses, PairBackIsDoubted, PressedEndPasses, PressedPlyPasses, QuickCorrectionPasses, QuickPlyPasses, ReturnCounts, RunningClockPasses, SecondMoveIsTried, ShortGapPasses, SilenceIsDoubted, SilentReplacementIsDoubted, SixthPlyIsDoubted, StaysDoubtful, StoppedMoveIsNamed, UndoubtedCorrection, UndoubtedMove};
 
 /// What is doubtful stays so, whatever comes later.
 pub fn stays_doubtful()
@@ -94,6 +94,11 @@ pub fn clock_is_known_again()
 /// While players think on their own time, no ply is doubted for that.
 pub fn own_time_passes()
     ensures { OwnTimePasses }
+{}
+
+/// No quick ply is doubted for that.
+pub fn quick_ply_passes()
+    ensures { QuickPlyPasses }
 {}
 
 /// A square counts if its piece could go back from there.

@@ -162,7 +162,7 @@ impl StoppedClock {
     }
 
     /// Whether the clock has run, and stands now.
-    fn is_stopped(&self) -> bool
+    pub fn is_stopped(&self) -> bool
         ensures { (past : List EventOf) → ClockStandsFor self.now past → result ≡ is_stopped_of past }
     {
         self.has_run && self.stands_since.is_some() && !self.is_unheard

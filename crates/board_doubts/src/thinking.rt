@@ -2,8 +2,7 @@
 ghost use Rattle.std.specs.Prelude.{◌≡◌, ◌∷◌, [], Bool, List, None, count_by, if◌then◌else◌};
 ghost use Rattle.board_doubts.specs.declared.heard.Event.{Event as EventOf};
 ghost use Rattle.board_doubts.specs.Pace.{pace_of};
-ghost use Rattle.board_doubts.specs.Thinking.{are_most_lent, counting as counting_of, counting_by, is_exchanged as is_exchanged_of, is_other as is_other_of, lent_by};
-ghost use Rattle.board_doubts.specs.Unheard.{is_unheard as is_unheard_of};
+ghost use Rattle.board_doubts.specs.Thinking.{are_most_lent, counting as counting_of, counting_by, is_exchanged as is_exchanged_of, is_other as is_other_of, is_unknown as is_unknown_of, lent_by};
 ghost use Rattle.board_doubts.specs.Keeping.{KeepsThinking, filled};
 
 use crate::heard::{Event, Heard};
@@ -38,11 +37,11 @@ pub fn is_other(one: bool, other: bool) -> bool
     if one { !other } else { other }
 }
 
-/// What is known while the clock is heard, or isn't.
-fn known(is_unheard: bool, counting: Option<bool>) -> Option<bool>
-    ensures { result ≡ (if is_unheard then None else counting) }
+/// Whose time runs, unless it isn't known.
+fn known(is_unknown: bool, counting: Option<bool>) -> Option<bool>
+    ensures { result ≡ (if is_unknown then None else counting) }
 {
-    if is_unheard { None } else { counting }
+    if is_unknown { None } else { counting }
 }
 
 /// With one ply more.
@@ -94,20 +93,20 @@ impl Thinking {
         self.counting
     }
 
-    /// Takes what is heard, where the clock wasn't heard before, or was.
-    pub fn take(&mut self, event: Event, is_unheard: bool)
-        ensures { (past : List EventOf) → is_unheard ≡ is_unheard_of past → KeepsThinking self.old past → KeepsThinking self.new (event ∷ past) }
+    /// Takes what is heard, where it isn't known before whose time runs, or is.
+    pub fn take(&mut self, event: Event, is_unknown: bool)
+        ensures { (past : List EventOf) → is_unknown ≡ is_unknown_of past → KeepsThinking self.old past → KeepsThinking self.new (event ∷ past) }
     {
-        let counting = known(is_unheard, self.counting);
+        let counting = known(is_unknown, self.counting);
         self.lent = lent_after(event.what, event.is_added, counting, self.lent);
         self.counting = counting_after(event.what, self.counting);
     }
 
     /// Whether with this ply seven of the last eight were thought about on the other side's time, and before it not so many.
-    pub fn is_exchanged(&self, what: Heard, is_unheard: bool) -> bool
-        ensures { (past : List EventOf) → is_unheard ≡ is_unheard_of past → KeepsThinking self.now past → result ≡ is_exchanged_of what past }
+    pub fn is_exchanged(&self, what: Heard, is_unknown: bool) -> bool
+        ensures { (past : List EventOf) → is_unknown ≡ is_unknown_of past → KeepsThinking self.now past → result ≡ is_exchanged_of what past }
     {
-        let counting = known(is_unheard, self.counting);
+        let counting = known(is_unknown, self.counting);
         let lent = lent_after(what, false, counting, self.lent);
         let are = are_most(&lent);
         let were = are_most(&self.lent);

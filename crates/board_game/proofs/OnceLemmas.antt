@@ -28,13 +28,13 @@ use Rattle.board_standing.specs.declared.heard.Picture.{Picture}
 use Rattle.recovery.proofs.WovenLemmas.{recovers_same}
 use Rattle.board_game.specs.Hearing.{Changes, Compares, Hears, HearsEvent, HearsPicture, HearsResult, IsMask, IsNew, heard_of, with_heard}
 use Rattle.board_game.specs.History.{Adds, Bytes, Came, Finds, Item, Makes, News, Noted, Pair, Sent, bytes_of, chunk_of, events_of, with_found}
-use Rattle.board_alarms.specs.Hearing.{AreOpen}
-use Rattle.board_alarms.specs.Laws.{OpensOnce as AlarmsOpenOnce}
+use Rattle.board_alarms.specs.Hearing.{AreOpen, ClockIsStopped}
+use Rattle.board_alarms.specs.Laws.{OpensOnce as AlarmsOpenOnce, StopsOnce as ClockStopsOnce}
 use Rattle.board_game.specs.Alarming.{alarm_items}
 use Rattle.board_endings.specs.Laws.{DueOnce, EndsOnce as EndingsAreOne, SameUntilDue}
 use Rattle.board_endings.specs.Saying.{IsDueAt, IsEndAt}
 use Rattle.board_game.specs.Ending.{end_items}
-use Rattle.board_game.specs.Laws.{EndDueOnce, EndStaysUntilDue, EndsOnce, HearsOnce, OpensOnce}
+use Rattle.board_game.specs.Laws.{EndDueOnce, EndStaysUntilDue, EndsOnce, HearsOnce, OpensOnce, StopsOnce}
 use Rattle.board_game.proofs.PlainLemmas.{ShowsOnce, same_shown}
 
 -- ---- masks
@@ -219,6 +219,11 @@ pub opens_once : ShowsOnce → RecoversOnce → AlarmsOpenOnce → OpensOnce
 opens_once shows once opens setting recovers past a b valid g h =
     let items = makes_once shows once setting recovers past g.0 h.0 valid g.1 h.1 in
     opens setting (alarm_items h.0) a b valid (subst (λ (is : List Item). AreOpen setting (alarm_items is) a) items g.2) h.2
+
+pub stops_once : ShowsOnce → RecoversOnce → ClockStopsOnce → StopsOnce
+stops_once shows once stops setting recovers past a b valid g h =
+    let items = makes_once shows once setting recovers past g.0 h.0 valid g.1 h.1 in
+    stops setting (alarm_items h.0) a b valid (subst (λ (is : List Item). ClockIsStopped setting (alarm_items is) a) items g.2) h.2
 
 pub ends_once : ShowsOnce → RecoversOnce → EndingsAreOne → EndsOnce
 ends_once shows once ends setting recovers past now a b valid g h =

@@ -12,10 +12,10 @@ use Rattle.square_runs.specs.Shown.{Shown, since_when}
 use Rattle.board_events.specs.Commands.{past_of}
 use Rattle.board_events.specs.Entries.{entry_at}
 use Rattle.board_events.specs.Settings.{Setting}
-use Rattle.board_alarms.specs.Hearing.{AreOpen}
+use Rattle.board_alarms.specs.Hearing.{AreOpen, ClockIsStopped as IsStopped}
 use Rattle.board_alarms.specs.declared.news.News.TheVariants.{PutsIn}
 use Rattle.board_alarms.specs.Items.{Item as AlarmItem, Noted as Notes, Sent as Comes}
-use Rattle.board_alarms.specs.Laws.{OpensOnce as AlarmsOpenOnce}
+use Rattle.board_alarms.specs.Laws.{OpensOnce as AlarmsOpenOnce, StopsOnce as ClockStopsOnce}
 use Rattle.board_looks.specs.declared.look.Look.{Look}
 use Rattle.board_endings.specs.declared.news.End.{End}
 use Rattle.board_endings.specs.Items.{Item as EndItem, Sent as Ends_with}
@@ -36,7 +36,7 @@ use Rattle.pair_frames.specs.PutIn.{put_in}
 use Rattle.board_alarms.specs.declared.chunk.Chunk.{Chunk}
 use Rattle.board_game.specs.declared.note.Note.{Note}
 use Rattle.board_game.specs.declared.note.Note.TheVariants.{Line, Looked, PutsBack, Reopens as IsReopened, Passes, Resumes, Suspects}
-use Rattle.board_game.specs.Alarming.{AlarmsAre, alarm_items, news_of, of_line, with_news}
+use Rattle.board_game.specs.Alarming.{AlarmsAre, ClockIsStopped, alarm_items, news_of, of_line, with_news}
 use Rattle.board_game.specs.Ending.{IsEndDueOf, IsEndOf, bytes_with, end_items, end_news, end_of_line, with_end_news}
 use Rattle.board_game.specs.Hearing.{Hears, HearsEvent, HearsPicture, HearsResult, IsHeard, heard_of, with_heard}
 use Rattle.board_game.specs.History.{Adds, AreShown, Bytes, Came, Item, Makes, News, Noted, Pair, Sent, bytes_of, chunk_of, events_of, put_in_with, with_events, with_found}
@@ -430,13 +430,23 @@ quiet_alarms (Noted at Passes ∷ items) = quiet_alarms items
 quiet_alarms (Noted at Resumes ∷ items) = quiet_alarms items
 quiet_alarms (Noted at (Suspects n) ∷ items) = ap (λ (is : List AlarmItem). with_news at (news_of (Suspects n)) is) (quiet_alarms items)
 
+-- The same items are told of alarms.
+alarms_quiet : ShowsOnce → RecoversOnce → (setting : Setting) (recovers : Bool) (one other : List Came) (a b : List Item) → Valid setting.start
+    → but_silence one ≡ but_silence other → Makes setting recovers one a → Makes setting recovers other b → alarm_items a ≡ alarm_items b
+alarms_quiet shows once setting recovers one other a b valid same g h =
+    sym (quiet_alarms a) ∙ ap (λ (is : List Item). alarm_items is) (items_quiet shows once setting recovers one other a b valid same g h) ∙ quiet_alarms b
+
 alarms_alike : ShowsOnce → RecoversOnce → AlarmsOpenOnce → (setting : Setting) (recovers : Bool) (one other : List Came) (a b : List Look) → Valid setting.start
     → but_silence one ≡ but_silence other → AlarmsAre setting recovers one a → AlarmsAre setting recovers other b → a ≡ b
 alarms_alike shows once opens setting recovers one other a b valid same g h =
-    let items : alarm_items g.0 ≡ alarm_items h.0 =
-    sym (quiet_alarms g.0) ∙ ap (λ (is : List Item). alarm_items is) (items_quiet shows once setting recovers one other g.0 h.0 valid same g.1 h.1) ∙ quiet_alarms h.0 in
     let O : List AlarmItem → Type 0 = λ is. AreOpen setting is a in
-    opens setting (alarm_items h.0) a b valid (subst O items g.2) h.2
+    opens setting (alarm_items h.0) a b valid (subst O (alarms_quiet shows once setting recovers one other g.0 h.0 valid same g.1 h.1) g.2) h.2
+
+clock_alike : ShowsOnce → RecoversOnce → ClockStopsOnce → (setting : Setting) (recovers : Bool) (one other : List Came) (a b : Bool) → Valid setting.start
+    → but_silence one ≡ but_silence other → ClockIsStopped setting recovers one a → ClockIsStopped setting recovers other b → a ≡ b
+clock_alike shows once stops setting recovers one other a b valid same g h =
+    let O : List AlarmItem → Type 0 = λ is. IsStopped setting is a in
+    stops setting (alarm_items h.0) a b valid (subst O (alarms_quiet shows once setting recovers one other g.0 h.0 valid same g.1 h.1) g.2) h.2
 
 -- ---- the end of the game
 
@@ -488,12 +498,13 @@ dues_alike shows once dues setting recovers one other now a b valid same g h =
     let D : List EndItem → Type 0 = λ is. IsDueAt setting is now a in
     dues setting (end_items h.0) now a b valid (subst D (ends_quiet shows once setting recovers one other g.0 h.0 valid same g.1 h.1) g.2) h.2
 
-pub is_forgotten : ShowsOnce → RecoversOnce → AlarmsOpenOnce → EndingsAreOne → DueOnce → SilenceIsForgotten
-is_forgotten shows once opens ends dues setting recovers at since first second valid same =
+pub is_forgotten : ShowsOnce → RecoversOnce → AlarmsOpenOnce → ClockStopsOnce → EndingsAreOne → DueOnce → SilenceIsForgotten
+is_forgotten shows once opens stops ends dues setting recovers at since first second valid same =
     let all = since_quiet at since first second same in (
       λ now heard told g h. read_alike now heard told (heard_alike shows once setting recovers _ _ heard told valid all g h)
           (silent_alike setting recovers at since first second heard told g h),
       λ looks alarms g h. alarms_alike shows once opens setting recovers _ _ looks alarms valid all g h,
       λ now end ending g h. ends_alike shows once ends setting recovers _ _ now end ending valid all g h,
       λ now due time g h. dues_alike shows once dues setting recovers _ _ now due time valid all g h,
+      λ stopped stands g h. clock_alike shows once stops setting recovers _ _ stopped stands valid all g h,
     )

@@ -6,7 +6,7 @@ use Rattle.board_standing.specs.declared.heard.Heard.{Heard}
 use Rattle.board_standing.specs.declared.heard.Heard.TheVariants.{Unplugs, Begins as RecorderBegins}
 use Rattle.board_alarms.specs.declared.news.News.{News}
 use Rattle.board_alarms.specs.declared.news.News.TheVariants.{Gone, Begins, PutsIn, Looked as HasLooked, PutsBack as MustPutBack, Suspects as IsSuspected}
-use Rattle.board_alarms.specs.Hearing.{AreOpen}
+use Rattle.board_alarms.specs.Hearing.{AreOpen, ClockIsStopped as IsStopped}
 use Rattle.board_alarms.specs.Items.{Item as AlarmItem, Sent as Comes, Noted as Notes}
 use Rattle.board_game.specs.declared.note.Note.{Note}
 use Rattle.board_game.specs.declared.note.Note.TheVariants.{Line, Looked, PutsBack, Reopens, Passes, Resumes, Suspects}
@@ -37,6 +37,10 @@ alarm_items [] = []
 alarm_items (Sent chunk x ∷ items) = Comes chunk x.event ∷ alarm_items items
 alarm_items (Pair chunk offset r ∷ items) = Notes chunk.when.at PutsIn ∷ alarm_items items
 alarm_items (Noted at note ∷ items) = with_news at (news_of note) (alarm_items items)
+
+-- By what came the clock has run, and stands now, or not.
+abbrev pub ClockIsStopped : Setting → Bool → List Came → Bool → Type 0
+ClockIsStopped setting recovers past stopped = (items : List Item) × Makes setting recovers past items × IsStopped setting (alarm_items items) stopped
 
 -- These alarms are open, by what came.
 abbrev pub AlarmsAre : Setting → Bool → List Came → List Look → Type 0

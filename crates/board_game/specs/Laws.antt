@@ -8,7 +8,7 @@ use Rattle.board_listing.specs.Listings.{HasLines}
 use Rattle.board_standing.specs.declared.heard.Event.{Event as Told}
 use Rattle.square_runs.specs.Lasting.{IsBefore}
 use Rattle.board_looks.specs.declared.look.Look.{Look}
-use Rattle.board_game.specs.Alarming.{AlarmsAre}
+use Rattle.board_game.specs.Alarming.{AlarmsAre, ClockIsStopped}
 use Rattle.board_endings.specs.declared.news.End.{End}
 use Rattle.board_game.specs.Ending.{IsEndDueOf, IsEndOf}
 use Rattle.board_game.specs.Hearing.{IsHeard}
@@ -29,6 +29,11 @@ HearsOnce = (setting : Setting) (recovers : Bool) (past : List Came) (a b : List
 abbrev pub OpensOnce : Type 0
 OpensOnce = (setting : Setting) (recovers : Bool) (past : List Came) (a b : List Look) → Valid setting.start → AlarmsAre setting recovers past a
     → AlarmsAre setting recovers past b → a ≡ b
+
+-- So does whether the clock is stopped.
+abbrev pub StopsOnce : Type 0
+StopsOnce = (setting : Setting) (recovers : Bool) (past : List Came) (a b : Bool) → Valid setting.start → ClockIsStopped setting recovers past a
+    → ClockIsStopped setting recovers past b → a ≡ b
 
 -- So the game's end follows from what came.
 abbrev pub EndsOnce : Type 0

@@ -10,7 +10,7 @@ use Rattle.board_standing.specs.declared.heard.Heard.TheVariants.{Stops, Answers
 use Rattle.board_standing.specs.States.{due_at, hint_at, kind_at, names_at, since_at}
 use Rattle.board_game.specs.declared.note.Note.{Note}
 use Rattle.board_game.specs.declared.note.Note.TheVariants.{Line}
-use Rattle.board_game.specs.Alarming.{AlarmsAre}
+use Rattle.board_game.specs.Alarming.{AlarmsAre, ClockIsStopped}
 use Rattle.board_game.specs.Ending.{IsEndDueOf, IsEndOf}
 use Rattle.board_game.specs.Hearing.{IsHeard}
 use Rattle.board_game.specs.History.{Bytes, Came, News}
@@ -40,7 +40,8 @@ pub record ReadAlike (now : ℕ) (one other : List Told) : Type 0 where
   pub due : due_at now one ≡ due_at now other
 
 -- A board answered at some time, and the same came since. If the same had come before, but for silence, then the same is read of the
--- board, the same alarms are open, the game stands alike with its end, and time ends it at the same time.
+-- board, the same alarms are open, the game stands alike with its end, time ends it at the same time, and the clock is stopped or not in
+-- both.
 abbrev pub SilenceIsForgotten : Type 0
 SilenceIsForgotten = (setting : Setting) (recovers : Bool) (at : ℕ) (since first second : List Came) → Valid setting.start → but_silence first ≡ but_silence second
     → let one : List Came = since ++ News at (Line Answers) ∷ first in
@@ -49,3 +50,4 @@ SilenceIsForgotten = (setting : Setting) (recovers : Bool) (at : ℕ) (since fir
     × ((looks alarms : List Look) → AlarmsAre setting recovers one looks → AlarmsAre setting recovers other alarms → looks ≡ alarms)
     × ((now : ℕ) (end ending : End) → IsEndOf setting recovers one now end → IsEndOf setting recovers other now ending → end ≡ ending)
     × ((now : ℕ) (due time : Option ℕ) → IsEndDueOf setting recovers one now due → IsEndDueOf setting recovers other now time → due ≡ time)
+    × ((stopped stands : Bool) → ClockIsStopped setting recovers one stopped → ClockIsStopped setting recovers other stands → stopped ≡ stands)

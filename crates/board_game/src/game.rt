@@ -4,7 +4,7 @@ ghost use Rattle.board_captures.specs.Reading.{setting_of};
 ghost use Rattle.board_events.specs.Limits.{limit};
 ghost use Rattle.board_events.specs.Session.{HasTakenEvents};
 ghost use Rattle.board_events.specs.Settings.{Setting};
-ghost use Rattle.board_game.specs.Alarming.{AlarmsAre};
+ghost use Rattle.board_game.specs.Alarming.{AlarmsAre, ClockIsStopped};
 ghost use Rattle.board_game.specs.Ending.{IsEndDueOf, IsEndOf};
 ghost use Rattle.board_game.specs.Games.{HasBegun, IsDueOf, IsStateOf, StandsFor};
 ghost use Rattle.board_game.specs.History.{Bytes, Came, Item, Makes, News, events_of, room_of};
@@ -178,6 +178,14 @@ impl Game {
             → AlarmsAre setting recovers past result.now }
     {
         self.following.teller().alarms().open()
+    }
+
+    /// Whether the clock has run, and stands now.
+    pub fn is_clock_stopped(&self) -> bool
+        ensures { (setting : Setting) (recovers : Bool) (past : List Came) (text : List ℕ) → StandsFor self.now setting recovers past text
+            → ClockIsStopped setting recovers past result }
+    {
+        self.following.teller().alarms().is_clock_stopped()
     }
 
     /// How the board stands at this time, which is none before the last at which something came.

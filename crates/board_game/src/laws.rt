@@ -1,8 +1,8 @@
 //! What holds of each history. Each law is the contract of a function, which does nothing.
-ghost use Rattle.board_game.specs.Laws.{EndDueOnce, EndStaysUntilDue, EndsOnce, HearsOnce, OpensOnce, ReportsAsWatch};
+ghost use Rattle.board_game.specs.Laws.{EndDueOnce, EndStaysUntilDue, EndsOnce, HearsOnce, OpensOnce, ReportsAsWatch, StopsOnce};
 ghost use Rattle.board_game.specs.Silences.{SilenceIsForgotten};
 
-use board_alarms::laws::opens_once as alarms_open_once;
+use board_alarms::laws::{opens_once as alarms_open_once, stops_once as clock_stops_once};
 use board_endings::laws::{due_once, ends_once as endings_are_one, same_until_due};
 use dgt_frame::laws::shows_once;
 use unseen_pairs::laws::recovers_once;
@@ -35,6 +35,18 @@ pub fn opens_once()
     recovers_once();
     // For its clause: what events and news open.
     alarms_open_once();
+}
+
+/// From a valid start, what came says whether the clock is stopped.
+pub fn stops_once()
+    ensures { StopsOnce }
+{
+    // For its clause: bytes show one list of events.
+    shows_once();
+    // For its clause: at an event one pair is recovered, or none.
+    recovers_once();
+    // For its clause: whether events and news stop the clock.
+    clock_stops_once();
 }
 
 /// From a valid start, the game's end follows from what came.
@@ -74,7 +86,7 @@ pub fn end_stays_until_due()
 }
 
 /// From a valid start, a silence that is over changes neither what is read of the board, nor which alarms are open, nor how the game
-/// stands with its end, nor when time ends it.
+/// stands with its end, nor when time ends it, nor whether the clock is stopped.
 pub fn silence_is_forgotten()
     ensures { SilenceIsForgotten }
 {
@@ -84,6 +96,8 @@ pub fn silence_is_forgotten()
     recovers_once();
     // For its clause: what events and news open.
     alarms_open_once();
+    // For its clause: whether events and news stop the clock.
+    clock_stops_once();
     // For its clause: what events and news say of the end.
     endings_are_one();
     // For its clause: when events and news let time end it.

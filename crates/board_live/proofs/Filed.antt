@@ -18,7 +18,7 @@ use Rattle.board_looks.specs.declared.look.Look.{Look}
 use Rattle.board_alarms.specs.declared.chunk.When.{When}
 use Rattle.board_game.specs.declared.note.Note.{Note}
 use Rattle.board_game.specs.declared.note.Note.TheVariants.{Line as LineNews}
-use Rattle.board_game.specs.Alarming.{AlarmsAre}
+use Rattle.board_game.specs.Alarming.{AlarmsAre, ClockIsStopped}
 use Rattle.board_game.specs.Ending.{IsEndOf}
 use Rattle.board_game.specs.Games.{IsStateOf}
 use Rattle.board_game.specs.Hearing.{IsHeard}
@@ -36,7 +36,7 @@ use Rattle.board_live.specs.Coming.{came, came_with, lined, silence, when, with_
 use Rattle.board_live.specs.Due.{IsDue}
 use Rattle.board_live.specs.Ending.{last_at}
 use Rattle.board_live.specs.Laws.{with_kept, with_number, with_told}
-use Rattle.board_live.specs.Live.{Answers, unsaid}
+use Rattle.board_live.specs.Live.{Answers, clock_news, unsaid}
 use Rattle.board_live.specs.Moments.{Moment, already, begins, cabled, is_added, news_of}
 use Rattle.board_live.specs.Restarts.{FilesSayTheSame, IsAnswered, WakesAt, as_filed}
 use Rattle.board_live.specs.Saying.{IsSaid, is_live, said_before}
@@ -46,7 +46,7 @@ use Rattle.board_live.proofs.Ends.{end_begun, end_step, last_same}
 use Rattle.board_live.proofs.Fed.{Fed, fed_kept, fed_none, fed_told, numbered, turn_asked}
 use Rattle.board_live.proofs.Lines.{line_of, same_asks, same_handlings}
 use Rattle.board_live.proofs.Saids.{first_said, live_alike, said_step, squares_once, state_same}
-use Rattle.board_live.proofs.Says.{answer_same, both_or_neither, said_first}
+use Rattle.board_live.proofs.Says.{answer_same, both_or_neither, clock_first, clock_step, said_first}
 
 -- ---- what the files bring the game
 
@@ -230,6 +230,13 @@ alarms_since forgotten setting recovers one other a b valid s g h =
     let B : List Came → Type 0 = λ c. AlarmsAre setting recovers c b in
     (forgotten setting recovers s.at s.since s.first s.second valid s.same).1 a b (subst A s.one_is g) (subst B s.other_is h)
 
+pub clock_since : SilenceIsForgotten → (setting : Setting) (recovers : Bool) (one other : List Came) (a b : Bool) → Valid setting.start → Since one other
+    → ClockIsStopped setting recovers one a → ClockIsStopped setting recovers other b → a ≡ b
+clock_since forgotten setting recovers one other a b valid s g h =
+    let A : List Came → Type 0 = λ c. ClockIsStopped setting recovers c a in
+    let B : List Came → Type 0 = λ c. ClockIsStopped setting recovers c b in
+    (forgotten setting recovers s.at s.since s.first s.second valid s.same).4 a b (subst A s.one_is g) (subst B s.other_is h)
+
 pub end_since : SilenceIsForgotten → (setting : Setting) (recovers : Bool) (one other : List Came) (now : ℕ) (a b : End) → Valid setting.start → Since one other
     → IsEndOf setting recovers one now a → IsEndOf setting recovers other now b → a ≡ b
 end_since forgotten setting recovers one other now a b valid s g h =
@@ -267,9 +274,10 @@ filed_said forgotten setting recovers (one ∷ call) past m before (t ∷ ts) (u
     (ap (λ x. said_before one.what x) sooner.1) p.6 q.6 p.7 q.7
 
 pub filed_answer : (setting : Setting) (recovers : Bool) (m : Moment) (past other : List Moment) (t u : Turn) (ts us : List Turn) (a b : Answer) → Likewise (m ∷ past) (m ∷ other) t u ts us
-    → but_silence (came past ts) ≡ but_silence (came other us) → a.unsaid ≡ b.unsaid → a.state ≡ b.state → a.end ≡ b.end → Answers setting recovers m past t ts a
+    → but_silence (came past ts) ≡ but_silence (came other us) → a.unsaid ≡ b.unsaid → a.is_clock_stopped ≡ b.is_clock_stopped → a.state ≡ b.state → a.end ≡ b.end
+    → Answers setting recovers m past t ts a
     → Answers setting recovers m other u us b → a ≡ b
-filed_answer setting recovers m past other t u ts us a b same had unsaid state end g h =
+filed_answer setting recovers m past other t u ts us a b same had unsaid clock state end g h =
     let x : List Came = with_news m.at (news_of m.what) (came past ts) in
     let y : List Came = with_news m.at (news_of m.what) (came other us) in
     let has = already m.what m.bytes in
@@ -281,7 +289,7 @@ filed_answer setting recovers m past other t u ts us a b same had unsaid state e
     let Q : ℕ → Type 0 = λ q. R (kept (u ∷ us)) (room_of y) q in
     let whole : Q (room_of (with_bytes time has y)) = subst Q (room_alike (with_bytes time has x) (with_bytes time has y) (bytes_alike time has x y news))
     (subst F (room_alike x y news) (subst K same.kept g.whole)) in
-    answer_same a b (g.handling ∙ same.handling ∙ sym h.handling) (g.number ∙ same.number m.what ∙ sym h.number) (g.request ∙ same.request ∙ sym h.request) unsaid state end
+    answer_same a b (g.handling ∙ same.handling ∙ sym h.handling) (g.number ∙ same.number m.what ∙ sym h.number) (g.request ∙ same.request ∙ sym h.request) unsaid clock state end
     (both_or_neither a.is_whole b.is_whole ((length has ≤ room_of y) × (length (kept (u ∷ us)) ≤ room_of (with_bytes time has y))) whole h.whole)
 
 pub looks_same : SilenceIsForgotten → (setting : Setting) (recovers : Bool) (one other : List Came) (a b : Answer) (looks alarms all others : List Look) → Valid setting.start → Since one other
@@ -308,9 +316,12 @@ files_answer_alike forgotten setting recovers [] past m before (t ∷ ts) (u ∷
     ap (λ x. but_silence (came past x)) (turns_once (cabled past) ts before g.0 first) ∙ (is_filed m past before us first h.0).1 in
     let unsaid : a.unsaid ≡ b.unsaid = p.0.alarms.count_is ∙ said_first m past (length p.0.alarms.before) (length p.0.alarms.now) is
     ∙ sym (q.0.alarms.count_is ∙ said_first m filed (length q.0.alarms.before) (length q.0.alarms.now) is) in
+    let stands = clock_since forgotten setting recovers (came (m ∷ past) (t ∷ ts)) (came (m ∷ filed) (u ∷ us)) p.0.clock.now q.0.clock.now valid both.1 p.0.clock.now_is q.0.clock.now_is in
+    let clock : a.is_clock_stopped ≡ b.is_clock_stopped = clock_first m past p.0.clock.before p.0.clock.now a.is_clock_stopped is p.0.clock.news_is
+    ∙ ap (λ x. clock_news true true false x) stands ∙ sym (clock_first m filed q.0.clock.before q.0.clock.now b.is_clock_stopped is q.0.clock.news_is) in
     let end : a.end ≡ b.end = end_begun setting recovers m past filed t u ts us a.end b.end is p.0.end q.0.end
     (end_since forgotten setting recovers (came (m ∷ past) (t ∷ ts)) (came (m ∷ filed) (u ∷ us)) m.at p.0.end.now q.0.end.now valid both.1 p.0.end.now_is q.0.end.now_is) in
-    let answer = filed_answer setting recovers m past filed t u ts us a b both.0 had unsaid state end p.0 q.0 in
+    let answer = filed_answer setting recovers m past filed t u ts us a b both.0 had unsaid clock state end p.0 q.0 in
     (answer, looks_same forgotten setting recovers (came (m ∷ past) (t ∷ ts)) (came (m ∷ filed) (u ∷ us)) a b looks alarms p.1.0 q.1.0 valid both.1 answer p.1.1 q.1.1 p.1.2 q.1.2)
 files_answer_alike forgotten setting recovers (one ∷ call) past m before (t ∷ []) (u ∷ us) a b looks alarms valid is first g h p q = absurd (none_told m call past g.0)
 files_answer_alike forgotten setting recovers (one ∷ call) past m before (t ∷ v ∷ ts) (u ∷ []) a b looks alarms valid is first g h p q =
@@ -328,12 +339,16 @@ files_answer_alike forgotten setting recovers (one ∷ call) past m before (t �
     ∙ ap (λ x. unsaid x (begins one.what) (length p.0.alarms.before) (length p.0.alarms.now)) (live_alike (one ∷ call) past filed m is)
     ∙ ap (λ (x : List Look). unsaid (is_live (one ∷ other)) (begins one.what) (length x) (length p.0.alarms.now)) before_same
     ∙ ap (λ (x : List Look). unsaid (is_live (one ∷ other)) (begins one.what) (length q.0.alarms.before) (length x)) now_same ∙ sym q.0.alarms.count_is in
+    let stood = clock_since forgotten setting recovers (came had (v ∷ ts)) (came other (w ∷ us)) p.0.clock.before q.0.clock.before valid sooner p.0.clock.before_is q.0.clock.before_is in
+    let stands = clock_since forgotten setting recovers (came (one ∷ had) (t ∷ v ∷ ts)) (came (one ∷ other) (u ∷ w ∷ us)) p.0.clock.now q.0.clock.now valid both.1 p.0.clock.now_is q.0.clock.now_is in
+    let clock : a.is_clock_stopped ≡ b.is_clock_stopped = clock_step (begins one.what) (is_live (one ∷ had)) (is_live (one ∷ other)) p.0.clock.before q.0.clock.before p.0.clock.now q.0.clock.now
+    a.is_clock_stopped b.is_clock_stopped (live_alike (one ∷ call) past filed m is) stood stands p.0.clock.news_is q.0.clock.news_is in
     let E : ℕ → Type 0 = λ at. IsEndOf setting recovers (came had (v ∷ ts)) at p.0.end.before in
     let was = end_since forgotten setting recovers (came had (v ∷ ts)) (came other (w ∷ us)) (last_at other) p.0.end.before q.0.end.before valid sooner
     (subst E (last_same call past filed m) p.0.end.before_is) q.0.end.before_is in
     let ends = end_since forgotten setting recovers (came (one ∷ had) (t ∷ v ∷ ts)) (came (one ∷ other) (u ∷ w ∷ us)) one.at p.0.end.now q.0.end.now valid both.1 p.0.end.now_is q.0.end.now_is in
     let end : a.end ≡ b.end = end_step setting recovers one had other t u (v ∷ ts) (w ∷ us) a.end b.end (live_alike (one ∷ call) past filed m is) p.0.end q.0.end was ends in
-    let answer = filed_answer setting recovers one had other t u (v ∷ ts) (w ∷ us) a b both.0 (since_alike (came had (v ∷ ts)) (came other (w ∷ us)) sooner) count state end p.0 q.0 in
+    let answer = filed_answer setting recovers one had other t u (v ∷ ts) (w ∷ us) a b both.0 (since_alike (came had (v ∷ ts)) (came other (w ∷ us)) sooner) count clock state end p.0 q.0 in
     (answer, looks_same forgotten setting recovers (came (one ∷ had) (t ∷ v ∷ ts)) (came (one ∷ other) (u ∷ w ∷ us)) a b looks alarms p.1.0 q.1.0 valid both.1 answer p.1.1 q.1.1 p.1.2 q.1.2)
 
 -- The same times to wake are named.

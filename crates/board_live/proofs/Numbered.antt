@@ -43,7 +43,8 @@ use Rattle.board_live.specs.Saying.{IsSaid, Says, SaysAfter, is_live, last_said,
 use Rattle.board_live.proofs.Alike.{Likewise, begun, keeps_begun, step, stream_begun, stream_more}
 use Rattle.board_live.proofs.Ends.{end_step}
 use Rattle.board_live.proofs.Fed.{none_aside, turn_asked, unheard}
-use Rattle.board_live.proofs.Filed.{Since, alarms_since, answers_begun, due_since, end_since, fed_filed, filed_alike, filed_answer, looks_same, since_alike, since_came, since_turn, state_since}
+use Rattle.board_live.proofs.Filed.{Since, alarms_since, answers_begun, clock_since, due_since, end_since, fed_filed, filed_alike, filed_answer, looks_same, since_alike, since_came, since_turn, state_since}
+use Rattle.board_live.proofs.Says.{clock_step}
 use Rattle.board_live.proofs.Lines.{Line, line_of, request_on}
 use Rattle.board_live.proofs.Saids.{first_said, live_alike, said_step, squares_once, state_once, state_same}
 use Rattle.board_live.proofs.TakeLemmas.{sooner_both}
@@ -136,11 +137,15 @@ says_on forgotten setting recovers m past other (t ∷ ts) (u ∷ us) a b looks 
     ∙ ap (λ x. unsaid x (begins m.what) (length p.0.alarms.before) (length p.0.alarms.now)) (ap (λ x. live_by m.what x) live)
     ∙ ap (λ (x : List Look). unsaid (is_live (m ∷ other)) (begins m.what) (length x) (length p.0.alarms.now)) sooner
     ∙ ap (λ (x : List Look). unsaid (is_live (m ∷ other)) (begins m.what) (length q.0.alarms.before) (length x)) now ∙ sym q.0.alarms.count_is in
+    let stood = clock_since forgotten setting recovers (came past ts) (came other us) p.0.clock.before q.0.clock.before valid had.since p.0.clock.before_is q.0.clock.before_is in
+    let stands = clock_since forgotten setting recovers (came (m ∷ past) (t ∷ ts)) (came (m ∷ other) (u ∷ us)) p.0.clock.now q.0.clock.now valid both.1.since p.0.clock.now_is q.0.clock.now_is in
+    let clock : a.is_clock_stopped ≡ b.is_clock_stopped = clock_step (begins m.what) (is_live (m ∷ past)) (is_live (m ∷ other)) p.0.clock.before q.0.clock.before p.0.clock.now q.0.clock.now
+    a.is_clock_stopped b.is_clock_stopped (ap (λ x. live_by m.what x) live) stood stands p.0.clock.news_is q.0.clock.news_is in
     let was = end_since forgotten setting recovers (came past ts) (came other us) (last_at other) p.0.end.before q.0.end.before valid had.since
     (on ts p.0.end.before g.0 p.0.end.before_is) q.0.end.before_is in
     let ends = end_since forgotten setting recovers (came (m ∷ past) (t ∷ ts)) (came (m ∷ other) (u ∷ us)) m.at p.0.end.now q.0.end.now valid both.1.since p.0.end.now_is q.0.end.now_is in
     let end : a.end ≡ b.end = end_step setting recovers m past other t u ts us a.end b.end (ap (λ x. live_by m.what x) live) p.0.end q.0.end was ends in
-    let answer = filed_answer setting recovers m past other t u ts us a b both.0 (since_alike (came past ts) (came other us) had.since) count state end p.0 q.0 in
+    let answer = filed_answer setting recovers m past other t u ts us a b both.0 (since_alike (came past ts) (came other us) had.since) count clock state end p.0 q.0 in
     (answer, looks_same forgotten setting recovers (came (m ∷ past) (t ∷ ts)) (came (m ∷ other) (u ∷ us)) a b looks alarms p.1.0 q.1.0 valid both.1.since answer p.1.1 q.1.1 p.1.2 q.1.2)
 
 -- And the same times to wake are named.

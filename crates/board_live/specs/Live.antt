@@ -1,11 +1,11 @@
 -- What a recorded board stands for, and what it answers. Lists have the latest first.
-use Rattle.std.specs.Prelude.{◌≡◌, ◌↔◌, ℕ, IsTrue, Bool, if◌then◌else◌, List, ◌∷◌, length, Option}
+use Rattle.std.specs.Prelude.{◌≡◌, ◌↔◌, ◌&&◌, not, ℕ, IsTrue, Bool, false, if◌then◌else◌, List, ◌∷◌, length, Option, Some, None}
 use Rattle.board_asking.specs.Whose.{own_number}
 use Rattle.board_cable.specs.Keeping.{kept}
 use Rattle.board_cable.specs.Turns.{Turn, handling_of, request_of, told}
 use Rattle.board_events.specs.Settings.{Setting}
 use Rattle.board_looks.specs.declared.look.Look.{Look}
-use Rattle.board_game.specs.Alarming.{AlarmsAre}
+use Rattle.board_game.specs.Alarming.{AlarmsAre, ClockIsStopped}
 use Rattle.board_game.specs.Games.{HasBegun as GameHasBegun, StandsFor as GameStands}
 use Rattle.board_standing.specs.declared.state.State.{State}
 use Rattle.board_live.specs.declared.live.Answer.{Answer}
@@ -41,12 +41,30 @@ pub record LeavesUnsaid (setting : Setting) (recovers : Bool) (moment : Moment) 
   pub now_are : AlarmsAre setting recovers (came (moment ∷ past) (turn ∷ turns)) now
   pub count_is : count ≡ unsaid (is_live (moment ∷ past)) (begins moment.what) (length before) (length now)
 
+-- One of these holds, and the other doesn't.
+abbrev pub is_change : Bool → Bool → Bool
+is_change one other = if one then not other else other
+
+-- What is said of the clock: when a call begins, that it is stopped, if it is; then each time that it is stopped, or runs again. Before a
+-- call has begun nothing is said.
+abbrev pub clock_news : Bool → Bool → Bool → Bool → Option Bool
+clock_news live first before now = if live && is_change (if first then false else before) now then Some now else None
+
+-- This is said of the clock at the last of these moments.
+pub record TellsClock (setting : Setting) (recovers : Bool) (moment : Moment) (past : List Moment) (turn : Turn) (turns : List Turn) (news : Option Bool) : Type 0 where
+  pub before : Bool
+  pub now : Bool
+  pub before_is : ClockIsStopped setting recovers (came past turns) before
+  pub now_is : ClockIsStopped setting recovers (came (moment ∷ past) (turn ∷ turns)) now
+  pub news_is : news ≡ clock_news (is_live (moment ∷ past)) (begins moment.what) before now
+
 -- This is the answer to the last of these moments.
 pub record Answers (setting : Setting) (recovers : Bool) (moment : Moment) (past : List Moment) (turn : Turn) (turns : List Turn) (answer : Answer) : Type 0 where
   pub request : answer.request ≡ request_of turn
   pub handling : answer.handling ≡ handling_of turn
   pub number : answer.number ≡ number_news moment.what (own_number (told turns)) (own_number (told (turn ∷ turns)))
   pub alarms : LeavesUnsaid setting recovers moment past turn turns answer.unsaid
+  pub clock : TellsClock setting recovers moment past turn turns answer.is_clock_stopped
   pub last : Option State
   pub said : IsSaid setting recovers (moment ∷ past) (turn ∷ turns) answer.state last
   pub end : SaysEnd setting recovers moment past turn turns answer.end

@@ -4,6 +4,7 @@ ghost use Rattle.board_live.specs.Restarts.{FilesSayTheSame, NumberMayFollow, Re
 
 use board_game::laws::{
     end_due_once, end_stays_until_due, ends_once, hears_once, opens_once, silence_is_forgotten,
+    stops_once,
 };
 use board_standing::laws::stays_until_due;
 
@@ -60,6 +61,8 @@ pub fn restarts_say_the_same()
     hears_once();
     // For its clause: the alarms follow from what came.
     opens_once();
+    // For its clause: so does whether the clock is stopped.
+    stops_once();
     // For its clause: what came says how the game ends.
     ends_once();
     // For its clause: and when time ends it.

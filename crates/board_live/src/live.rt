@@ -15,7 +15,7 @@ ghost use Rattle.square_runs.specs.Lasting.{earlier};
 ghost use Rattle.board_live.specs.Due.{IsDue, MayChange, StaysAlike};
 ghost use Rattle.board_live.specs.Ending.{EndStays};
 ghost use Rattle.board_game.specs.Alarming.{AlarmsAre};
-ghost use Rattle.board_live.specs.Live.{Answers, HasBegun, StandsFor, unsaid as unsaid_of};
+ghost use Rattle.board_live.specs.Live.{Answers, HasBegun, StandsFor, clock_news as clock_news_of, is_change as is_change_of, unsaid as unsaid_of};
 ghost use Rattle.board_live.specs.Moments.{Moment, cabled, moment_of};
 
 use crate::attending::Attending;
@@ -55,6 +55,8 @@ pub struct Answer {
     /// So many of the open alarms, the first ones, aren't to be said now: they were said, or this call hasn't begun. Those behind
     /// them are news; when a call begins all are.
     pub unsaid: usize,
+    /// Whether the clock has run and stands now, if that is to be said: when a call begins, if it does; and then whenever it is news.
+    pub is_clock_stopped: Option<bool>,
     /// How the board stands, if that is to be said: first when a call begins, and then whenever it is news.
     pub state: Option<State>,
     /// What is to be said of the game's end: all when a call begins, and then what is news.
@@ -82,6 +84,22 @@ fn unsaid(is_live: bool, begins: bool, before: usize, now: usize) -> usize
         return now;
     }
     if begins { 0 } else { before }
+}
+
+/// Whether one of these holds, and the other doesn't.
+fn is_change(one: bool, other: bool) -> bool
+    ensures { result ≡ is_change_of one other }
+{
+    if one { !other } else { other }
+}
+
+/// What is said of the clock, if it was stopped before or not, and is now or not.
+fn clock_news(is_live: bool, begins: bool, before: bool, now: bool) -> Option<bool>
+    ensures { result ≡ clock_news_of is_live begins before now }
+{
+    let said = if begins { false } else { before };
+    let is_news = is_change(said, now);
+    if is_live && is_news { Some(now) } else { None }
 }
 
 /// For its clause: a mask has 64 bits.
@@ -134,6 +152,7 @@ impl Live {
     {
         let comes = self.attending.take(happened, bytes)?;
         let before = self.game.alarms().len();
+        let was_stopped = self.game.is_clock_stopped();
         let before_end = self.game.end(self.at);
         let is_whole = hear(
             &mut self.game,
@@ -153,6 +172,12 @@ impl Live {
             before,
             self.game.alarms().len(),
         );
+        let is_clock_stopped = clock_news(
+            self.saying.is_live,
+            begins(happened.what),
+            was_stopped,
+            self.game.is_clock_stopped(),
+        );
         let now_end = self.game.end(happened.at);
         let end = end_said(
             self.saying.is_live,
@@ -166,6 +191,7 @@ impl Live {
             number: comes.number,
             request: comes.request,
             unsaid,
+            is_clock_stopped,
             state,
             end,
             is_whole,

@@ -11,7 +11,7 @@ use Rattle.board_asking.specs.declared.whose.Handling.{Handling}
 use Rattle.board_asking.specs.declared.whose.Handling.TheVariants.{Keep, Hold, Other}
 use Rattle.board_standing.specs.declared.state.State.{State}
 use Rattle.answer_lines.specs.declared.said.Said.{Said}
-use Rattle.answer_lines.specs.Answers.{answer_text as said_text, handling_line, number_line, request_line, room_line, state_line}
+use Rattle.answer_lines.specs.Answers.{answer_text as said_text, clock_line, handling_line, number_line, request_line, room_line, state_line}
 use Rattle.answer_lines.specs.Laws.{IsSaid, lacks}
 use Rattle.answer_lines.specs.Ends.{EndFits, begins_line, end_text, goes_on_line, over_line}
 use Rattle.answer_lines.proofs.EndLemmas.{end_once, end_parts, rank, said_rank}
@@ -21,7 +21,7 @@ use Rattle.answer_lines.specs.Looks.{LooksFit, look_words, looks_text}
 use Rattle.answer_lines.proofs.LookLemmas.{looks_and_said_once}
 use Rattle.board_looks.specs.declared.look.Look.{Look}
 use Rattle.board_looks.specs.declared.look.Look.TheVariants.{Doubtful, Stopped, Unplayed, Suspected}
-use Rattle.answer_lines.proofs.AnswerLemmas.{from_done, from_number, from_request, from_room, from_state, in_parts}
+use Rattle.answer_lines.proofs.AnswerLemmas.{from_clock, from_done, from_number, from_request, from_room, from_state, in_parts}
 use Rattle.answer_lines.proofs.CutLemmas.{cut_once, decimal_lacks_feed, lacks_append}
 use Rattle.answer_lines.proofs.WordLemmas.{behind, first_of}
 use Rattle.watched_streams.specs.Lines.{line}
@@ -133,6 +133,11 @@ opens_state : (state : Option State) (text : List ℕ) → Opens text → Opens 
 opens_state None text h = h
 opens_state (Some state) text h = (omega arith, omega arith)
 
+opens_clock : (stopped : Option Bool) (text : List ℕ) → Opens text → Opens (clock_line stopped ++ text)
+opens_clock None text h = h
+opens_clock (Some true) text h = (omega arith, omega arith)
+opens_clock (Some false) text h = (omega arith, omega arith)
+
 opens_room : (is_whole : Bool) (text : List ℕ) → Opens text → Opens (room_line is_whole ++ text)
 opens_room true text h = h
 opens_room false text h = (omega arith, omega arith)
@@ -161,11 +166,17 @@ opens said more =
     (opens_handling said.handling (from_number said more)
     (opens_number said.number (from_request said more)
     (opens_request said.request (from_room said more)
-    (opens_room said.is_whole (from_state said more) (opens_state said.state (from_done said more) (opens_done said more))))))
+    (opens_room said.is_whole (from_clock said more)
+    (opens_clock said.is_clock_stopped (from_state said more) (opens_state said.state (from_done said more) (opens_done said more)))))))
 
 says_state : (state : Option State) (text : List ℕ) → Says text → Says (state_line state ++ text)
 says_state None text h = h
 says_state (Some state) text h = inr (omega arith)
+
+says_clock : (stopped : Option Bool) (text : List ℕ) → Says text → Says (clock_line stopped ++ text)
+says_clock None text h = h
+says_clock (Some true) text h = inl (omega arith)
+says_clock (Some false) text h = inl (omega arith)
 
 says_room : (is_whole : Bool) (text : List ℕ) → Says text → Says (room_line is_whole ++ text)
 says_room true text h = h
@@ -192,7 +203,8 @@ says said more =
     (says_handling said.handling (from_number said more)
     (says_number said.number (from_request said more)
     (says_request said.request (from_room said more)
-    (says_room said.is_whole (from_state said more) (says_state said.state (from_done said more) (inl (omega arith)))))))
+    (says_room said.is_whole (from_clock said more)
+    (says_clock said.is_clock_stopped (from_state said more) (says_state said.state (from_done said more) (inl (omega arith))))))))
 
 opens_line : (look : Look) (text : List ℕ) → Opens (look_words look ++ text)
 opens_line (Doubtful plies doubt) text = (omega arith, omega arith)

@@ -82,6 +82,7 @@ fn said_of(now: u64, answer: &Answer, due: Option<u64>) -> Said
         number: answer.number,
         request: answer.request,
         is_whole: answer.is_whole,
+        is_clock_stopped: answer.is_clock_stopped,
         state: state_for(now, answer.state),
         due: wake_in(now, due),
     }
@@ -119,6 +120,7 @@ pub fn end_report(alloc: Global, out: &mut Vec<u8>) -> Result<(), AllocError>
         number: None,
         request: None,
         is_whole: true,
+        is_clock_stopped: None,
         state: None,
         due: None,
     };

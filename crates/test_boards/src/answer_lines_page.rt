@@ -18,6 +18,7 @@ fn answer(alloc: Global) -> Result<Vec<u8>, AllocError> {
         number: None,
         request: Some(Request::Dump),
         is_whole: true,
+        is_clock_stopped: None,
         state: Some(state),
         due: Some(42_200),
     };

@@ -1259,16 +1259,16 @@ static TAKEN_BACK: [Case<'static>; 15] = [
         ],
         doubts: &[],
     },
-    // without a clock three seconds later, drawn over e8
+    // without a clock two seconds later, drawn over e8
     Case {
         front: Unclocked,
         steps: &[
             (30_000, Moves),
             (30_000, Goes(45, 62)),
-            (33_000, Moves),
-            (33_000, Goes(21, 4)),
-            (33_100, Corrects),
-            (33_100, GoesInstead(21, 6)),
+            (32_000, Moves),
+            (32_000, Goes(21, 4)),
+            (32_100, Corrects),
+            (32_100, GoesInstead(21, 6)),
         ],
         doubts: &[(4, AtLast, TakenBack)],
     },
@@ -1278,8 +1278,8 @@ static TAKEN_BACK: [Case<'static>; 15] = [
         steps: &[
             (30_000, Moves),
             (30_000, Goes(45, 62)),
-            (33_100, Moves),
-            (33_100, Goes(21, 6)),
+            (32_001, Moves),
+            (32_001, Goes(21, 6)),
         ],
         doubts: &[],
     },
@@ -1289,8 +1289,8 @@ static TAKEN_BACK: [Case<'static>; 15] = [
         steps: &[
             (26_000, Moves),
             (26_000, Goes(45, 62)),
-            (29_000, Moves),
-            (29_000, Goes(21, 6)),
+            (28_000, Moves),
+            (28_000, Goes(21, 6)),
         ],
         doubts: &[],
     },
@@ -1470,17 +1470,40 @@ fn left() -> bool {
     true
 }
 
-/// Whether it is Black's time that runs before each of eight plies, and whether the last ply is doubted.
-static LENT: [([bool; 8], bool); 3] = [
+/// Whether it is Black's time that runs before each of eight plies; how long each takes; and whether the last ply is doubted.
+static LENT: [([bool; 8], u64, bool); 5] = [
     // each is thought about on its own side's
-    ([false, true, false, true, false, true, false, true], false),
+    (
+        [false, true, false, true, false, true, false, true],
+        10_000,
+        false,
+    ),
     // only the second one is
-    ([true, true, true, false, true, false, true, false], true),
+    (
+        [true, true, true, false, true, false, true, false],
+        10_000,
+        true,
+    ),
+    (
+        [true, true, true, false, true, false, true, false],
+        2_001,
+        true,
+    ),
+    // the clock may not have told of the presses
+    (
+        [true, true, true, false, true, false, true, false],
+        2_000,
+        false,
+    ),
     // the second one and the fifth
-    ([true, true, true, false, false, false, true, false], false),
+    (
+        [true, true, true, false, false, false, true, false],
+        10_000,
+        false,
+    ),
 ];
 
-fn is_lent(counting: [bool; 8], expected: bool) -> bool {
+fn is_lent(counting: [bool; 8], takes: u64, expected: bool) -> bool {
     let mut game = Game::new();
     let mut now = 9_000u64;
     for ply in 0..8usize {
@@ -1498,14 +1521,14 @@ fn is_lent(counting: [bool; 8], expected: bool) -> bool {
         if game.play(&steps, last, 0) != Some(last.len()) {
             return false;
         }
-        now = now.saturating_add(10_000);
+        now = now.saturating_add(takes);
     }
     true
 }
 
 fn lent() -> bool {
-    for (counting, expected) in LENT {
-        if !is_lent(counting, expected) {
+    for (counting, takes, expected) in LENT {
+        if !is_lent(counting, takes, expected) {
             return false;
         }
     }

@@ -82,6 +82,8 @@ mod histories;
 #[cfg(test)]
 mod live_alarms;
 #[cfg(test)]
+mod live_clock;
+#[cfg(test)]
 mod nearest;
 #[cfg(test)]
 mod over;

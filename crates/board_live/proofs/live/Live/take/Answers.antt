@@ -62,7 +62,7 @@ returns-clause-answers c = λ setting recovers past text turn turns s h.
     let room = c.in_ok-is_whole.ensures.whole setting recovers (came past turns) text before in
     let R : List ℕ → Type 0 = λ x. HasRoom m.at (news_of m.what) (is_added m.what) (already m.what m.bytes) x (came past turns) in
     let E : ℕ → Type 0 = λ at. IsEndOf setting recovers (came past turns) at c.end-before_end.result in
-    let L : Bool → Type 0 = λ live. SaysNews live c.begins-2.result c.end-before_end.result c.end-now_end.result c.end_said-end.result in
+    let L : Bool → Type 0 = λ live. SaysNews live c.begins-3.result c.end-before_end.result c.end-now_end.result c.end_said-end.result in
     let B : Bool → Type 0 = λ first. SaysNews (is_live (m ∷ past)) first c.end-before_end.result c.end-now_end.result c.end_said-end.result in
     record {
       request = tells.request;
@@ -75,6 +75,13 @@ returns-clause-answers c = λ setting recovers past text turn turns s h.
         now_are = c.alarms.ensures setting recovers (came (m ∷ past) (turn ∷ turns)) (text ++ more.0) game;
         count_is = c.unsaid-unsaid.ensures ∙ rw c.begins.ensures (rw said.0 refl);
       };
+      clock = record {
+        before = c.is_clock_stopped-was_stopped.result;
+        now = c.is_clock_stopped.result;
+        before_is = c.is_clock_stopped-was_stopped.ensures setting recovers (came past turns) text before;
+        now_is = c.is_clock_stopped.ensures setting recovers (came (m ∷ past) (turn ∷ turns)) (text ++ more.0) game;
+        news_is = c.clock_news-is_clock_stopped.ensures ∙ rw c.begins-2.ensures (rw said.0 refl);
+      };
       last = c.say-state.new.self.last;
       said = said.1;
       end = record {
@@ -82,7 +89,7 @@ returns-clause-answers c = λ setting recovers past text turn turns s h.
         now = c.end-now_end.result;
         before_is = subst E s.at_is (c.end-before_end.ensures setting recovers (came past turns) text before);
         now_is = c.end-now_end.ensures setting recovers (came (m ∷ past) (turn ∷ turns)) (text ++ more.0) game;
-        said_is = subst B c.begins-2.ensures (subst L said.0 c.end_said-end.ensures);
+        said_is = subst B c.begins-3.ensures (subst L said.0 c.end_said-end.ensures);
       };
       whole = (λ t. subst R keeps (room.0 t), λ r. room.1 (subst R (sym keeps) r));
     }
