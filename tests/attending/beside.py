@@ -17,6 +17,7 @@ from attending.reading import Read, in_order
 from attending.state_rules import BoardState
 from attending.whose_rules import Whose
 from decided.table import same
+from live.board.state import OTHER_BOARD
 from live.device.protocol import picture_of_placement
 from live.game.report import event_of
 
@@ -50,13 +51,18 @@ class Line:
             self._asking.added(entry.sent)
         elif entry.word == "heard":
             self._hears(now, entry.sent)
-        elif entry.word == "took" and self._whose.is_other:
-            self._whose.own = self._whose.shown
+        elif entry.word == "took" and self._whose.shown:
+            self._whose.said(self._whose.shown)
         handling = "hold" if self._whose.is_unsure(now) else "other" if self._whose.is_other else "keep"
         request = self._asking.request(now)
         if START_REQUEST in request:
             self._whose.asked(now)
         return request.decode(), handling
+
+    @property
+    def is_own(self) -> bool:
+        """Whether the game's own board is surely on the line."""
+        return self._whose.is_own
 
     def _hears(self, now: float, sent: bytes) -> None:
         came = self._asking.came(now, sent)
@@ -86,6 +92,7 @@ class Stands:
 
     board: BoardState
     is_silent: bool = False
+    line: Line = dataclasses.field(default_factory=Line)
 
     def after(self, now: float, entry: Entry, answer: Answer) -> str:
         """What is read after this."""
@@ -101,7 +108,11 @@ class Stands:
         was_silent, self.is_silent = self.is_silent, answer.state.kind == "SILENT" if answer.state else self.is_silent
         if was_silent or self.is_silent:
             self.board.silent(now, self.is_silent)
-        return in_order(self.board.state(now).text(now))
+        self.line.after(now, entry)
+        state = self.board.state(now)
+        if self.line.is_own and state.hint == OTHER_BOARD:
+            state = state._replace(hint="")
+        return in_order(state.text(now))
 
 
 def read_otherwise(lived: Evening) -> List[str]:

@@ -1,5 +1,5 @@
 -- What stays as it is while certain things don't happen.
-use Rattle.std.proofs.Common.{◌≡◌, ◌≤◌, ◌<◌, ◌+◌, ◌&&◌, ℕ, not, nat_lt, Bool, true, false, List, [], ◌∷◌, ◌++◌, Option, Some, None, is_some, refl, ap, ◌∙◌, arith}
+use Rattle.std.proofs.Common.{◌≡◌, ◌≤◌, ◌<◌, ◌+◌, ◌&&◌, ℕ, not, nat_lt, Bool, true, false, List, [], ◌∷◌, ◌++◌, Option, Some, None, is_some, refl, sym, ap, ◌∙◌, arith}
 use Rattle.std.specs.Prelude.{if◌then◌else◌}
 use Rattle.std.specs.List.{list_all}
 use Rattle.std.proofs.lemmas.Bool.{and_parts, lt-leb, lt-ltb}
@@ -11,8 +11,8 @@ use Rattle.board_asking.specs.declared.whose.Handling.TheVariants.{Hold}
 use Rattle.board_asking.specs.Asking.{next_request, request_at}
 use Rattle.board_asking.specs.Pace.{may_ask, would_help}
 use Rattle.board_asking.specs.Line.{is_open, open_by}
-use Rattle.board_asking.specs.Whose.{awaited_at, awaited_by, dumps_by, dumps_since, handling_at, handling_by, is_awaited, own_by, own_number, shown_number}
-use Rattle.board_asking.specs.Laws.{awaits_still, dumps_and, dumps_in, opens}
+use Rattle.board_asking.specs.Whose.{awaited_at, awaited_by, dumps_by, dumps_since, handling_at, handling_by, is_awaited, known_by, own_by, own_number, sends_own, shown_number, was_known}
+use Rattle.board_asking.specs.Laws.{OwnSendsKnownNumber, awaits_still, dumps_and, dumps_in, knows_still, opens}
 
 closed_by : (what : Happening) (before : Bool) → not (opens what) ≡ true → before ≡ false → open_by what before ≡ false
 closed_by Opens before h e = absurd (let never : false ≡ true = h in cc)
@@ -89,3 +89,45 @@ held_in now at past since few own soon =
     ap (λ s. handling_by (is_awaited now s (dumps_since past)) (own_number past) (shown_number past)) since
     ∙ ap (λ b. handling_by b (own_number past) (shown_number past)) (awaited now at (dumps_since past) soon few)
     ∙ held (own_number past) (shown_number past) own
+
+known_by_still : (what : Happening) (own : Option (List ℕ)) (before : Bool) → knows_still what ≡ true → known_by what own before ≡ before
+known_by_still Begins own before h = absurd (let never : false ≡ true = h in cc)
+known_by_still Opens own before h = absurd (let never : false ≡ true = h in cc)
+known_by_still (Owns number) own before h = absurd (let never : false ≡ true = h in cc)
+known_by_still _ own before h = refl
+
+known_in : (at : ℕ) (since past : List Event) → list_all (λ event. knows_still event.what) since ≡ true
+    → was_known (since ++ record { at = at; what = Opens } ∷ past) ≡ is_some (own_number past)
+known_in at [] past h = refl
+known_in at (event ∷ since) past h =
+    let both = and_parts (knows_still event.what) (list_all (λ event. knows_still event.what) since) h in
+    let before = since ++ record { at = at; what = Opens } ∷ past in
+    known_by_still event.what (own_number before) (was_known before) both.0 ∙ known_in at since past both.1
+
+own_by_still : (what : Happening) (before : Option (List ℕ)) → knows_still what ≡ true → is_some before ≡ true → own_by what before ≡ before
+own_by_still (Owns number) before h known = absurd (let never : false ≡ true = h in cc)
+own_by_still (Numbers number) None h known = absurd (let never : false ≡ true = known in cc)
+own_by_still (Numbers number) (Some own) h known = refl
+own_by_still _ before h known = refl
+
+own_in : (at : ℕ) (since past : List Event) → list_all (λ event. knows_still event.what) since ≡ true → is_some (own_number past) ≡ true
+    → own_number (since ++ record { at = at; what = Opens } ∷ past) ≡ own_number past
+own_in at [] past h known = refl
+own_in at (event ∷ since) past h known =
+    let both = and_parts (knows_still event.what) (list_all (λ event. knows_still event.what) since) h in
+    let opening = record { at = at; what = Opens } ∷ past in
+    own_by_still event.what (own_number (since ++ opening)) both.0 (owned_in since opening known) ∙ own_in at since past both.1 known
+
+none_sent : (shown : Option (List ℕ)) → sends_own shown None ≡ false
+none_sent None = refl
+none_sent (Some shown) = refl
+
+own_if_known : (known shown own : Option (List ℕ)) (was : Bool) → was ≡ is_some known → (is_some known ≡ true → own ≡ known)
+    → was && sends_own shown own ≡ sends_own shown known
+own_if_known None shown own was is same = ap (λ b. b && sends_own shown own) is ∙ sym (none_sent shown)
+own_if_known (Some number) shown own was is same = ap (λ b. b && sends_own shown own) is ∙ ap (λ x. sends_own shown x) (same refl)
+
+pub own_sends_known_number : OwnSendsKnownNumber
+own_sends_known_number at since past h =
+    let now = since ++ record { at = at; what = Opens } ∷ past in
+    own_if_known (own_number past) (shown_number now) (own_number now) (was_known now) (known_in at since past h) (λ known. own_in at since past h known)

@@ -4,11 +4,11 @@ use Rattle.std.specs.List.{list_all}
 use Rattle.board_asking.specs.declared.line.Event.{Event}
 use Rattle.board_asking.specs.declared.line.Request.TheVariants.{Start}
 use Rattle.board_asking.specs.declared.line.Happening.{Happening}
-use Rattle.board_asking.specs.declared.line.Happening.TheVariants.{Begins, Opens, Answers, Dumps, Numbers}
+use Rattle.board_asking.specs.declared.line.Happening.TheVariants.{Begins, Opens, Answers, Dumps, Numbers, Owns}
 use Rattle.board_asking.specs.declared.whose.Handling.TheVariants.{Hold, Other}
 use Rattle.board_asking.specs.Line.{asked_at, dumped_at, is_open, is_unanswered}
 use Rattle.board_asking.specs.Asking.{next_request, request_at}
-use Rattle.board_asking.specs.Whose.{handling_at, own_number, shown_number}
+use Rattle.board_asking.specs.Whose.{handling_at, is_own, own_number, sends_own, shown_number}
 
 -- A request is sent only 0.2 s after the last one since the line was opened.
 abbrev pub RequestsAreApart : Type 0
@@ -61,3 +61,15 @@ HeldUntilNumbered = (now opened : ℕ) (own : List ℕ) (since past : List Event
 abbrev pub OthersAreNotKept : Type 0
 OthersAreNotKept = (now : ℕ) (own shown : List ℕ) (past : List Event) → own_number past ≡ Some own → shown_number past ≡ Some shown
     → shown ≢ own → (handling_at now past ≡ Hold) ⊎ (handling_at now past ≡ Other shown)
+
+-- No line is opened and no call begins, and nobody says which number the game's board has.
+abbrev pub knows_still : Happening → Bool
+knows_still Begins = false
+knows_still Opens = false
+knows_still (Owns number) = false
+knows_still _ = true
+
+-- Until then a board counts as the game's own exactly if it has sent the number that was known when the line was opened.
+abbrev pub OwnSendsKnownNumber : Type 0
+OwnSendsKnownNumber = (opened : ℕ) (since past : List Event) → list_all (λ event. knows_still event.what) since ≡ true
+    → let now : List Event = since ++ record { at = opened; what = Opens } ∷ past in is_own now ≡ sends_own (shown_number now) (own_number past)

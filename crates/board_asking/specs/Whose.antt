@@ -1,6 +1,6 @@
 -- Which board is on the cable, and what is done with what it sends. Events are listed with the latest first, times are
 -- milliseconds, serial numbers five characters.
-use Rattle.std.specs.Prelude.{◌≡◌, ◌<◌, ◌≤◌, ◌^◌, ◌+◌, ◌-◌, min, ℕ, nat_lt, ◌&&◌, not, Bool, true, false, List, [], ◌∷◌, Option, Some, None, if◌then◌else◌}
+use Rattle.std.specs.Prelude.{◌≡◌, ◌<◌, ◌≤◌, ◌^◌, ◌+◌, ◌-◌, min, ℕ, nat_lt, ◌&&◌, not, Bool, true, false, List, [], ◌∷◌, Option, Some, None, is_some, if◌then◌else◌}
 use Rattle.std.specs.Str.{bytes_eq}
 use Rattle.board_asking.specs.Lasting.{has_lasted, IsBefore}
 use Rattle.board_asking.specs.declared.line.Event.{Event}
@@ -31,6 +31,27 @@ shown_by _ before = before
 abbrev pub shown_number : List Event → Option (List ℕ)
 shown_number [] = None
 shown_number (event ∷ past) = shown_by event.what (shown_number past)
+
+-- The number of the game's board was known when the line was opened, or the call began; or it was said since.
+abbrev pub known_by : Happening → Option (List ℕ) → Bool → Bool
+known_by (Owns number) own before = true
+known_by Begins own before = is_some own
+known_by Opens own before = is_some own
+known_by _ own before = before
+
+abbrev pub was_known : List Event → Bool
+was_known [] = false
+was_known (event ∷ past) = known_by event.what (own_number past) (was_known past)
+
+-- The board on the cable has sent the number that the game's board has.
+abbrev pub sends_own : Option (List ℕ) → Option (List ℕ) → Bool
+sends_own None own = false
+sends_own (Some shown) None = false
+sends_own (Some shown) (Some own) = bytes_eq shown own
+
+-- The board on the cable is the game's own: since the line was opened it has sent the number that was known.
+abbrev pub is_own : List Event → Bool
+is_own past = was_known past && sends_own (shown_number past) (own_number past)
 
 -- Since when the number is awaited: the line was opened, or a board behind a serial server answered, or updates were asked for;
 -- and no number has come since. A second request for updates changes nothing.
@@ -104,6 +125,7 @@ HandledAlike now past due = (later : ℕ) → later < 2 ^ 64 → now ≤ later �
 pub record HasWhose (whose : Whose) (past : List Event) : Type 0 where
   pub own_is : whose.own ≡ own_number past
   pub shown_is : whose.shown ≡ shown_number past
+  pub known_is : whose.was_known ≡ was_known past
   pub awaited_is : whose.awaited ≡ awaited_at past
   pub dumps_is : whose.dumps ≡ dumps_since past
   pub left_is : whose.left ≡ left past

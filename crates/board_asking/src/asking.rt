@@ -4,7 +4,7 @@ ghost use Rattle.board_asking.specs.declared.line.Event.{Event as EventOf};
 ghost use Rattle.board_asking.specs.declared.line.Happening.TheVariants.{Dumps, Updates};
 ghost use Rattle.board_asking.specs.Pace.{AsksAlike, asks};
 ghost use Rattle.board_asking.specs.Silence.{is_silent};
-ghost use Rattle.board_asking.specs.Whose.{HandledAlike, handling_at, own_number, shown_number};
+ghost use Rattle.board_asking.specs.Whose.{HandledAlike, handling_at, is_own, own_number, shown_number};
 ghost use Rattle.board_asking.specs.Asking.{Changes, StandsFor, next_request, request_at, with_request};
 
 use crate::lasting::sooner;
@@ -134,6 +134,14 @@ impl Asking {
         ensures { (past : List EventOf) → StandsFor self.now past → result ≡ shown_number past }
     {
         self.whose.shown()
+    }
+
+    /// Whether the board on the cable is the game's own: since the line was opened it has sent the number that was known then, or was
+    /// said since.
+    pub fn is_own(&self) -> bool
+        ensures { (past : List EventOf) → StandsFor self.now past → result ≡ is_own past }
+    {
+        self.whose.is_own()
     }
 
     /// What is done now with what the board sends.

@@ -1,5 +1,5 @@
 //! What holds of each history of a board's line.
-ghost use Rattle.board_asking.specs.Laws.{HeldUntilNumbered, HistoryAsksNothing, OldDumpsAreAsked, OneIsUnanswered, OthersAreNotKept, RequestsAreApart};
+ghost use Rattle.board_asking.specs.Laws.{HeldUntilNumbered, HistoryAsksNothing, OldDumpsAreAsked, OneIsUnanswered, OthersAreNotKept, OwnSendsKnownNumber, RequestsAreApart};
 
 /// Two requests over one opening of the line are 0.2 s apart.
 pub fn requests_are_apart()
@@ -29,4 +29,10 @@ pub fn held_until_numbered()
 /// Nothing is kept of a board whose number isn't the game's.
 pub fn others_are_not_kept()
     ensures { OthersAreNotKept }
+{}
+
+/// A board counts as the game's own exactly if it has sent the number that was known when the line was opened, until another one is
+/// said.
+pub fn own_sends_known_number()
+    ensures { OwnSendsKnownNumber }
 {}

@@ -3,7 +3,7 @@ ghost use Rattle.std.specs.Prelude.{◌≡◌, ◌≢◌, ◌<◌, ◌∷◌, []
 ghost use Rattle.std.specs.Str.{bytes_eq};
 ghost use Rattle.board_asking.specs.declared.line.Event.{Event as EventOf};
 ghost use Rattle.board_asking.specs.declared.line.Happening.TheVariants.{Dumps};
-ghost use Rattle.board_asking.specs.Whose.{HandledAlike, HasWhose, awaited_by, dumps_by, handling_at, handling_by, handling_of, is_awaited, is_number_asked, left_by, own_by, own_number, shown_by, shown_number};
+ghost use Rattle.board_asking.specs.Whose.{HandledAlike, HasWhose, awaited_by, dumps_by, handling_at, handling_by, handling_of, is_awaited, is_number_asked, is_own, known_by, left_by, own_by, own_number, sends_own, shown_by, shown_number};
 
 use crate::lasting::{after, lasted, to_come};
 use crate::line::{Event, Happening, Request};
@@ -24,6 +24,8 @@ pub enum Handling {
 pub struct Whose {
     own: Option<[u8; 5]>,
     shown: Option<[u8; 5]>,
+    /// Whether the number of the game's board was known when the line was opened, or the call began; or was said since.
+    was_known: bool,
     awaited: Option<u64>,
     dumps: u8,
     left: u8,
@@ -48,6 +50,17 @@ fn shown(what: Happening, before: Option<[u8; 5]>) -> Option<[u8; 5]>
     match what {
         Happening::Numbers(number) => Some(number),
         Happening::Begins | Happening::Opens => None,
+        _ => before,
+    }
+}
+
+/// Whether the number of the game's board was known when the line was opened, or the call began; or was said since.
+fn known(what: Happening, own: &Option<[u8; 5]>, before: bool) -> bool
+    ensures { result ≡ known_by what own.now before }
+{
+    match what {
+        Happening::Owns(_) => true,
+        Happening::Begins | Happening::Opens => own.is_some(),
         _ => before,
     }
 }
@@ -111,6 +124,16 @@ fn are_same(number: &[u8], other: &[u8]) -> bool
     *number == *other
 }
 
+/// Whether the board on the cable has sent the number that the game's board has.
+fn sends_own(shown: &Option<[u8; 5]>, own: &Option<[u8; 5]>) -> bool
+    ensures { result ≡ sends_own shown.now own.now }
+{
+    match (shown, own) {
+        (Some(shown), Some(own)) => are_same(shown, own),
+        _ => false,
+    }
+}
+
 /// What is done with what the board with this number sends, if another one may be the game's.
 fn handling_of(shown: [u8; 5], own: &[u8; 5]) -> Handling
     ensures { result ≡ handling_of shown own.now }
@@ -145,6 +168,7 @@ impl Whose {
         Whose {
             own: None,
             shown: None,
+            was_known: false,
             awaited: None,
             dumps: 0,
             left: 0,
@@ -158,6 +182,7 @@ impl Whose {
         self.left = left(event.what, &self.own, self.left);
         self.dumps = dumps(event.what, self.awaited, self.dumps);
         self.awaited = awaited(event.what, event.at, self.awaited);
+        self.was_known = known(event.what, &self.own, self.was_known);
         self.own = own(event.what, self.own);
         self.shown = shown(event.what, self.shown);
     }
@@ -181,6 +206,14 @@ impl Whose {
         ensures { (past : List EventOf) → HasWhose self.now past → result ≡ shown_number past }
     {
         self.shown
+    }
+
+    /// Whether the board on the cable is the game's own: since the line was opened it has sent the number that was known then, or was
+    /// said since.
+    pub fn is_own(&self) -> bool
+        ensures { (past : List EventOf) → HasWhose self.now past → result ≡ is_own past }
+    {
+        self.was_known && sends_own(&self.shown, &self.own)
     }
 
     /// Whether the number is asked for with the next request, though it doesn't ask for updates.

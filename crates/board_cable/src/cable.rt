@@ -4,7 +4,7 @@ ghost use Rattle.board_asking.specs.declared.line.Event.{Event as ToldOf};
 ghost use Rattle.board_asking.specs.Asking.{Changes, StandsFor as AskingStandsFor};
 ghost use Rattle.board_asking.specs.Pace.{AsksAlike};
 ghost use Rattle.board_asking.specs.Silence.{is_silent};
-ghost use Rattle.board_asking.specs.Whose.{HandledAlike, own_number, shown_number};
+ghost use Rattle.board_asking.specs.Whose.{HandledAlike, is_own, own_number, shown_number};
 ghost use Rattle.board_cable.specs.Moments.{Moment, moment_of, sent, stream};
 ghost use Rattle.board_cable.specs.Frames.{HasFrames, with_happening};
 ghost use Rattle.board_cable.specs.Turns.{Tells, Told, Turn, told, told_by};
@@ -138,5 +138,12 @@ impl Cable {
         ensures { (past : List Moment) (turns : List Turn) → StandsFor self.now past → Told past turns → result ≡ own_number (told turns) }
     {
         self.asking.serial()
+    }
+    /// Whether the board on the cable is the game's own: since the line was opened it has sent the number that was known then, or was
+    /// said since.
+    pub fn is_own(&self) -> bool
+        ensures { (past : List Moment) (turns : List Turn) → StandsFor self.now past → Told past turns → result ≡ is_own (told turns) }
+    {
+        self.asking.is_own()
     }
 }

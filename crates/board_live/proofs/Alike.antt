@@ -23,7 +23,7 @@ use Rattle.board_live.specs.Laws.{AnsweredAlike, RestartsAlike, as_kept, with_nu
 use Rattle.board_live.specs.Numbers.{number_news}
 use Rattle.board_live.specs.Moments.{Moment, already, at_cable, begins, cable_moment, cabled, is_added, news_of}
 use Rattle.board_live.proofs.Fed.{is_kept}
-use Rattle.board_live.proofs.Lines.{Line, line_of, same_asked, same_asks, same_begun, same_handlings, same_requests, same_tells}
+use Rattle.board_live.proofs.Lines.{Line, line_of, same_asked, same_asks, same_begun, same_handlings, same_own, same_requests, same_tells}
 use Rattle.board_live.proofs.Sides.{keeps_unseen, nothing_kept, same_kept, same_sides, side_kept, side_of}
 
 -- the silence that is told at the last moment
@@ -191,6 +191,7 @@ restarts call past m before t u ts us is first g h =
       number = same.number;
       kept = same.kept;
       silent = ap (λ (l : Line). l.silent) same.lines;
+      own = same_own (told (t ∷ ts)) (told (u ∷ us)) same.lines;
       came = all_came call past other m before second.0 t u ts us is first second.1 (sym fed.0) (sym fed.1) g h;
       asked = λ later. same_asks later (told (t ∷ ts)) (told (u ∷ us)) same.lines;
       handled = λ later. same_handlings later (told (t ∷ ts)) (told (u ∷ us)) same.lines;

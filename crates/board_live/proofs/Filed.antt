@@ -6,7 +6,7 @@ use Rattle.square_runs.specs.Squares.{Marks}
 use Rattle.board_asking.specs.declared.line.Event.{Event}
 use Rattle.board_asking.specs.declared.line.Happening.TheVariants.{Begins as LineBegins}
 use Rattle.board_asking.specs.Silence.{is_silent}
-use Rattle.board_asking.specs.Whose.{own_number}
+use Rattle.board_asking.specs.Whose.{is_own, own_number}
 use Rattle.board_cable.specs.declared.happened.What.TheVariants.{Begins}
 use Rattle.board_cable.specs.Keeping.{kept}
 use Rattle.board_cable.specs.Turns.{Told, Turn, told}
@@ -39,13 +39,13 @@ use Rattle.board_live.specs.Laws.{with_kept, with_number, with_told}
 use Rattle.board_live.specs.Live.{Answers, clock_news, unsaid}
 use Rattle.board_live.specs.Moments.{Moment, already, begins, cabled, is_added, news_of}
 use Rattle.board_live.specs.Restarts.{FilesSayTheSame, IsAnswered, WakesAt, as_filed}
-use Rattle.board_live.specs.Saying.{IsSaid, is_live, said_before}
+use Rattle.board_live.specs.Saying.{IsRead, IsSaid, is_live, said_before}
 use Rattle.board_live.proofs.Alike.{Likewise, begun, earlier, keeps_begun, kept_begun, likewise, none_told, silence_at}
 use Rattle.board_live.proofs.Dues.{due_by}
 use Rattle.board_live.proofs.Ends.{end_begun, end_step, last_same}
 use Rattle.board_live.proofs.Fed.{Fed, fed_kept, fed_none, fed_told, numbered, turn_asked}
-use Rattle.board_live.proofs.Lines.{line_of, same_asks, same_handlings}
-use Rattle.board_live.proofs.Saids.{first_said, live_alike, said_step, squares_once, state_same}
+use Rattle.board_live.proofs.Lines.{line_of, same_asks, same_handlings, same_own}
+use Rattle.board_live.proofs.Saids.{first_said, live_alike, read_same, said_step, squares_once, state_same}
 use Rattle.board_live.proofs.Says.{answer_same, both_or_neither, clock_first, clock_step, said_first}
 
 -- ---- what the files bring the game
@@ -223,6 +223,13 @@ state_since forgotten setting recovers one other now a b valid fits within s g h
     state_same a b (g.kind ∙ r.kind ∙ sym h.kind) (g.since ∙ r.since ∙ sym h.since) (squares_once a.squares b.squares (names_at now h.heard) fits within marks h.squares)
     (g.hint ∙ r.hint ∙ sym h.hint)
 
+pub read_since : SilenceIsForgotten → (setting : Setting) (recovers : Bool) (past other : List Moment) (ts us : List Turn) (now : ℕ) (a b : State) → Valid setting.start
+    → a.squares < 2 ^ 64 → b.squares < 2 ^ 64 → Since (came past ts) (came other us) → is_own (told ts) ≡ is_own (told us) → IsRead setting recovers past ts now a
+    → IsRead setting recovers other us now b → a ≡ b
+read_since forgotten setting recovers past other ts us now a b valid fits within since own g h =
+    read_same setting recovers past other ts us now now a b fits within own
+    (λ x y low few i j. state_since forgotten setting recovers (came past ts) (came other us) now x y valid low few since i j) g h
+
 pub alarms_since : SilenceIsForgotten → (setting : Setting) (recovers : Bool) (one other : List Came) (a b : List Look) → Valid setting.start → Since one other
     → AlarmsAre setting recovers one a → AlarmsAre setting recovers other b → a ≡ b
 alarms_since forgotten setting recovers one other a b valid s g h =
@@ -262,14 +269,16 @@ filed_said forgotten setting recovers call past m before [] others said other la
 filed_said forgotten setting recovers call past m before (t ∷ ts) [] said other last final valid is first g h p q = absurd (none_told m call (filed_with m past before) h)
 filed_said forgotten setting recovers [] past m before (t ∷ ts) (u ∷ us) said other last final valid is first g h p q =
     let filed = filed_with m past before in
-    let states : p.0 ≡ q.0 = state_since forgotten setting recovers (came (m ∷ past) (t ∷ ts)) (came (m ∷ filed) (u ∷ us)) m.at p.0 q.0 valid p.5 q.5
-    (since_call [] past m before t u ts us is first g h).1 p.4 q.4 in
+    let both = since_call [] past m before t u ts us is first g h in
+    let states : p.0 ≡ q.0 = read_since forgotten setting recovers (m ∷ past) (m ∷ filed) (t ∷ ts) (u ∷ us) m.at p.0 q.0 valid p.5 q.5 both.1
+    (same_own (told (t ∷ ts)) (told (u ∷ us)) both.0.lines) p.4 q.4 in
     said_step m.what (is_live (m ∷ past)) (is_live (m ∷ filed)) p.0 q.0 p.2 q.2 said other last final (live_alike [] past filed m is) states (first_said m p.2 q.2 is) p.6 q.6 p.7 q.7
 filed_said forgotten setting recovers (one ∷ call) past m before (t ∷ ts) (u ∷ us) said other last final valid is first g h p q =
     let filed = filed_with m past before in
     let sooner = filed_said forgotten setting recovers call past m before ts us p.1 q.1 p.2 q.2 valid is first g.0 h.0 p.3 q.3 in
-    let states : p.0 ≡ q.0 = state_since forgotten setting recovers (came (one ∷ call ++ m ∷ past) (t ∷ ts)) (came (one ∷ call ++ m ∷ filed) (u ∷ us)) one.at p.0 q.0 valid p.5 q.5
-    (since_call (one ∷ call) past m before t u ts us is first g h).1 p.4 q.4 in
+    let both = since_call (one ∷ call) past m before t u ts us is first g h in
+    let states : p.0 ≡ q.0 = read_since forgotten setting recovers (one ∷ call ++ m ∷ past) (one ∷ call ++ m ∷ filed) (t ∷ ts) (u ∷ us) one.at p.0 q.0 valid p.5 q.5 both.1
+    (same_own (told (t ∷ ts)) (told (u ∷ us)) both.0.lines) p.4 q.4 in
     said_step one.what (is_live (one ∷ call ++ m ∷ past)) (is_live (one ∷ call ++ m ∷ filed)) p.0 q.0 p.2 q.2 said other last final (live_alike (one ∷ call) past filed m is) states
     (ap (λ x. said_before one.what x) sooner.1) p.6 q.6 p.7 q.7
 

@@ -7,6 +7,7 @@ pub mod History
 pub mod Later
 pub mod Lines
 pub mod Numbered
+pub mod Owned
 pub mod Saids
 pub mod Says
 pub mod Sides

@@ -15,7 +15,7 @@ use Rattle.board_asking.specs.Line.{asked_at, asked_by, dumped_at, dumped_by, is
 use Rattle.board_asking.specs.Pace.{asks}
 use Rattle.board_asking.specs.Silence.{heard_at, heard_by, is_silent, lost, lost_by, silent_by}
 use Rattle.board_asking.specs.Starting.{has_updated, is_start, last_dump, last_dump_by, start_by, updates_by}
-use Rattle.board_asking.specs.Whose.{awaited_at, awaited_by, dumps_by, dumps_since, handling_at, handling_by, is_awaited, left, left_by, own_by, own_number, shown_by, shown_number}
+use Rattle.board_asking.specs.Whose.{awaited_at, awaited_by, dumps_by, dumps_since, handling_at, handling_by, is_awaited, is_own, known_by, left, left_by, own_by, own_number, sends_own, shown_by, shown_number, was_known}
 use Rattle.board_cable.specs.Frames.{TellsRead, told_of, with_happening, with_shown}
 use Rattle.board_cable.specs.Moments.{Moment, is_heard}
 use Rattle.board_cable.specs.Turns.{Tells, TellsAs, told_by}
@@ -36,6 +36,7 @@ pub record Line : Type 0 where
   pub silent : Bool
   pub own : Option (List ℕ)
   pub shown : Option (List ℕ)
+  pub known : Bool
   pub awaited : Option ℕ
   pub dumps : ℕ
   pub remaining : ℕ
@@ -57,6 +58,7 @@ line_of past = record {
   silent = is_silent past;
   own = own_number past;
   shown = shown_number past;
+  known = was_known past;
   awaited = awaited_at past;
   dumps = dumps_since past;
   remaining = left past;
@@ -79,6 +81,7 @@ next e l = record {
   silent = silent_by e.what e.at l.lacking l.heard l.silent;
   own = own_by e.what l.own;
   shown = shown_by e.what l.shown;
+  known = known_by e.what l.own l.known;
   awaited = awaited_by e.what e.at l.awaited;
   dumps = dumps_by e.what l.awaited l.dumps;
   remaining = left_by e.what l.own l.remaining;
@@ -103,6 +106,9 @@ same_requests at a b h = ap (λ l. request_on at l) h
 
 pub same_handlings : (at : ℕ) (a b : List Event) → line_of a ≡ line_of b → handling_at at a ≡ handling_at at b
 same_handlings at a b h = ap (λ (l : Line). handling_by (is_awaited at l.awaited l.dumps) l.own l.shown) h
+
+pub same_own : (a b : List Event) → line_of a ≡ line_of b → is_own a ≡ is_own b
+same_own a b h = ap (λ (l : Line). l.known && sends_own l.shown l.own) h
 
 pub same_asked : (at : ℕ) (request : Option Request) (a b : List Event) → line_of a ≡ line_of b → line_of (with_request at request a) ≡ line_of (with_request at request b)
 same_asked at None a b h = h

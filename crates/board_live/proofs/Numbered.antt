@@ -1,5 +1,5 @@
 -- The number of the game's board, told once a call has begun.
-use Rattle.std.proofs.Common.{◌≡◌, ◌<◌, ◌≤◌, ◌^◌, inl, inr, ℕ, Bool, true, false, List, [], ◌∷◌, ◌++◌, length, Option, Some, None, refl, sym, ap, subst, ◌∙◌}
+use Rattle.std.proofs.Common.{◌≡◌, ◌<◌, ◌≤◌, ◌^◌, ◌&&◌, inl, inr, ℕ, Bool, true, false, List, [], ◌∷◌, ◌++◌, length, Option, Some, None, is_some, refl, sym, ap, subst, ◌∙◌}
 use Rattle.chess_rules.specs.Valid.{Valid}
 use Rattle.board_asking.specs.declared.line.Event.{Event}
 use Rattle.board_asking.specs.declared.line.Happening.TheVariants.{Begins as LineBegins, Interrupts as LineInterrupts, Owns as LineOwns}
@@ -8,7 +8,7 @@ use Rattle.board_asking.specs.Asking.{request_at}
 use Rattle.board_asking.specs.Lasting.{IsBefore}
 use Rattle.board_asking.specs.Line.{is_open}
 use Rattle.board_asking.specs.Silence.{is_silent}
-use Rattle.board_asking.specs.Whose.{awaited_at, dumps_since, handling_by, is_awaited, own_number, shown_number}
+use Rattle.board_asking.specs.Whose.{awaited_at, dumps_since, handling_by, is_awaited, is_own, own_number, sends_own, shown_number, was_known}
 use Rattle.board_cable.specs.declared.happened.What.{What as AtCable}
 use Rattle.board_cable.specs.declared.happened.What.TheVariants.{Begins, Interrupts, Owns, Wakes}
 use Rattle.board_cable.specs.Keeping.{aside, ends_aside, ends_held, held, kept}
@@ -43,10 +43,10 @@ use Rattle.board_live.specs.Saying.{IsSaid, Says, SaysAfter, is_live, last_said,
 use Rattle.board_live.proofs.Alike.{Likewise, begun, keeps_begun, step, stream_begun, stream_more}
 use Rattle.board_live.proofs.Ends.{end_step}
 use Rattle.board_live.proofs.Fed.{none_aside, turn_asked, unheard}
-use Rattle.board_live.proofs.Filed.{Since, alarms_since, answers_begun, clock_since, due_since, end_since, fed_filed, filed_alike, filed_answer, looks_same, since_alike, since_came, since_turn, state_since}
+use Rattle.board_live.proofs.Filed.{Since, alarms_since, answers_begun, clock_since, due_since, end_since, fed_filed, filed_alike, filed_answer, looks_same, read_since, since_alike, since_came, since_turn}
+use Rattle.board_live.proofs.Lines.{Line, line_of, request_on, same_own}
+use Rattle.board_live.proofs.Saids.{first_said, live_alike, read_same, said_step, squares_once, state_once, state_same}
 use Rattle.board_live.proofs.Says.{clock_step}
-use Rattle.board_live.proofs.Lines.{Line, line_of, request_on}
-use Rattle.board_live.proofs.Saids.{first_said, live_alike, said_step, squares_once, state_once, state_same}
 use Rattle.board_live.proofs.TakeLemmas.{sooner_both}
 use Rattle.board_live.proofs.Sides.{Side, keeps_unseen, nothing, nothing_kept, side_kept, side_of}
 
@@ -82,11 +82,11 @@ SaidAlike setting recovers past other = (ts us : List Turn) (said answer last fi
     → IsSaid setting recovers past ts said last → IsSaid setting recovers other us answer final → last ≡ final
 
 said_at : SilenceIsForgotten → (setting : Setting) (recovers : Bool) (m : Moment) (past other : List Moment) (t u : Turn) (ts us : List Turn) (said answer last final : Option State)
-    → Valid setting.start → Since (came (m ∷ past) (t ∷ ts)) (came (m ∷ other) (u ∷ us)) → SaidAlike setting recovers past other → is_live past ≡ is_live other
+    → Valid setting.start → Since (came (m ∷ past) (t ∷ ts)) (came (m ∷ other) (u ∷ us)) → is_own (told (t ∷ ts)) ≡ is_own (told (u ∷ us)) → SaidAlike setting recovers past other → is_live past ≡ is_live other
     → Told (cabled (m ∷ past)) (t ∷ ts) → Told (cabled (m ∷ other)) (u ∷ us) → IsSaid setting recovers (m ∷ past) (t ∷ ts) said last
     → IsSaid setting recovers (m ∷ other) (u ∷ us) answer final → (said ≡ answer) × (last ≡ final)
-said_at forgotten setting recovers m past other t u ts us said answer last final valid since before live g h p q =
-    let states : p.0 ≡ q.0 = state_since forgotten setting recovers (came (m ∷ past) (t ∷ ts)) (came (m ∷ other) (u ∷ us)) m.at p.0 q.0 valid p.5 q.5 since p.4 q.4 in
+said_at forgotten setting recovers m past other t u ts us said answer last final valid since own before live g h p q =
+    let states : p.0 ≡ q.0 = read_since forgotten setting recovers (m ∷ past) (m ∷ other) (t ∷ ts) (u ∷ us) m.at p.0 q.0 valid p.5 q.5 since own p.4 q.4 in
     said_step m.what (is_live (m ∷ past)) (is_live (m ∷ other)) p.0 q.0 p.2 q.2 said answer last final (ap (λ b. live_by m.what b) live) states
     (ap (λ x. said_before m.what x) (before ts us p.1 q.1 p.2 q.2 g.0 h.0 p.3 q.3)) p.6 q.6 p.7 q.7
 
@@ -96,7 +96,7 @@ said_more : SilenceIsForgotten → (setting : Setting) (recovers : Bool) (m : Mo
     → (said ≡ answer) × (last ≡ final)
 said_more forgotten setting recovers m past other t u ts us said answer last final valid all before live g h p q =
     let j = (joined_more m past other t u ts us (all ts us g.0 h.0) g h).1 in
-    said_at forgotten setting recovers m past other t u ts us said answer last final valid j.since before live g h p q
+    said_at forgotten setting recovers m past other t u ts us said answer last final valid j.since (same_own (told (t ∷ ts)) (told (u ∷ us)) j.lines) before live g h p q
 
 live_call : (call past other : List Moment) → is_live past ≡ is_live other → is_live (call ++ past) ≡ is_live (call ++ other)
 live_call [] past other live = live
@@ -160,9 +160,9 @@ wakes_on forgotten setting recovers m past other (t ∷ ts) (u ∷ us) due time 
 
 -- ---- before anything is told of the line
 
--- the line, but the number of the game's board
+-- the line, but the number of the game's board, and whether it was known
 abbrev but_own : Line → Line
-but_own l = record l { own = None }
+but_own l = record l { own = None; known = false }
 
 -- The line isn't open, and nothing is kept back; both differ in the number alone, and in the silence before this call.
 record Ready (own : Option (List ℕ)) (past other : List Moment) (ts us : List Turn) : Type 0 where
@@ -177,6 +177,8 @@ record Ready (own : Option (List ℕ)) (past other : List Moment) (ts us : List 
   since : Since (came past ts) (came other us)
   owns : own_number (told ts) ≡ own
   none : own_number (told us) ≡ None
+  known : was_known (told ts) ≡ is_some own
+  unknown : was_known (told us) ≡ false
 
 -- A turn at which nothing is told of the line, and the board isn't asked.
 record Still (turn : Turn) (turns : List Turn) (now : List Event) : Type 0 where
@@ -204,6 +206,18 @@ still turn turns now is closed awaited shown side silent =
       side = side_kept turn turns keeping;
     }
 
+neither : (b : Bool) → b && false ≡ false
+neither true = refl
+neither false = refl
+
+-- A board that has sent no number isn't known to be the game's own.
+unsent : (past : List Event) → shown_number past ≡ None → is_own past ≡ false
+unsent past shown = ap (λ x. was_known past && sends_own x (own_number past)) shown ∙ neither (was_known past)
+
+unsent_alike : (own : Option (List ℕ)) (past other : List Moment) (ts us : List Turn) → Ready own past other ts us → is_own (told ts) ≡ is_own (told us)
+unsent_alike own past other ts us r =
+    unsent (told ts) (ap (λ (l : Line). l.shown) r.lines ∙ r.shown) ∙ sym (unsent (told us) r.shown)
+
 abbrev AreReady : Option (List ℕ) → List Moment → List Moment → Type 0
 AreReady own past other = (ts us : List Turn) → Told (cabled past) ts → Told (cabled other) us → Ready own past other ts us
 
@@ -216,9 +230,9 @@ came_still m past t ts none before after =
 
 ready_with : (own : Option (List ℕ)) (m : Moment) (past other : List Moment) (t u : Turn) (ts us : List Turn) (x y : List Event) → Ready own past other ts us
     → t.moment ≡ cable_moment m → u.moment ≡ cable_moment m → t.now ≡ x → u.now ≡ y → but_own (line_of x) ≡ but_own (line_of y) → is_open y ≡ false → awaited_at y ≡ None
-    → shown_number y ≡ None → is_silent y ≡ false → own_number x ≡ own → own_number y ≡ None → is_heard (at_cable m.what) ≡ false
+    → shown_number y ≡ None → is_silent y ≡ false → own_number x ≡ own → own_number y ≡ None → was_known x ≡ is_some own → was_known y ≡ false → is_heard (at_cable m.what) ≡ false
     → Ready own (m ∷ past) (m ∷ other) (t ∷ ts) (u ∷ us)
-ready_with own m past other t u ts us x y r at also now next lines closed awaited shown silent owns none unheard_by =
+ready_with own m past other t u ts us x y r at also now next lines closed awaited shown silent owns none known unknown unheard_by =
     let st = still t ts x now (ap (λ (l : Line). l.opened) lines ∙ closed) (ap (λ (l : Line). l.awaited) lines ∙ awaited) (ap (λ (l : Line). l.shown) lines ∙ shown) r.side
     (ap (λ (one : CableMoment). is_heard one.what) at ∙ unheard_by) in
     let su = still u us y next closed awaited shown r.other_side (ap (λ (one : CableMoment). is_heard one.what) also ∙ unheard_by) in
@@ -241,6 +255,8 @@ ready_with own m past other t u ts us x y r at also now next lines closed awaite
       since = subst (λ b. S (came (m ∷ past) (t ∷ ts)) b) (sym two) (subst (λ a. S a (C (came other us))) (sym one) since);
       owns = ap own_number st.told_is ∙ owns;
       none = ap own_number su.told_is ∙ none;
+      known = ap was_known st.told_is ∙ known;
+      unknown = ap was_known su.told_is ∙ unknown;
     }
 
 -- what is cut is read anew
@@ -254,7 +270,7 @@ ready_more own m past other t u ts us (inl wakes) r g h =
     let U : AtCable → Type 0 = λ w. Tells (record { at = m.at; what = w; bytes = m.bytes }) (stream (cabled other)) (told us) u.now in
     let now : T Wakes = subst T wakes g.2 in
     let next : U Wakes = subst U wakes h.2 in
-    ready_with own m past other t u ts us (told ts) (told us) r g.1 h.1 now next r.lines r.closed r.awaited r.shown r.silent r.owns r.none (ap is_heard wakes)
+    ready_with own m past other t u ts us (told ts) (told us) r g.1 h.1 now next r.lines r.closed r.awaited r.shown r.silent r.owns r.none r.known r.unknown (ap is_heard wakes)
 ready_more own m past other t u ts us (inr cut) r g h =
     let T : AtCable → Type 0 = λ w. Tells (record { at = m.at; what = w; bytes = m.bytes }) (stream (cabled past)) (told ts) t.now in
     let U : AtCable → Type 0 = λ w. Tells (record { at = m.at; what = w; bytes = m.bytes }) (stream (cabled other)) (told us) u.now in
@@ -262,7 +278,7 @@ ready_more own m past other t u ts us (inr cut) r g h =
     let next : U Interrupts = subst U cut h.2 in
     let e : Event = record { at = m.at; what = LineInterrupts } in
     ready_with own m past other t u ts us (e ∷ told ts) (e ∷ told us) r g.1 h.1 now next (ap (λ (l : Line). interrupted l) r.lines) r.closed r.awaited r.shown r.silent
-    r.owns r.none (ap is_heard cut)
+    r.owns r.none r.known r.unknown (ap is_heard cut)
 
 ready_call : (own : Option (List ℕ)) (first past other : List Moment) → AreOffLine first → AreReady own past other → AreReady own (first ++ past) (first ++ other)
 ready_call own [] past other off all ts us g h = all ts us g h
@@ -306,24 +322,26 @@ begun_ready m past other t u ts us is empty had g h =
       since = since_begun m past other t u ts us is had g h;
       owns = ap own_number all;
       none = ap own_number others ∙ ap own_number empty;
+      known = ap was_known all;
+      unknown = ap was_known others ∙ ap (λ (es : List Event). is_some (own_number es)) empty;
     }
 
 -- ---- the number
 
 abbrev with_own : Option (List ℕ) → Line → Line
-with_own own l = record l { own = own }
+with_own own l = record l { own = own; known = is_some own }
 
-own_is : (l : Line) (own : Option (List ℕ)) → l.own ≡ own → l ≡ with_own own (but_own l)
-own_is l own e = ap (λ o. with_own o l) e
+own_is : (l : Line) (own : Option (List ℕ)) → l.own ≡ own → l.known ≡ is_some own → l ≡ with_own own (but_own l)
+own_is l own e k = ap (λ (o : Option (List ℕ)). record l { own = o }) e ∙ ap (λ (b : Bool). record l { own = own; known = b }) k
 
-numbered_lines : (own : Option (List ℕ)) (a b : Line) → but_own a ≡ but_own b → a.own ≡ own → a ≡ with_own own b
-numbered_lines own a b same e = own_is a own e ∙ ap (λ l. with_own own l) same
+numbered_lines : (own : Option (List ℕ)) (a b : Line) → but_own a ≡ but_own b → a.own ≡ own → a.known ≡ is_some own → a ≡ with_own own b
+numbered_lines own a b same e k = own_is a own e k ∙ ap (λ l. with_own own l) same
 
 no_number : (past other : List Moment) → AreReady None past other → AreJoined past other
 no_number past other all ts us g h =
     let r = all ts us g h in
     record {
-      lines = numbered_lines None (line_of (told ts)) (line_of (told us)) r.lines r.owns ∙ sym (own_is (line_of (told us)) None r.none);
+      lines = numbered_lines None (line_of (told ts)) (line_of (told us)) r.lines r.owns r.known ∙ sym (own_is (line_of (told us)) None r.none r.unknown);
       sides = r.side ∙ sym r.other_side;
       streams = r.streams;
       since = r.since;
@@ -335,6 +353,7 @@ owning at number = record { at = at; what = Cable (Owns number); bytes = [] }
 record AtNumber (number : List ℕ) (at : ℕ) (past other : List Moment) (ts : List Turn) (u : Turn) (us : List Turn) : Type 0 where
   joined : Joined past (owning at number ∷ other) ts (u ∷ us)
   same : came (owning at number ∷ other) (u ∷ us) ≡ came other us
+  own : is_own (told (u ∷ us)) ≡ is_own (told us)
 
 at_number : (number : List ℕ) (at : ℕ) (past other : List Moment) (ts : List Turn) (u : Turn) (us : List Turn) → Ready (Some number) past other ts us
     → Told (cabled (owning at number ∷ other)) (u ∷ us) → AtNumber number at past other ts u us
@@ -344,12 +363,13 @@ at_number number at past other ts u us r h =
     let same : came (owning at number ∷ other) (u ∷ us) ≡ came other us = came_still (owning at number) other u us su.keeps r.silent (ap is_silent su.told_is ∙ r.silent) in
     record {
       joined = record {
-        lines = numbered_lines (Some number) (line_of (told ts)) (line_of (told us)) r.lines r.owns ∙ sym (ap line_of su.told_is);
+        lines = numbered_lines (Some number) (line_of (told ts)) (line_of (told us)) r.lines r.owns r.known ∙ sym (ap line_of su.told_is);
         sides = r.side ∙ sym su.side;
         streams = r.streams;
         since = subst (λ b. Since (came past ts) b) (sym same) r.since;
       };
       same = same;
+      own = ap is_own su.told_is ∙ unsent (e ∷ told us) r.shown ∙ sym (unsent (told us) r.shown);
     }
 
 joined_number : (number : List ℕ) (at : ℕ) (past other : List Moment) → AreReady (Some number) past other → AreJoined past (owning at number ∷ other)
@@ -366,6 +386,7 @@ said_ready forgotten setting recovers own (m ∷ first) past other valid off all
 said_ready forgotten setting recovers own (m ∷ first) past other valid off all before live (t ∷ ts) (u ∷ us) said answer last final g h p q =
     let ready = ready_call own (m ∷ first) past other off all (t ∷ ts) (u ∷ us) g h in
     (said_at forgotten setting recovers m (first ++ past) (first ++ other) t u ts us said answer last final valid ready.since
+    (unsent_alike own (m ∷ (first ++ past)) (m ∷ (first ++ other)) (t ∷ ts) (u ∷ us) ready)
     (said_ready forgotten setting recovers own first past other valid off.0 all before live) (live_call first past other live) g h p q).1
 
 no_news : (s : State) → IsNews s s → ⊥
@@ -445,7 +466,8 @@ said_number setting recovers number at x past other all reads before ts (u ∷ [
 said_number setting recovers number at x past other all reads before ts (u ∷ v ∷ us) said answer last final g h p q =
     let a = at_number number at past (x ∷ other) ts u (v ∷ us) (all ts (v ∷ us) g h.0) h in
     let r = q.3 in
-    let state : q.0 ≡ r.0 = reads (v ∷ us) r.0 q.0 h.0 r.5 q.5 r.4 (subst (λ c. IsStateOf setting recovers c at q.0) a.same q.4) in
+    let state : q.0 ≡ r.0 = read_same setting recovers (owning at number ∷ x ∷ other) (x ∷ other) (u ∷ v ∷ us) (v ∷ us) at x.at q.0 r.0 q.5 r.5 a.own
+    (λ b c low few i j. reads (v ∷ us) c b h.0 few low j (subst (λ has. IsStateOf setting recovers has at b) a.same i)) q.4 r.4 in
     let S : State → Type 0 = λ s. Says (is_live (x ∷ other)) q.2 s answer in
     let none : answer ≡ None = none_said (is_live (x ∷ other)) (said_before x.what r.2) q.2 r.0 q.1 answer r.6 r.7 (subst S state q.6) in
     before ts (v ∷ us) said q.1 last q.2 g h.0 p q.3 ∙ sym (q.7 ∙ ap (λ a. last_said a q.2) none)
@@ -495,8 +517,9 @@ begin_said : SilenceIsForgotten → (setting : Setting) (recovers : Bool) (own :
 begin_said forgotten setting recovers own m past other valid is all [] us said answer last final g h p q = absurd g
 begin_said forgotten setting recovers own m past other valid is all (t ∷ ts) [] said answer last final g h p q = absurd h
 begin_said forgotten setting recovers own m past other valid is all (t ∷ ts) (u ∷ us) said answer last final g h p q =
-    let states : p.0 ≡ q.0 = state_since forgotten setting recovers (came (m ∷ past) (t ∷ ts)) (came (m ∷ other) (u ∷ us)) m.at p.0 q.0 valid p.5 q.5
-    (all (t ∷ ts) (u ∷ us) g h).since p.4 q.4 in
+    let ready = all (t ∷ ts) (u ∷ us) g h in
+    let states : p.0 ≡ q.0 = read_since forgotten setting recovers (m ∷ past) (m ∷ other) (t ∷ ts) (u ∷ us) m.at p.0 q.0 valid p.5 q.5 ready.since
+    (unsent_alike own (m ∷ past) (m ∷ other) (t ∷ ts) (u ∷ us) ready) p.4 q.4 in
     (said_step m.what (is_live (m ∷ past)) (is_live (m ∷ other)) p.0 q.0 p.2 q.2 said answer last final (live_alike [] past other m is) states (first_said m p.2 q.2 is) p.6 q.6 p.7 q.7).1
 
 pub number_may_follow : SilenceIsForgotten → HearsOnce → StaysUntilDue → EndStaysUntilDue → NumberMayFollow

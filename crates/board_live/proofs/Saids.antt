@@ -4,7 +4,7 @@ use Rattle.std.specs.Int.{bit_at}
 use Rattle.std.proofs.lemmas.Nat.Bits.{bit_at-lt, same_from_bits_below}
 use Rattle.chess_rules.specs.Valid.{Valid}
 use Rattle.square_runs.specs.Squares.{Marks}
-use Rattle.board_asking.specs.Whose.{own_number}
+use Rattle.board_asking.specs.Whose.{is_own, own_number}
 use Rattle.board_cable.specs.declared.happened.What.TheVariants.{Begins}
 use Rattle.board_cable.specs.Turns.{Told, Turn, told}
 use Rattle.board_events.specs.Settings.{Setting}
@@ -19,7 +19,7 @@ use Rattle.board_live.specs.declared.happened.What.TheVariants.{Cable}
 use Rattle.board_live.specs.Coming.{came}
 use Rattle.board_live.specs.Laws.{IsSaidOnce, SaysAlike, as_kept, with_number}
 use Rattle.board_live.specs.Moments.{Moment, cabled}
-use Rattle.board_live.specs.Saying.{IsSaid, Says, SaysAfter, is_live, last_said, live_by, said_before}
+use Rattle.board_live.specs.Saying.{IsRead, IsSaid, Says, SaysAfter, is_live, last_said, live_by, said_before, without_other}
 use Rattle.board_live.proofs.Alike.{earlier, restarts}
 
 bits : (x y : ℕ) → x < 2 → y < 2 → (x == 1) ≡ (y == 1) → x ≡ y
@@ -41,6 +41,16 @@ state_once once setting recovers has now a b valid fits within g h =
     let M : List Heard → Type 0 = λ heard. Marks a.squares (names_at now heard) in
     state_same a b (g.kind ∙ ap (λ x. kind_at now x) same ∙ sym h.kind) (g.since ∙ ap (λ x. since_at now x) same ∙ sym h.since)
     (squares_once a.squares b.squares (names_at now h.heard) fits within (subst M same g.squares) h.squares) (g.hint ∙ ap (λ x. hint_at now x) same ∙ sym h.hint)
+
+-- The same is read of both boards, if the same is known of the numbers, and both stand alike.
+pub read_same : (setting : Setting) (recovers : Bool) (past other : List Moment) (ts us : List Turn) (now later : ℕ) (a b : State)
+    → a.squares < 2 ^ 64 → b.squares < 2 ^ 64 → is_own (told ts) ≡ is_own (told us)
+    → ((x y : State) → x.squares < 2 ^ 64 → y.squares < 2 ^ 64 → IsStateOf setting recovers (came past ts) now x → IsStateOf setting recovers (came other us) later y → x ≡ y)
+    → IsRead setting recovers past ts now a → IsRead setting recovers other us later b → a ≡ b
+read_same setting recovers past other ts us now later a b fits within own same g h =
+    let F : State → Type 0 = λ s. s.squares < 2 ^ 64 in
+    let stand : g.0 ≡ h.0 = same g.0 h.0 (subst F g.2 fits) (subst F h.2 within) g.1 h.1 in
+    g.2 ∙ ap (λ x. without_other x g.0) own ∙ ap (λ x. without_other (is_own (told us)) x) stand ∙ sym h.2
 
 says_after_once : (before : Option State) (state : State) (said other : Option State) → SaysAfter before state said → SaysAfter before state other → said ≡ other
 says_after_once None state said other g h = g ∙ sym h
@@ -69,7 +79,8 @@ said_once once setting recovers [] turns said other last final valid g h = (g.0 
 said_once once setting recovers (m ∷ past) [] said other last final valid g h = absurd g
 said_once once setting recovers (m ∷ past) (turn ∷ turns) said other last final valid g h =
     let before = said_once once setting recovers past turns g.1 h.1 g.2 h.2 valid g.3 h.3 in
-    let states : g.0 ≡ h.0 = state_once once setting recovers (came (m ∷ past) (turn ∷ turns)) m.at g.0 h.0 valid g.5 h.5 g.4 h.4 in
+    let states : g.0 ≡ h.0 = read_same setting recovers (m ∷ past) (m ∷ past) (turn ∷ turns) (turn ∷ turns) m.at m.at g.0 h.0 g.5 h.5 refl
+    (λ x y a b i j. state_once once setting recovers (came (m ∷ past) (turn ∷ turns)) m.at x y valid a b i j) g.4 h.4 in
     said_step m.what (is_live (m ∷ past)) (is_live (m ∷ past)) g.0 h.0 g.2 h.2 said other last final refl states (ap (λ x. said_before m.what x) before.1) g.6 h.6 g.7 h.7
 
 pub live_alike : (call past other : List Moment) (m : Moment) → m.what ≡ Cable Begins → is_live (call ++ m ∷ past) ≡ is_live (call ++ m ∷ other)
@@ -89,8 +100,8 @@ said_alike once setting recovers [] past m before (t ∷ ts) [] said other last 
 said_alike once setting recovers [] past m before (t ∷ ts) (u ∷ us) said other last final valid is first g h p q =
     let kept = with_number m.at (own_number (told before)) (as_kept past before) in
     let same = restarts [] past m before t u ts us is first g h in
-    let I : List Came → Type 0 = λ has. IsStateOf setting recovers has m.at p.0 in
-    let states : p.0 ≡ q.0 = state_once once setting recovers (came (m ∷ kept) (u ∷ us)) m.at p.0 q.0 valid p.5 q.5 (subst I same.came p.4) q.4 in
+    let states : p.0 ≡ q.0 = read_same setting recovers (m ∷ past) (m ∷ kept) (t ∷ ts) (u ∷ us) m.at m.at p.0 q.0 p.5 q.5 same.own
+    (λ x y a b i j. state_once once setting recovers (came (m ∷ kept) (u ∷ us)) m.at x y valid a b (subst (λ has. IsStateOf setting recovers has m.at x) same.came i) j) p.4 q.4 in
     said_step m.what (is_live (m ∷ past)) (is_live (m ∷ kept)) p.0 q.0 p.2 q.2 said other last final (live_alike [] past kept m is) states (first_said m p.2 q.2 is) p.6 q.6 p.7 q.7
 said_alike once setting recovers (one ∷ call) past m before [] others said other last final valid is first g h p q = absurd g
 said_alike once setting recovers (one ∷ call) past m before (t ∷ ts) [] said other last final valid is first g h p q = absurd h
@@ -98,8 +109,9 @@ said_alike once setting recovers (one ∷ call) past m before (t ∷ ts) (u ∷ 
     let kept = with_number m.at (own_number (told before)) (as_kept past before) in
     let same = restarts (one ∷ call) past m before t u ts us is first g h in
     let sooner = said_alike once setting recovers call past m before ts us p.1 q.1 p.2 q.2 valid is first g.0 h.0 p.3 q.3 in
-    let I : List Came → Type 0 = λ has. IsStateOf setting recovers has one.at p.0 in
-    let states : p.0 ≡ q.0 = state_once once setting recovers (came (one ∷ call ++ m ∷ kept) (u ∷ us)) one.at p.0 q.0 valid p.5 q.5 (subst I same.came p.4) q.4 in
+    let states : p.0 ≡ q.0 = read_same setting recovers (one ∷ call ++ m ∷ past) (one ∷ call ++ m ∷ kept) (t ∷ ts) (u ∷ us) one.at one.at p.0 q.0 p.5 q.5 same.own
+    (λ x y a b i j. state_once once setting recovers (came (one ∷ call ++ m ∷ kept) (u ∷ us)) one.at x y valid a b (subst (λ has. IsStateOf setting recovers has one.at x) same.came i) j)
+    p.4 q.4 in
     said_step one.what (is_live (one ∷ call ++ m ∷ past)) (is_live (one ∷ call ++ m ∷ kept)) p.0 q.0 p.2 q.2 said other last final (live_alike (one ∷ call) past kept m is) states
     (ap (λ x. said_before one.what x) sooner.1) p.6 q.6 p.7 q.7
 

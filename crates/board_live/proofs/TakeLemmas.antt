@@ -8,7 +8,7 @@ use Rattle.board_asking.specs.Asking.{Changes}
 use Rattle.board_asking.specs.Lasting.{IsBefore}
 use Rattle.board_events.specs.Settings.{Setting}
 use Rattle.board_game.specs.Ending.{IsEndDueOf}
-use Rattle.board_game.specs.Games.{IsDueOf, IsStateOf, StandsFor as GameStands}
+use Rattle.board_game.specs.Games.{IsDueOf, StandsFor as GameStands}
 use Rattle.board_standing.specs.declared.state.State.{State}
 use Rattle.board_live.specs.declared.attending.Attending.{Attending}
 use Rattle.board_live.specs.declared.live.Live.{Live}
@@ -16,7 +16,7 @@ use Rattle.board_live.specs.declared.saying.Saying.{Saying}
 use Rattle.board_live.specs.Attending.{Attends}
 use Rattle.board_live.specs.Due.{MayChange}
 use Rattle.board_live.specs.Live.{StandsFor}
-use Rattle.board_live.specs.Saying.{HasSaid, IsSaid, Says, is_live, last_said, live_by, said_before}
+use Rattle.board_live.specs.Saying.{HasSaid, IsRead, IsSaid, Says, is_live, last_said, live_by, said_before}
 use Rattle.board_asking.specs.declared.whose.Handling.{Handling}
 use Rattle.board_asking.specs.Silence.{is_silent}
 use Rattle.board_cable.specs.Keeping.{kept, kept_by, released}
@@ -61,7 +61,7 @@ kept_more m past turns all handling bytes h k f s =
 pub said_more : (old new : Saying) (setting : Setting) (recovers : Bool) (m : Moment) (past : List Moment) (turn : Turn) (turns : List Turn) (state : State)
     (result : Option State) → HasSaid old setting recovers past turns → new.is_live ≡ live_by m.what old.is_live
     → Says new.is_live (said_before m.what old.last) state result → new.last ≡ last_said result (said_before m.what old.last)
-    → IsStateOf setting recovers (came (m ∷ past) (turn ∷ turns)) m.at state → state.squares < 2 ^ 64
+    → IsRead setting recovers (m ∷ past) (turn ∷ turns) m.at state → state.squares < 2 ^ 64
     → (new.is_live ≡ is_live (m ∷ past)) × IsSaid setting recovers (m ∷ past) (turn ∷ turns) result new.last
 said_more old new setting recovers m past turn turns state result has live says last is fits =
     let now : new.is_live ≡ is_live (m ∷ past) = live ∙ ap (λ b. live_by m.what b) has.live in

@@ -1,15 +1,21 @@
 -- What holds of each history. Lists have the latest first, but the bytes.
-use Rattle.std.specs.Prelude.{◌≡◌, ℕ, Bool, true, false, List, [], ◌∷◌, ◌++◌, Option, Some, None}
+use Rattle.std.specs.Prelude.{◌≡◌, ◌≢◌, ◌⊎◌, ℕ, Bool, true, false, List, [], ◌∷◌, ◌++◌, Option, Some, None}
+use Rattle.std.specs.List.{list_all}
 use Rattle.chess_rules.specs.Valid.{Valid}
+use Rattle.board_asking.specs.declared.line.Event.{Event}
+use Rattle.board_asking.specs.declared.line.Happening.TheVariants.{Opens}
+use Rattle.board_asking.specs.Laws.{knows_still}
 use Rattle.board_asking.specs.Silence.{is_silent}
 use Rattle.board_asking.specs.Pace.{asks}
-use Rattle.board_asking.specs.Whose.{handling_at, own_number}
+use Rattle.board_asking.specs.Whose.{handling_at, is_own, own_number, shown_number}
 use Rattle.board_cable.specs.declared.happened.What.TheVariants.{Begins, Owns}
 use Rattle.board_cable.specs.Keeping.{kept}
 use Rattle.board_cable.specs.Turns.{Told, Turn, handling_of, request_of, told}
 use Rattle.board_events.specs.Settings.{Setting}
+use Rattle.board_game.specs.Games.{IsStateOf}
 use Rattle.board_game.specs.declared.note.Note.{Note}
 use Rattle.board_game.specs.declared.note.Note.TheVariants.{Line, Looked, PutsBack, Reopens, Passes, Resumes, Suspects}
+use Rattle.board_standing.specs.declared.state.Hint.TheVariants.{OtherBoard}
 use Rattle.board_standing.specs.declared.state.State.{State}
 use Rattle.board_live.specs.declared.happened.What.{What}
 use Rattle.board_live.specs.declared.happened.What.TheVariants.{Cable, Keeps, KeepsAdded, Tells, Notes}
@@ -19,7 +25,7 @@ use Rattle.board_live.specs.Due.{IsDue}
 use Rattle.board_live.specs.Ending.{IsEndSaid}
 use Rattle.board_live.specs.Moments.{Moment, already, cabled, is_added, news_of}
 use Rattle.board_live.specs.Numbers.{number_news}
-use Rattle.board_live.specs.Saying.{IsSaid}
+use Rattle.board_live.specs.Saying.{IsRead, IsSaid}
 
 -- Whatever happens later, the turns up to now are the same: so is all that was answered, since that follows from them.
 abbrev pub LaterChangesNothing : Type 0
@@ -30,6 +36,20 @@ LaterChangesNothing = (later past : List Moment) (turns others : List Turn) → 
 abbrev pub IsSaidOnce : Type 0
 IsSaidOnce = (setting : Setting) (recovers : Bool) (past : List Moment) (turns : List Turn) (said other last final : Option State) → Valid setting.start
     → IsSaid setting recovers past turns said last → IsSaid setting recovers past turns other final → (said ≡ other) × (last ≡ final)
+
+-- Of a board that has sent the number that was known when its line was opened, it isn't said that it may be another one, until another
+-- number is said to be the game's board's.
+abbrev pub OwnBoardIsNoOther : Type 0
+OwnBoardIsNoOther = (setting : Setting) (recovers : Bool) (past : List Moment) (turns : List Turn) (state : State) (last : Option State) (opened : ℕ) (number : List ℕ)
+    (since before : List Event) → told turns ≡ since ++ record { at = opened; what = Opens } ∷ before → own_number before ≡ Some number
+    → list_all (λ event. knows_still event.what) since ≡ true → shown_number (told turns) ≡ Some number → IsSaid setting recovers past turns (Some state) last
+    → state.hint ≢ Some OtherBoard
+
+-- Nothing else is left out: a state with another hint, or with none, is read as it is, and so is each state of another board.
+abbrev pub NothingElseIsLeftOut : Type 0
+NothingElseIsLeftOut = (setting : Setting) (recovers : Bool) (past : List Moment) (turns : List Turn) (now : ℕ) (state : State)
+    → IsStateOf setting recovers (came past turns) now state → (state.hint ≢ Some OtherBoard) ⊎ (is_own (told turns) ≡ false)
+    → IsRead setting recovers past turns now state
 
 -- And it names one time at which the recorder is woken.
 abbrev pub WakesOnce : Type 0
@@ -81,6 +101,7 @@ pub record AnsweredAlike (past : List Moment) (turn : Turn) (turns : List Turn) 
       ≡ number_news what (own_number (told others)) (own_number (told (second ∷ others)))
   pub kept : kept (turn ∷ turns) ≡ kept (second ∷ others)
   pub silent : is_silent (told (turn ∷ turns)) ≡ is_silent (told (second ∷ others))
+  pub own : is_own (told (turn ∷ turns)) ≡ is_own (told (second ∷ others))
   pub came : came past (turn ∷ turns) ≡ came other (second ∷ others)
   pub asked : (later : ℕ) → asks later (told (turn ∷ turns)) ≡ asks later (told (second ∷ others))
   pub handled : (later : ℕ) → handling_at later (told (turn ∷ turns)) ≡ handling_at later (told (second ∷ others))

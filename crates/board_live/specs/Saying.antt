@@ -1,9 +1,12 @@
 -- Which states are said. Lists have the latest first.
-use Rattle.std.specs.Prelude.{◌≡◌, ◌<◌, ◌^◌, Bool, true, false, if◌then◌else◌, List, [], ◌∷◌, Option, Some, None}
+use Rattle.std.specs.Prelude.{◌≡◌, ◌<◌, ◌^◌, ℕ, Bool, true, false, if◌then◌else◌, List, [], ◌∷◌, Option, Some, None}
+use Rattle.board_asking.specs.Whose.{is_own}
 use Rattle.board_cable.specs.declared.happened.What.TheVariants.{Begins}
-use Rattle.board_cable.specs.Turns.{Turn}
+use Rattle.board_cable.specs.Turns.{Turn, told}
 use Rattle.board_events.specs.Settings.{Setting}
 use Rattle.board_game.specs.Games.{IsStateOf}
+use Rattle.board_standing.specs.declared.state.Hint.{Hint}
+use Rattle.board_standing.specs.declared.state.Hint.TheVariants.{OtherBoard}
 use Rattle.board_standing.specs.declared.state.State.{State}
 use Rattle.board_standing.specs.States.{IsNews}
 use Rattle.board_live.specs.declared.happened.What.{What}
@@ -11,6 +14,19 @@ use Rattle.board_live.specs.declared.happened.What.TheVariants.{Cable, Keeps, Ke
 use Rattle.board_live.specs.declared.saying.Saying.{Saying}
 use Rattle.board_live.specs.Coming.{came}
 use Rattle.board_live.specs.Moments.{Moment, begins}
+
+-- Of a board that is the game's own it isn't said that it may be another one.
+abbrev pub but_other : Bool → Option Hint → Option Hint
+but_other true (Some OtherBoard) = None
+but_other own hint = hint
+
+abbrev pub without_other : Bool → State → State
+without_other own state = record { kind = state.kind; since = state.since; squares = state.squares; hint = but_other own state.hint }
+
+-- This is read of the board at this time: how it stands by what came to the game, without that hint if the board is the game's own.
+abbrev pub IsRead : Setting → Bool → List Moment → List Turn → ℕ → State → Type 0
+IsRead setting recovers past turns now state = (stands : State) × IsStateOf setting recovers (came past turns) now stands
+    × (state ≡ without_other (is_own (told turns)) stands)
 
 -- This call has begun: what happens isn't only what was kept of the calls before.
 abbrev pub live_by : What → Bool → Bool
@@ -48,7 +64,7 @@ abbrev pub IsSaid : Setting → Bool → List Moment → List Turn → Option St
 IsSaid setting recovers [] turns said last = (said ≡ None) × (last ≡ None)
 IsSaid setting recovers (moment ∷ past) [] said last = ⊥
 IsSaid setting recovers (moment ∷ past) (turn ∷ turns) said last = (state : State) × (earlier before : Option State)
-    × IsSaid setting recovers past turns earlier before × IsStateOf setting recovers (came (moment ∷ past) (turn ∷ turns)) moment.at state
+    × IsSaid setting recovers past turns earlier before × IsRead setting recovers (moment ∷ past) (turn ∷ turns) moment.at state
     × (state.squares < 2 ^ 64)
     × Says (is_live (moment ∷ past)) (said_before moment.what before) state said × (last ≡ last_said said (said_before moment.what before))
 

@@ -1,7 +1,8 @@
 //! What holds of each history. Each law is the contract of a function, which does nothing.
-ghost use Rattle.board_live.specs.Laws.{EndsAlike, IsSaidOnce, LaterChangesNothing, RestartsAlike, SaysAlike, WakesOnce};
+ghost use Rattle.board_live.specs.Laws.{EndsAlike, IsSaidOnce, LaterChangesNothing, NothingElseIsLeftOut, OwnBoardIsNoOther, RestartsAlike, SaysAlike, WakesOnce};
 ghost use Rattle.board_live.specs.Restarts.{FilesSayTheSame, NumberMayFollow, RestartsSayTheSame, SaysOpenAlarms};
 
+use board_asking::laws::own_sends_known_number;
 use board_game::laws::{
     end_due_once, end_stays_until_due, ends_once, hears_once, opens_once, silence_is_forgotten,
     stops_once,
@@ -20,6 +21,19 @@ pub fn is_said_once()
     // For its clause: what came is heard in one way.
     hears_once();
 }
+
+/// Of a board that has sent the number that was known when its line was opened, it isn't said that it may be another one.
+pub fn own_board_is_no_other()
+    ensures { OwnBoardIsNoOther }
+{
+    // For its clause: such a board is the game's own.
+    own_sends_known_number();
+}
+
+/// Nothing else is left out of what the game says.
+pub fn nothing_else_is_left_out()
+    ensures { NothingElseIsLeftOut }
+{}
 
 /// And it names one time at which the recorder is woken.
 pub fn wakes_once()

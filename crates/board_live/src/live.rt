@@ -8,7 +8,7 @@ ghost use Rattle.board_cable.specs.Turns.{Told, Turn, told};
 ghost use Rattle.board_captures.specs.Reading.{setting_of};
 ghost use Rattle.board_events.specs.Settings.{Setting};
 ghost use Rattle.board_game.specs.Ending.{IsEndOf};
-ghost use Rattle.board_game.specs.Games.{IsStateOf, StandsFor as GameStands};
+ghost use Rattle.board_game.specs.Games.{StandsFor as GameStands};
 ghost use Rattle.board_game.specs.Report.{IsReport, first_line};
 ghost use Rattle.board_live.specs.Coming.{came};
 ghost use Rattle.square_runs.specs.Lasting.{earlier};
@@ -17,12 +17,13 @@ ghost use Rattle.board_live.specs.Ending.{EndStays};
 ghost use Rattle.board_game.specs.Alarming.{AlarmsAre};
 ghost use Rattle.board_live.specs.Live.{Answers, HasBegun, StandsFor, clock_news as clock_news_of, is_change as is_change_of, unsaid as unsaid_of};
 ghost use Rattle.board_live.specs.Moments.{Moment, cabled, moment_of};
+ghost use Rattle.board_live.specs.Saying.{IsRead};
 
 use crate::attending::Attending;
 use crate::ending::end_said;
 use crate::happened::{Happened, begins};
 use crate::hearing::hear;
-use crate::saying::Saying;
+use crate::saying::{Saying, without_other};
 use board_asking::{Handling, Request};
 use board_captures::Method;
 use board_endings::End;
@@ -162,7 +163,9 @@ impl Live {
             comes.silence,
             lines,
         )?;
-        let now = self.game.state(happened.at);
+        let is_own = self.attending.cable.is_own();
+        let stands = self.game.state(happened.at);
+        let now = without_other(is_own, stands);
         // For its clause: a mask has 64 bits.
         count_bits(now.squares);
         let state = self.saying.say(happened.what, now);
@@ -214,12 +217,15 @@ impl Live {
         self.game.alarms()
     }
 
-    /// How the board stands at this time, which is none before the last at which something happened.
+    /// How the board stands at this time, which is none before the last at which something happened. If the board on the cable has sent
+    /// the number that was known when the line was opened, there is no hint that it may be another one.
     pub fn state(&self, now: u64) -> State
         ensures { (setting : Setting) (recovers : Bool) (past : List Moment) (text : List ℕ) (turns : List Turn)
-            → StandsFor self.now setting recovers past text → Told (cabled past) turns → IsStateOf setting recovers (came past turns) now result }
+            → StandsFor self.now setting recovers past text → Told (cabled past) turns → IsRead setting recovers past turns now result }
     {
-        self.game.state(now)
+        let is_own = self.attending.cable.is_own();
+        let stands = self.game.state(now);
+        without_other(is_own, stands)
     }
 
     /// When to wake, if nothing happens: none of what is said here changes before, and then some of it may. None: never. From a valid

@@ -1,9 +1,9 @@
 //! Which states are said.
 ghost use Rattle.std.specs.Prelude.{◌≡◌, false, None};
-ghost use Rattle.board_live.specs.Saying.{Says, SaysAfter, last_said, live_by, said_before};
+ghost use Rattle.board_live.specs.Saying.{Says, SaysAfter, but_other, last_said, live_by, said_before, without_other};
 
 use crate::happened::{What, begins, live_after};
-use board_standing::State;
+use board_standing::{Hint, State};
 
 /// Says a state if it is the first in this call, or news.
 #[derive(Clone, Copy)]
@@ -12,6 +12,27 @@ pub struct Saying {
     pub is_live: bool,
     /// The state that was said last.
     pub last: Option<State>,
+}
+
+fn but_other(is_own: bool, hint: Option<Hint>) -> Option<Hint>
+    ensures { result ≡ but_other is_own hint }
+{
+    match (is_own, hint) {
+        (true, Some(Hint::OtherBoard)) => None,
+        _ => hint,
+    }
+}
+
+/// The state, without the hint that another board may be on the line if the game's own is.
+pub fn without_other(is_own: bool, state: State) -> State
+    ensures { result ≡ without_other is_own state }
+{
+    State {
+        kind: state.kind,
+        since: state.since,
+        squares: state.squares,
+        hint: but_other(is_own, state.hint),
+    }
 }
 
 fn says_after(before: Option<State>, state: State) -> Option<State>

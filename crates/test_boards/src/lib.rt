@@ -88,6 +88,8 @@ mod nearest;
 #[cfg(test)]
 mod over;
 #[cfg(test)]
+mod own_boards;
+#[cfg(test)]
 mod pair_frames_page;
 #[cfg(test)]
 mod pgn_book_page;

@@ -9,6 +9,7 @@ returns c past stands = record {
   whose = record {
     own_is = stands.whose.own_is;
     shown_is = stands.whose.shown_is;
+    known_is = stands.whose.known_is;
     awaited_is = stands.whose.awaited_is;
     dumps_is = stands.whose.dumps_is;
     left_is = stands.whose.left_is;

@@ -1,4 +1,4 @@
-use Rattle.std.proofs.Common.{◌≡◌, ℕ, Bool, List, ◌∷◌, ◌++◌, refl, sym, subst, ◌∙◌}
+use Rattle.std.proofs.Common.{◌≡◌, ℕ, Bool, List, ◌∷◌, ◌++◌, refl, sym, ap, subst, ◌∙◌}
 use Rattle.board_cable.specs.Keeping.{kept}
 use Rattle.board_cable.specs.Turns.{Told, Turn}
 use Rattle.board_game.specs.Games.{StandsFor as GameStands}
@@ -7,7 +7,7 @@ use Rattle.board_game.specs.Ending.{IsEndOf}
 use Rattle.board_live.specs.Ending.{SaysNews}
 use Rattle.board_live.specs.Coming.{HasRoom, came}
 use Rattle.board_live.specs.Moments.{Moment, already, cabled, is_added, moment_of, news_of}
-use Rattle.board_live.specs.Saying.{HasSaid, is_live}
+use Rattle.board_live.specs.Saying.{HasSaid, IsRead, is_live, without_other}
 use Rattle.board_live.proofs.TakeLemmas.{came_is, game_at, kept_at, said_more, saying_at, turns_are}
 use Rattle.board_live.proofs.live.Live.take.Goals as goal
 
@@ -26,8 +26,13 @@ returns-clause-stands c = λ setting recovers past text s.
     tells.silence in
     let G : List Came → Type 0 = λ x. GameStands c.hear.new.game setting recovers x (text ++ more.0) in
     let game : G (came (m ∷ past) (turn ∷ turns)) = subst G has more.2 in
-    let said = said_more c.args.self.now.saying c.say-state.new.self setting recovers m past turn turns c.state-now.result c.say-state.result s.saying c.say-state.ensures.live c.say-state.ensures.says
-    c.say-state.ensures.last (c.state-now.ensures setting recovers (came (m ∷ past) (turn ∷ turns)) (text ++ more.0) game) c.count_bits.ensures in
+    let reads : IsRead setting recovers (m ∷ past) (turn ∷ turns) m.at c.without_other-now.result = (
+      c.state-stands.result,
+      c.state-stands.ensures setting recovers (came (m ∷ past) (turn ∷ turns)) (text ++ more.0) game,
+      c.without_other-now.ensures ∙ ap (λ own. without_other own c.state-stands.result) (c.is_own-is_own.ensures (cabled (m ∷ past)) (turn ∷ turns) attends.cable h),
+    ) in
+    let said = said_more c.args.self.now.saying c.say-state.new.self setting recovers m past turn turns c.without_other-now.result c.say-state.result s.saying c.say-state.ensures.live c.say-state.ensures.says
+    c.say-state.ensures.last reads c.count_bits.ensures in
     let A : List Turn → Type 0 = λ x. GameStands c.hear.new.game setting recovers (came (m ∷ past) x) (text ++ more.0) in
     let S : List Turn → Type 0 = λ x. HasSaid c.say-state.new.self setting recovers (m ∷ past) x in
     let saying : S (turn ∷ turns) = record {
@@ -56,9 +61,14 @@ returns-clause-answers c = λ setting recovers past text turn turns s h.
     let has = came_is m past turn turns c.kept.result.now c.in_ok-comes.comes.silence keeps tells.silence in
     let G : List Came → Type 0 = λ x. GameStands c.hear.new.game setting recovers x (text ++ more.0) in
     let game : G (came (m ∷ past) (turn ∷ turns)) = subst G has more.2 in
-    let said = said_more c.args.self.now.saying c.say-state.new.self setting recovers m past turn turns c.state-now.result c.say-state.result
+    let reads : IsRead setting recovers (m ∷ past) (turn ∷ turns) m.at c.without_other-now.result = (
+      c.state-stands.result,
+      c.state-stands.ensures setting recovers (came (m ∷ past) (turn ∷ turns)) (text ++ more.0) game,
+      c.without_other-now.ensures ∙ ap (λ own. without_other own c.state-stands.result) (c.is_own-is_own.ensures (cabled (m ∷ past)) (turn ∷ turns) attends.cable h),
+    ) in
+    let said = said_more c.args.self.now.saying c.say-state.new.self setting recovers m past turn turns c.without_other-now.result c.say-state.result
     (saying_at c.args.self.now setting recovers past text turns s h.0) c.say-state.ensures.live c.say-state.ensures.says
-    c.say-state.ensures.last (c.state-now.ensures setting recovers (came (m ∷ past) (turn ∷ turns)) (text ++ more.0) game) c.count_bits.ensures in
+    c.say-state.ensures.last reads c.count_bits.ensures in
     let room = c.in_ok-is_whole.ensures.whole setting recovers (came past turns) text before in
     let R : List ℕ → Type 0 = λ x. HasRoom m.at (news_of m.what) (is_added m.what) (already m.what m.bytes) x (came past turns) in
     let E : ℕ → Type 0 = λ at. IsEndOf setting recovers (came past turns) at c.end-before_end.result in
