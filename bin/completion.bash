@@ -9,7 +9,7 @@ _dgt() {
     case $command,$before in
         *,--first) words='white black' ;;
         *,--fen | *,--event | *,--place | *,--site | *,--date | *,--round | *,--white | *,--black | *,--tag | *,--add | *,--back | *,--line | *,--to) return ;;
-        *,--linger | *,--page | *,--page-host | *,--arbiter-page | *,--delay | *,--publish | *,--hold | *,--output | *,--encoding | *,--matches | *,--embed) return ;;
+        *,--page | *,--page-host | *,--arbiter-page | *,--delay | *,--publish | *,--hold | *,--output | *,--encoding | *,--matches | *,--embed) return ;;
         dgt_live,*) words="--series --once --add --back --devices --pack $game --event --place $tags $shown" ;;
         dgt_round,*) words="--new --encoding --matches --embed --web --output --event --place --site --date --round $shown" ;;
         dgt_replay,*)

@@ -3,7 +3,6 @@ game of the round or series for which it was given."""
 
 from __future__ import annotations
 
-import json
 import math
 import os
 import shlex
@@ -106,7 +105,7 @@ def keep_delay(paths: Paths, seconds: float, games: Sequence[Paths]) -> None:
     own = dict.fromkeys([*(game.delay for game in games), paths.delay])
     try:
         if not seconds:
-            for path in (*(game.delayed for game in games), *own):
+            for path in own:
                 remove(path)
             return
         hundredths = math.ceil(round(seconds / MINUTE * 100, 6))  # of a minute: never less than was given
@@ -126,17 +125,4 @@ def delay_of(paths: Paths, given: Optional[float], games: Sequence[Paths]) -> fl
         return given
     if has_delay(paths):
         return kept_delay(paths)
-    return max((max(_given_last(game), _earlier(game)) for game in games), default=0.0)
-
-
-def _earlier(game: Paths) -> float:
-    """The delay with which an earlier version hid a game, by the first line of its NAME.delayed; 0 if it didn't."""
-    try:
-        delay = float(json.loads(existing(game.delayed).partition(b"\n")[0])["delay"])
-    except OSError as error:
-        if error.errno in NO_SUCH_FILE:
-            return 0.0
-        raise Refused(FAILED, Message("delay.unreadable", path=game.delayed, why=text_of(error))) from None
-    except (ValueError, TypeError, KeyError):
-        return 0.0
-    return delay if 0.0 < delay < math.inf else 0.0
+    return max((_given_last(game) for game in games), default=0.0)

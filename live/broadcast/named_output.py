@@ -23,7 +23,7 @@ EXAMPLE = "agency = 3, /home/anna/agency.sh"
 LONG_EXAMPLE = "public = 15, web /home/anna/site, /home/anna/public.sh"
 NO = "no"
 MOST = 8  # outputs: each has some files open for each board, and boards come first
-TEXT, SHOWN, HIDDEN = "broadcast.pgn", "broadcast.shown", "*.delayed"
+TEXT, SHOWN = "broadcast.pgn", "broadcast.shown"
 
 
 @dataclass(frozen=True)
@@ -150,8 +150,8 @@ def left_in(folder: pathlib.Path) -> List[str]:
 
 
 def _own(place: pathlib.Path) -> List[pathlib.Path]:
-    """The files of an output in its folder: what an earlier version had hidden, then its text."""
-    return [path for name in (HIDDEN, new_of(HIDDEN), TEXT, new_of(TEXT), SHOWN, new_of(SHOWN)) for path in sorted(place.glob(name))]
+    """The files of an output in its folder."""
+    return [place / name for name in (TEXT, new_of(TEXT), SHOWN, new_of(SHOWN)) if os.path.lexists(place / name)]
 
 
 def refuse_unknown(removed: Sequence[str], known: Sequence[str]) -> None:

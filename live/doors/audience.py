@@ -36,7 +36,7 @@ class Audience:
     def __init__(self, loop: Loop, program: Program, call: Call, given: Options) -> None:
         self._loop, self._program, self._call, self._given = loop, program, call, given
         self._paths = paths = Paths(call.name)
-        if not call.series and (call.delay is not None or has_delay(paths) or os.path.lexists(paths.delayed)):
+        if not call.series and (call.delay is not None or has_delay(paths)):
             hold(paths)
         # whether spectators haven't seen all of a game that is over
         self.is_unseen = not call.series and is_unseen(paths, lambda text: published_of(paths, text)) and end_mark(paths) is not None

@@ -13,12 +13,9 @@ from live.refused import ARGUMENTS, Refused
 from live.web.address import Pages, read_pages
 from live.words.message import Message
 
-LINGER = "--linger"  # of earlier versions
-RECORDING = (LINGER, "--page", "--arbiter-page", "--delay", "--publish", "--hold")  # options of a recording that have a value
+RECORDING = ("--page", "--arbiter-page", "--delay", "--publish", "--hold")  # options of a recording that have a value
 OF_ROUNDS = ("--output", "--web", "--embed")
 HELP, VERSION = ("--help", "-h"), ("--version", "-V")
-
-TEN_SECONDS = Message("option.linger", linger=LINGER)
 
 
 @dataclass(frozen=True)
@@ -30,7 +27,6 @@ class Call:
     options: Options = Options()  # of the game, as they were typed
     series: bool = False
     once: bool = False
-    told: Tuple[str, ...] = ()  # about the options
     help: bool = False
     version: bool = False
     devices: bool = False
@@ -86,9 +82,8 @@ def parse(arguments: Sequence[str]) -> Call:
         else:
             plain.append(word)
     refuse_both(words)
-    page, arbiter_page, delay, publish, hold = (values.get(option) for option in RECORDING[1:])
+    page, arbiter_page, delay, publish, hold = (values.get(option) for option in RECORDING)
     refuse_hosts(page or arbiter_page, hosts)
-    told = told_of_linger(values.get(LINGER))
     pages = pages_of(page, arbiter_page, hosts)
     late, command = going_out(delay, publish)
     if flags["--devices"]:
@@ -113,7 +108,7 @@ def parse(arguments: Sequence[str]) -> Call:
     if typed and (words or flags["--series"]):
         raise Refused(ARGUMENTS, with_help(Message("option.add_alone")))
     device = plain[0] if wanted == 2 else ""
-    return Call(device, plain[-1], options, flags["--series"], flags["--once"], told, typed=tuple(typed), pages=pages,
+    return Call(device, plain[-1], options, flags["--series"], flags["--once"], typed=tuple(typed), pages=pages,
                 delay=late, publish=command, hold=hold_of(hold))  # fmt: skip
 
 
@@ -148,12 +143,3 @@ def hold_of(text: Optional[str]) -> Optional[float]:
     if text is None:
         return None
     return read_hold(text)
-
-
-def told_of_linger(seconds: Optional[str]) -> Tuple[str, ...]:
-    """What is said of this option, if it is given."""
-    if seconds is None:
-        return ()
-    if not (seconds.isascii() and seconds.isdigit()):
-        raise Refused(ARGUMENTS, Message("option.linger_seconds", linger=LINGER, seconds=seconds))
-    return (TEN_SECONDS,)

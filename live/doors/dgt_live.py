@@ -74,7 +74,7 @@ def record_in(call: Call, program: Program, signals: Signals) -> Outcome:
     loop = Loop()
     audience = door("audience").Audience(loop, program, call, given) if is_watched(call, given) else None
     terminal = Terminal(loop)
-    choice = Choice(given, (*call.told, *given.told_of_turned(call.options)), audience is not None and audience.is_unseen)
+    choice = Choice(given, tuple(given.told_of_turned(call.options)), audience is not None and audience.is_unseen)
     single = Single(loop, program, Screen(terminal), plan, choice)
     if audience:
         audience.join(single)
@@ -106,7 +106,7 @@ def record_in(call: Call, program: Program, signals: Signals) -> Outcome:
 def is_watched(call: Call, given: Options) -> bool:
     """Whether somebody else sees the game."""
     paths = Paths(call.name)
-    left = (paths.broadcast, paths.delayed, paths.pages)
+    left = (paths.broadcast, paths.pages)
     is_asked = call.pages or call.delay is not None or call.publish or given.tags or kept_tags(paths)
     return bool(is_asked) or has_delay(paths) or any(map(os.path.lexists, left))
 

@@ -19,7 +19,7 @@ from live.broadcast.named_output import (
 )  # fmt: skip
 from live.called import DGT_ROUND
 from live.doors import calls
-from live.doors.calls import LINGER, refuse_both, refuse_hosts, told_of_linger
+from live.doors.calls import refuse_both, refuse_hosts
 from live.doors.door import Outcome, through
 from live.game.file_names import ROUND, is_of_an_output
 from live.game.files import LOCK_PATIENCE, Paths, text_of
@@ -34,7 +34,7 @@ from live.refused import ARGUMENTS, DONE, FAILED, REFUSED, Refused
 from live.round.display import terminal_of_lines
 from live.round.encodings import ENCODING, encoding_in, known_encoding
 from live.round.round import Round, first_pairings, refuse_another_round
-from live.round.place import chosen_folder, refuse_exchanged
+from live.round.place import folder_of_table, refuse_exchanged
 from live.round.row import Hall
 from live.round.site import SiteFiles, refuse_no_site
 from live.round.sources import Source
@@ -50,7 +50,7 @@ from live.words.message import Message, linked
 SEE_HELP = Message("help.round", dgt_round=DGT_ROUND)
 TAGS = ("--event", "--site", "--date", "--round")
 NEW, EMBED, WEB = "--new", "--embed", "--web"
-VALUED = (*TAGS, TAG, LINGER, "--page", "--page-host", "--arbiter-page", EMBED, WEB, "--delay", "--publish", "--hold", OUTPUT, ENCODING, MATCHES)
+VALUED = (*TAGS, TAG, "--page", "--page-host", "--arbiter-page", EMBED, WEB, "--delay", "--publish", "--hold", OUTPUT, ENCODING, MATCHES)
 HELP = """\
 usage: dgt_round FILE [FOLDER] [OPTION..]     a round of its own
        dgt_round CUP ROUND [OPTION..]         a round of a tournament
@@ -85,7 +85,6 @@ class Asked:
     file: str = ""
     folder: str = ""
     options: Options = Options()  # of all games
-    told: Tuple[str, ...] = ()  # about the options
     pages: Pages = Pages()
     delay: Optional[float] = None  # seconds; None leaves it as it was
     publish: Tuple[str, ...] = ()  # a command
@@ -149,7 +148,6 @@ def each_read(arguments: Sequence[str]) -> Asked:
         raise Refused(ARGUMENTS, with_help(Message("option.file"), SEE_HELP))
     if len(plain) > 2:
         raise Refused(ARGUMENTS, with_help(Message("option.quotes", word=plain[2]), SEE_HELP))
-    told = told_of_linger(values.pop(LINGER, None))
     page, arbiter_page = (values.pop(option, None) for option in ("--page", "--arbiter-page"))
     refuse_hosts(page or arbiter_page, hosts, SEE_HELP)
     embed, web = values.pop(EMBED, None), in_home(values.pop(WEB, ""))
@@ -164,7 +162,6 @@ def each_read(arguments: Sequence[str]) -> Asked:
         plain[0],
         "".join(plain[1:]),
         Options.of_words(words),
-        told,
         read_pages(page, arbiter_page, hosts, embed),
         None if delay is None else read_delay(delay),
         () if publish is None else read_command(publish),
@@ -278,8 +275,8 @@ def play(asked: Asked, program: Program, signals: Signals) -> Outcome:
     read = first_pairings(source)
     told_of_place = ""
     if not asked.folder:
-        chosen, told_of_place = chosen_folder(file, [pairing.file_name for pairing in (*read.boards, *read.absent)])
-        asked = replace(asked, folder=str(chosen))
+        asked = replace(asked, folder=str(folder_of_table(file)))
+        told_of_place = Message("place.games", folder=os.path.abspath(asked.folder))
     folder, _ = folder_of(asked)
     files = Paths(str(folder / ROUND))
     kept = Options() if asked.tournament else (kept_options(files) or Options()).only(TAGS)
@@ -300,7 +297,7 @@ def play(asked: Asked, program: Program, signals: Signals) -> Outcome:
     told_of_named = [*filter(None, told_of_removed), *told_of(folder, asked.outputs, left_in(folder))]
     hall = replace(hall, out=GoingOut(delay, asked.publish, hold=hold), outputs=held(asked.outputs, hold))
     games = Round(loop, source, read, title, hall, of_others)
-    for line in filter(None, (told_of_place, told, *asked.told)):
+    for line in filter(None, (told_of_place, told)):
         games.say(line)
     if late:
         spectators = Message("delay.round", late=late)

@@ -34,9 +34,8 @@ def publish_anew(paths: Paths, given: Options = Options()) -> List[str]:
     """Publishes the text of a game that nobody records, if it was published before or gets tags. Returns messages about it."""
     if not (given.tags or os.path.lexists(paths.broadcast)):
         return []
-    if has_delay(paths) or os.path.lexists(paths.delayed):
-        if is_hidden(paths):
-            return [Message("text.gets_its_tags", path=paths.broadcast)]
+    if has_delay(paths) and is_hidden(paths):
+        return [Message("text.gets_its_tags", path=paths.broadcast)]
     return [published_text.publish_anew(paths)]
 
 

@@ -14,7 +14,7 @@ from live.words.message import Message
 # A shell completes to the last one.
 ENDINGS = (
     ".before.dgt", ".dgt", ".edited.pgn", ".broadcast.pgn", ".broadcast.shown", ".pgn", ".options", ".log", ".look", ".back", ".serial", ".end",
-    ".forfeit", ".front", ".delayed", ".delay", ".out", ".pages", ".cable", ".times", ".began", ".zip", ".",
+    ".forfeit", ".front", ".delay", ".out", ".pages", ".cable", ".times", ".began", ".zip", ".",
 )  # fmt: skip
 ROUND, BROADCAST = "round", "broadcast"
 OF_A_ROUND = (ROUND, BROADCAST)  # the names of a round's own files, in lower case

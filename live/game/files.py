@@ -63,11 +63,6 @@ class Paths:
         return self._with("began")
 
     @functools.cached_property
-    def delayed(self) -> str:
-        """What an earlier version hid from spectators."""
-        return self._with("delayed")
-
-    @functools.cached_property
     def delay(self) -> str:
         """The delay for spectators."""
         return self._with("delay")

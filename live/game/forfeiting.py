@@ -26,7 +26,7 @@ def kept_forfeit(paths: Paths) -> str:
 
 
 def forfeited_after(paths: Paths) -> Optional[int]:
-    """How many bytes the capture had when the game was forfeited; None if that isn't known, as of an earlier version."""
+    """How many bytes the capture had when the game was forfeited; None if that isn't known."""
     sizes = [int(word) for word in _words(paths)[1:2] if word.isdecimal()]
     return sizes[0] if sizes else None
 

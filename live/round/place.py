@@ -5,11 +5,8 @@ from __future__ import annotations
 import os
 import pathlib
 import shlex
-from typing import Iterable, Tuple
 
 from live.called import DGT_ROUND
-from live.game.file_names import ROUND
-from live.game.files import Paths
 from live.refused import ARGUMENTS, Refused
 from live.round.tournament import TABLES
 from live.words.message import Message
@@ -22,22 +19,9 @@ def refuse_exchanged(file: str, folder: str) -> None:
         raise Refused(ARGUMENTS, Message("place.exchanged", folder=folder, dgt_round=DGT_ROUND, words=shlex.join([folder, file])))
 
 
-def chosen_folder(file: pathlib.Path, games: Iterable[str]) -> Tuple[pathlib.Path, str]:
-    """The folder for a table whose games have these names, and what to say of it. It is named after the table; a round that an earlier
-    version has begun beside its table stays there."""
-    named = file.with_suffix("") if file.suffix else file.with_name(f"{file.name}-games")
-    names = list(games)
-    is_beside = _has_begun(file.parent, names) and not _has_begun(named, names)
-    folder = file.parent if is_beside else named
-    where = os.path.abspath(folder)
-    return folder, Message("place.games_beside", folder=where) if is_beside else Message("place.games", folder=where)
-
-
-def _has_begun(folder: pathlib.Path, games: Iterable[str]) -> bool:
-    """Whether a round has begun in this folder: it has files of its own there, or a game of this name."""
-    of_round = Paths(str(folder / ROUND))
-    own = (of_round.pgn, of_round.log, of_round.options, of_round.delay, of_round.out, of_round.pages)
-    return any(map(os.path.lexists, (*own, *(Paths(str(folder / name)).capture for name in games))))
+def folder_of_table(table: pathlib.Path) -> pathlib.Path:
+    """The folder of a round's games: it is named after their table."""
+    return table.with_suffix("") if table.suffix else table.with_name(f"{table.name}-games")
 
 
 def another_folder(folder: str) -> str:

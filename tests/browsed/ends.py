@@ -226,7 +226,7 @@ def corrected_after_the_result(folder: pathlib.Path) -> None:
 
 @with_chromium
 def stored_as_over(folder: pathlib.Path) -> None:
-    """A game is stored as over that the program takes for one that goes on, as an earlier version may have left it: it stays over, with
+    """A game is stored as over that the program takes for one that goes on: it stays over, with
     its own moves, whatever is played. The next one begins when the pieces are set up."""
     with Hall(folder) as stage:
         page, port = begin(stage)

@@ -2,7 +2,6 @@
 
 import pathlib
 
-from browsed.ends import ENDED
 from browsed.games import QUEENS, QUEENS_SANS, RUY, RUY_SANS, answered, begin, of_record, play, until_agrees
 from browsed.hall import Hall
 from browsed.page import Page
@@ -138,24 +137,3 @@ def left_on(folder: pathlib.Path) -> None:
         play(stage, page, port, QUEENS[:1], QUEENS_SANS[:1])
         texts = stage.saved(page, "#save-round").decode().replace("\n", " ")
         assert "1. e4 e5 1-0" in texts and "1. d4 *" in texts, texts
-
-
-@with_chromium
-def ended_without_room(folder: pathlib.Path) -> None:
-    """A game has 64 MiB, as an earlier version has left it: nothing can be kept behind it, and the page says what to do."""
-    with Hall(folder) as stage:
-        page, port = begin(stage)
-        until_agrees(stage, page)
-        play(stage, page, port, RUY[:2], RUY_SANS[:2])
-        stage.leave(page)
-        page.value(FILLED.replace("TOTAL", str(64 * MIB)))
-        page.value(ENDED.replace("END", str(64 * MIB)))
-        stage.open(page)
-        stage.enlarge(page, 1)
-        stage.until_text(page, "#state", "over: press Next game")
-        stage.until_part(page, "#mend", "Its capture is full")
-        page.click("#next-game")
-        stage.until_moves(page, [])
-        port.board.set_up([])
-        until_agrees(stage, page)
-        play(stage, page, port, QUEENS[:1], QUEENS_SANS[:1])

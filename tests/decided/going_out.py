@@ -190,10 +190,7 @@ def kept_delays() -> None:
             for path in [path for path in (paths.delay, game.delay) if lost in (path, "both")]:
                 os.unlink(path)
             same(f"{lost} is lost", delay_of(paths, None, [game]), found)
-        earlier = b'{"boot":"","delay":900.0}\n{"came":null,"of":["01",67,5],"text":3}\n{"shown":1}\n'
-        for content, found in ((earlier, 900.0), (b"", 0.0), (b"{}\n", 0.0), (b'{"delay":"nan"}\n', 0.0), (b"\xff\n", 0.0), (b"[]\n", 0.0)):
-            pathlib.Path(game.delayed).write_bytes(content)
-            same(f"an earlier version has left {content!r}", delay_of(paths, None, [game]), found)
+        delay_of(paths, 900.0, [game])
         delay_of(paths, 0.0, [game])
         same("all goes with a delay of 0", (os.listdir(folder), delay_of(paths, None, [game])), ([], 0.0))
     with tempfile.TemporaryDirectory() as folder:

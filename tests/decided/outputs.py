@@ -174,13 +174,13 @@ def in_its_folder() -> None:
         elsewhere.mkdir()
         for place in ("output-agency", "output-hall", "output-", "output-A b", "outputs"):
             (folder / place).mkdir()
-            for file in ("broadcast.pgn", "broadcast.pgn.new", "01.delayed", "01.delayed.new", "Anna - Ben.delayed"):
+            for file in ("broadcast.pgn", "broadcast.pgn.new", "broadcast.shown", "broadcast.shown.new"):
                 (folder / place / file).write_bytes(b"x")
         (folder / "output-file").write_bytes(b"x")
         (folder / "output-hall" / "notes.txt").write_bytes(b"x")
         (folder / "output-link").symlink_to(elsewhere)
         (elsewhere / "broadcast.pgn").write_bytes(b"x")
-        (folder / "01.delayed").write_bytes(b"x")
+        (folder / "broadcast.shown").write_bytes(b"x")
         (folder / "output-empty").mkdir()
         same("those that are there", left_in(folder), ["agency", "hall"])
         same("known", [passes(refuse_unknown, ["hall", "x"], ["hall", "x"]), passes(refuse_unknown, [], [])], [True, True])

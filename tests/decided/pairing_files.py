@@ -433,7 +433,7 @@ def encodings() -> None:
     same("not in it", told, "line 3 isn't in the encoding ascii: give another one, or save it as UTF-8")
 
 
-OPTIONS = ("--event", "--site", "--date", "--round", "--tag", "--linger", "--page", "--delay", "--publish")
+OPTIONS = ("--event", "--site", "--date", "--round", "--tag", "--page", "--delay", "--publish")
 SETTINGS = """\
 # a tournament
 Event = Basel Open: "A"
@@ -450,9 +450,9 @@ recover = yes
 BlackTeam = =B=
 """
 NO_SETTINGS = {
-    "dealy = 15": "line 1: there is no setting 'dealy': there are date, delay, event, linger, page, place, publish, recover, and tags as time control",
+    "dealy = 15": "line 1: there is no setting 'dealy': there are date, delay, event, page, place, publish, recover, and tags as time control",
     "\ndelay 15": "line 2 is 'delay 15': type NAME = VALUE, as event = Club cup",
-    "round = 3": "line 1: there is no setting 'round': there are date, delay, event, linger, page, place, publish, recover, and tags as time control",
+    "round = 3": "line 1: there is no setting 'round': there are date, delay, event, page, place, publish, recover, and tags as time control",
     "recover = perhaps": "line 1, recover: 'perhaps': type yes or no",
     **{
         f"site = {folder}": f"line 1, site: '{folder}' is a folder, not a place: for a site of files type web = FOLDER"

@@ -1,14 +1,11 @@
 /** How long a capture may get in the page, and what of it goes then. */
-import { hasNoRoom, isLong, needless } from "/web/kept/limit.js";
+import { isLong, needless } from "/web/kept/limit.js";
 import { spread } from "/web/kept/spread.js";
 import { bytesOf } from "./table.mjs";
 
 export function limits(counts, cases) {
   for (const [name, end, size, expected] of cases("long")) {
     counts.same(name, isLong(size, end), expected);
-  }
-  for (const [end, expected] of cases("no room")) {
-    counts.same(`${end} bytes`, hasNoRoom(end), expected);
   }
   for (const [name, text, end, from, to] of cases("needless")) {
     counts.same(name, needless(bytesOf(text), end), [from, to]);

@@ -169,7 +169,7 @@ def links_not_followed(folder: pathlib.Path) -> None:
     """Each file beside a game is a link to one that is precious, or to nothing: nothing is written there, by one board or a round."""
     precious, nowhere = folder / "precious", folder / "nowhere"
     precious.write_bytes(b"mine\n")
-    kinds = ("dgt", "pgn", "log", "options", "look", "back", "serial", "end", "times", "began", "delayed", "delay", "broadcast.pgn", "before.dgt")
+    kinds = ("dgt", "pgn", "log", "options", "look", "back", "serial", "end", "times", "began", "delay", "broadcast.pgn", "before.dgt")
     endings = (*kinds, *(f"{kind}.new" for kind in kinds))
     hall = Hall(folder, 2)
     hall.games.mkdir()

@@ -26,7 +26,7 @@ from played.stage import (
 # Beside the game, and not its own; each has this content.
 OTHERS = ["game-2.dgt", "game2.dgt", "agame.dgt", "game", "game.zipped", "game.dgt.txt", "game.before-x.dgt", "round.log", "game.new"]
 OF_ANOTHER = ["game.other.dgt", "game.other.times", "game.other.pgn"]  # a game whose name is game.other
-OF_SPECTATORS = ["game.pages", "game.delay", "game.delayed", "game.broadcast.pgn"]
+OF_SPECTATORS = ["game.pages", "game.delay", "game.broadcast.pgn"]
 SECRET = b"not to be sent"
 
 

@@ -228,11 +228,8 @@ def recorded_by_itself(folder: pathlib.Path) -> None:
     witness.see(bytes_of(goes_out), "its own text")
     witness.plays("1. e4 e5 2. Nf3 1-0")
     for options in (("--tag", "Section=A"), ("--add", "1-0"), ("--recover",), ("--first", "black")):
-        for lost in (False, True):
-            if lost:
-                pathlib.Path(f"{hall.name(1)}.delayed").unlink(missing_ok=True)
-            same(ended(Live("", hall.name(1), *options)), 0)
-            witness.see(bytes_of(goes_out), f"its own text after {options}")
+        same(ended(Live("", hall.name(1), *options)), 0)
+        witness.see(bytes_of(goes_out), f"its own text after {options}")
     witness.end()
 
 

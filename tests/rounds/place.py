@@ -4,15 +4,14 @@ import pathlib
 import shutil
 
 from played.recorder import Live
-from played.stage import bytes_of, movetext, refuses, same, stop, until, until_line
+from played.stage import movetext, refuses, same, stop, until, until_line
 from rounds.hall import ROUND, Hall, plain
 
 ELSE = "for another place type a FOLDER behind the table"
 
 
 def without_a_folder(folder: pathlib.Path) -> None:
-    """Without a folder the games are in one named after the table, and a line says so; the same call goes on there. A round that was begun
-    beside its table stays there, and its game goes on."""
+    """Without a folder the games are in one named after the table, and a line says so; the same call goes on there."""
     hall = Hall(folder, 1)
     kept = f"the games are kept in {folder}/round; {ELSE}"
     for begin, end, wanted in ((0, 1, "1. e4 *"), (1, 2, "1. e4 e5 *")):
@@ -20,17 +19,6 @@ def without_a_folder(folder: pathlib.Path) -> None:
         until_line(live, kept)
         played_on(hall, live, begin, end, folder / "round" / "01", wanted)
     same(sorted(path.name for path in folder.glob("*.pgn")), [])
-    beside = folder / "beside"
-    beside.mkdir()
-    table = shutil.copy(hall.file, beside / "round3.csv")
-    (beside / "round3").mkdir()  # somebody's own
-    before = Live(table, beside, program=ROUND)
-    until(lambda: bytes_of(beside / "01.pgn"), "the game beside the table")
-    same((before.says("the games are kept in"), stop(before)), (False, 0))
-    again = Live(table, "", program=ROUND)
-    until_line(again, f"the games are kept in {beside}, beside the table, as before; {ELSE}")
-    same(stop(again), 0)
-    same(list((beside / "round3").iterdir()), [])
     bare = folder / "pairs"
     shutil.copy(hall.file, bare)
     live = Live(bare, "", program=ROUND)

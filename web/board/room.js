@@ -2,7 +2,7 @@
 // before a first move, only the last stays.
 
 import { joined } from '../device/protocol.js';
-import { MOST, hasNoRoom, isLong, needless } from '../kept/limit.js';
+import { MOST, isLong, needless } from '../kept/limit.js';
 import { message } from '../../live/web/page/message.js';
 import { Again } from './again.js';
 
@@ -20,12 +20,6 @@ export class Room {
   get isFull() {
     const { isOver, game } = this.recorder;
     return isOver && game.end >= MOST;
-  }
-
-  /** Whether the game is over, and what comes isn't kept: an earlier version has left it without room behind it. */
-  get isOut() {
-    const { isOver, next } = this.recorder;
-    return isOver && hasNoRoom(next.end);
   }
 
   /** A game is over when it has as many bytes as it may have. */
@@ -46,7 +40,7 @@ export class Room {
   look() {
     const { capture, guard } = this.recorder;
     const { end } = this;
-    if (end === null || !isLong(capture.size, end) || this.isOut) return;
+    if (end === null || !isLong(capture.size, end)) return;
     if (!capture.isUnkept && !this.isBusy && !this.again.isWaiting) guard.call(() => this.tryIt());
   }
 

@@ -292,7 +292,6 @@ export class Seat {
     const over = recorder.next.awaited ? message('state.over_set_up') : message('state.over');
     const mend = recorder.next.awaited || recorder.room.isFull || recorder.isPlayedOn ? '' : mendOfOver(recorder.course);
     if (recorder.forfeit && !recorder.capture.trouble) return resting(wordsOfForfeit(recorder.forfeit), looks);
-    if (recorder.room.isOut) return { ...resting(message('state.over_press_next'), looks, message('mend.capture_full')), alarm: true };
     if (recorder.isOver && !recorder.capture.trouble) return resting(over, looks, mend);
     if (recorder.isStopped) return resting(message('state.stopped'), looks);
     const stands = standing(recorder.state, now);

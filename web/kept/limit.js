@@ -5,17 +5,11 @@ import { DUMP_ID, DUMP_SIZE } from '../device/protocol.js';
 export const LARGEST = 64 * 1024 * 1024; // bytes that the program reads at most
 const BEHIND = 1024 * 1024; // bytes for what comes behind a game, and for what `recover` puts into it
 export const MOST = LARGEST - BEHIND; // bytes that a game may have
-const LEAST = BEHIND / 4; // bytes without which what comes behind a game isn't shortened: it would be done every few seconds
 const LOOKED_BACK = 65536; // bytes that are searched for the last dump
 
 /** Whether half of the room behind a game with so many bytes is taken, in a capture of this size. */
 export function isLong(size, end) {
   return 2 * (size - end) > LARGEST - end;
-}
-
-/** Whether there is hardly any room behind a game with so many bytes. */
-export function hasNoRoom(end) {
-  return LARGEST - end < LEAST;
 }
 
 /** Where the last dump begins in the last bytes of a capture; where these begin, if no dump is there. */

@@ -99,8 +99,7 @@ export class Files {
     this.header = header;
     for (const board of boards) {
       const text = JSON.stringify(board);
-      // an earlier version has written `/01.pgn`
-      if (this.texts.get(board.number) !== text) this.hear('board', { ...board, pgn: board.pgn.replace(/^\//, '') });
+      if (this.texts.get(board.number) !== text) this.hear('board', board);
       this.texts.set(board.number, text);
     }
   }
