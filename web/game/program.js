@@ -6,6 +6,7 @@ import { ofBoard, ofLive, ofTyping } from './options.js';
 import { Complaint, Message, message } from '../../live/web/page/message.js';
 
 /**
+ * @typedef {import('../worker/worker.js').Calls} Calls
  * @typedef {import('../worker/worker.js').Said} Said
  * @typedef {import('../../live/web/page/message.js').Words} Words
  * @typedef {import('./attended.js').Answer} Answer
@@ -113,7 +114,11 @@ export class Program {
 
   /**
    * Calls the worker, which takes these bytes over, without a copy.
-   * @type {(name: string, given: object, bytes?: Uint8Array | null) => Promise<any>}
+   * @template {keyof Calls} Name
+   * @param {Name} name
+   * @param {Parameters<Calls[Name]>[0]} given
+   * @param {Uint8Array | null} bytes
+   * @returns {Promise<Awaited<ReturnType<Calls[Name]>>>}
    */
   call(name, given, bytes = null) {
     this.count += 1;
@@ -204,7 +209,7 @@ export class Program {
       for (let at = 0; at < input.length; at += PART) {
         const part = room.subarray(0, input.length - at);
         part.set(input.subarray(at, at + PART));
-        room = await alone.call('give', { part }, room);
+        room = /** @type {Uint8Array} */ (await alone.call('give', { part }, room));
       }
       await alone.call('give', { part: null });
       return await answer;

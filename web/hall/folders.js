@@ -100,7 +100,7 @@ export class Folders {
       trouble: (text) => this.trouble(folder, text),
       says: (text) => this.hall.says(text),
     });
-    folder.before.set(`${ROUND}.pgn`, [].concat(before || []));
+    folder.before.set(`${ROUND}.pgn`, [before || []].flat());
     for (const { filed, texts } of this.hall.recorded().flatMap((seat) => [seat.game, ...seat.finished])) {
       if (filed && filed.folder === folder.name) folder.before.set(`${filed.name}.pgn`, texts || []);
     }

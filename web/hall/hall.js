@@ -115,13 +115,14 @@ export class Hall {
   remembered() {
     const recorders = this.recorded().map(({ recorder }) => recorder);
     const finished = this.recorded().flatMap((seat) => seat.finished);
-    const { handle } = this.folders.folder || {};
+    /** @type {Remembered['settings']} */
+    const folder = this.folders.folder ? [{ name: 'folder', value: this.folders.folder.handle }] : [];
     return {
       boards: recorders.map(({ board }) => board),
       games: [...recorders.map(({ game }) => game), ...finished.map(({ pgn, bytes, times, ...game }) => game)],
       captures: finished.map(({ id, bytes }) => ({ game: id, number: 0, at: this.loop.now(), bytes: bytes.slice() })),
       times: finished.map(({ id, times }) => ({ game: id, number: 0, at: Date.now(), text: times })),
-      settings: [{ name: 'given', value: this.given }, ...(handle ? [{ name: 'folder', value: handle }] : [])],
+      settings: [{ name: 'given', value: this.given }, ...folder],
     };
   }
 

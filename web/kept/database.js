@@ -9,6 +9,7 @@ import { Complaint, message } from '../../live/web/page/message.js';
 /**
  * @typedef {import('../game/looks.js').Look} Look
  * @typedef {import('../game/options.js').Options} Options
+ * @typedef {import('../game/options.js').Tags} Tags
  */
 
 /**
@@ -50,7 +51,13 @@ import { Complaint, message } from '../../live/web/page/message.js';
  * @property {Game[]} games
  * @property {(Chunk & { game: number })[]} captures
  * @property {(Row & { game: number })[]} times
- * @property {{ name: string, value: unknown }[]} settings
+ * @property {{ name: keyof Settings, value: unknown }[]} settings
+ */
+
+/**
+ * The settings: the folder that somebody has chosen, the texts that its `round.pgn` may have, and the tags of new games. An earlier version has
+ * kept one such text.
+ * @typedef {{ folder: FileSystemDirectoryHandle, round: string | string[], given: Tags }} Settings
  */
 
 /**
@@ -79,7 +86,7 @@ function answerOf(request) {
 
 /**
  * Makes changes in one transaction. When this ends, all of them are on the disk, if it is strict; if it fails, none.
- * @type {(database: IDBDatabase, stores: string[], make: Make, durability?: IDBTransactionDurability) => Promise<any>}
+ * @type {(database: IDBDatabase, stores: string[], make: Make, durability?: IDBTransactionDurability) => Promise<unknown>}
  */
 function changed(database, stores, make, durability = STRICT) {
   return new Promise((done, failed) => {
@@ -216,7 +223,7 @@ export class Database {
 
   /**
    * Makes changes. When this ends, all of them are on the disk; if it fails, none.
-   * @type {(stores: string[], make: Make, durability?: IDBTransactionDurability) => Promise<any>}
+   * @type {(stores: string[], make: Make, durability?: IDBTransactionDurability) => Promise<unknown>}
    */
   async change(stores, make, durability = STRICT) {
     const database = await this.connection();
@@ -420,13 +427,22 @@ export class Database {
     return this.read('before', (store) => store.getAll());
   }
 
-  /** @type {(name: string) => Promise<any>} */
+  /**
+   * A setting; null if it isn't there.
+   * @template {keyof Settings} Name
+   * @param {Name} name
+   * @returns {Promise<Settings[Name] | null>}
+   */
   async setting(name) {
     const found = await this.read('settings', (store) => store.get(name));
     return found === undefined ? null : found.value;
   }
 
-  /** @type {(name: string, value: unknown) => Promise<unknown>} */
+  /**
+   * @template {keyof Settings} Name
+   * @param {Name} name
+   * @param {Settings[Name]} value
+   */
   set(name, value) {
     return this.change(['settings'], whole((transaction) => transaction.objectStore('settings').put({ name, value })));
   }

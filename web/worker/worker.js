@@ -145,15 +145,12 @@ async function give({ part }) {
   return part && new Uint8Array(part.buffer);
 }
 
-/** @type {{ [name: string]: (given: any) => unknown }} */
-const CALLS = {
-  attend,
-  tell,
-  leave,
-  run: ({ words, input }) => run(program, words, input),
-  runInParts,
-  give,
-};
+/** @type {(given: { words: string[], input: Uint8Array }) => Outcome} */
+const runOnce = ({ words, input }) => run(program, words, input);
+
+const CALLS = { attend, tell, leave, run: runOnce, runInParts, give };
+
+/** @typedef {typeof CALLS & { begin: typeof begin }} Calls what the page calls here, by the name that it sends */
 
 /**
  * The memory that goes to the page with an answer, without a copy.
@@ -168,7 +165,7 @@ onmessage = async ({ data: { number, name, given } }) => {
   try {
     if (name === 'begin') ready = begin(given);
     await ready;
-    const answer = name === 'begin' ? null : await CALLS[name](given);
+    const answer = name === 'begin' ? null : await CALLS[/** @type {keyof typeof CALLS} */ (name)](given);
     postMessage({ number, answer }, { transfer: memoryOf(answer) });
   } catch (error) {
     postMessage({ number, error: error.key ? error : String(error.message || error) });
