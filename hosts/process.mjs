@@ -8,6 +8,8 @@
  * Each process has an instance, a memory and a stack of its own. A suspended one that is forgotten is never collected: kill it.
  */
 
+/** @typedef {ReturnType<typeof start>} Process */
+
 const OUTPUT = 1; // the number of standard output; standard input is 0, standard error 2
 const NONE = -1n; // there is no such argument
 const TOO_LONG = -2n; // it is longer than the room for it
@@ -32,14 +34,24 @@ export function suspends() {
 export function start(program, words, wrote, most = 2 ** 32) {
   const list = ["dgt_replay", ...words].map((word) => new TextEncoder().encode(word));
   const decoder = new TextDecoder();
-  const given = []; // parts that it hasn't read, { bytes, done }
+  /** @type {{ bytes: Uint8Array, done: (read?: unknown) => void }[]} */
+  const given = []; // parts that it hasn't read
+  /** @type {((value?: unknown) => void) | null} */
   let wake = null; // ends the wait of the read that has nothing
+  /** @type {Error | null} */
   let killed = null;
   let isWhole = false; // whether no more comes
   let turn = performance.now();
   let errors = "";
-  /** Bytes of the module's memory. The memory that it had before it grew is gone, so they are looked up in each call. */
-  const bytes = (at, length) => new Uint8Array(instance.exports.memory.buffer, Number(at), Number(length));
+  /**
+   * Bytes of the module's memory. The memory that it had before it grew is gone, so they are looked up in each call.
+   *
+   * @type {(at: bigint, length: bigint | number) => Uint8Array}
+   */
+  const bytes = (at, length) => {
+    const { memory } = /** @type {WebAssembly.Instance} */ (instance).exports;
+    return new Uint8Array(/** @type {WebAssembly.Memory} */ (memory).buffer, Number(at), Number(length));
+  };
   const host = {
     read: new WebAssembly.Suspending(async (_stream, at, length) => {
       if (performance.now() - turn > TURN) {
@@ -64,10 +76,12 @@ export function start(program, words, wrote, most = 2 ** 32) {
       part.bytes = part.bytes.subarray(taken.length);
       bytes(at, taken.length).set(taken);
       if (part.bytes.length === 0) {
-        given.shift().done();
+        given.shift();
+        part.done();
       }
       return BigInt(taken.length);
     }),
+    /** @type {(stream: number, at: bigint, length: bigint) => bigint} */
     write(stream, at, length) {
       const written = bytes(at, length);
       if (stream === OUTPUT) {
@@ -78,6 +92,7 @@ export function start(program, words, wrote, most = 2 ** 32) {
       return length;
     },
     arg_count: () => BigInt(list.length),
+    /** @type {(index: bigint, at: bigint, length: bigint) => bigint} */
     arg(index, at, length) {
       const word = list[Number(index)];
       if (word === undefined) {
@@ -88,6 +103,7 @@ export function start(program, words, wrote, most = 2 ** 32) {
       return part.length === word.length ? BigInt(word.length) : TOO_LONG;
     },
   };
+  /** @type {WebAssembly.Instance | null} */
   let instance = new WebAssembly.Instance(program, { host });
   const ended = WebAssembly.promising(instance.exports.start)(BigInt(most)).then((status) => ({ status, errors }));
   const free = () => {
@@ -102,6 +118,7 @@ export function start(program, words, wrote, most = 2 ** 32) {
   };
   return {
     ended,
+    /** @type {(more: Uint8Array) => Promise<unknown>} */
     push(more) {
       if (more.length === 0) {
         return Promise.resolve();

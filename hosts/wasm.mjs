@@ -12,7 +12,11 @@ const OUTPUT = 1; // the number of standard output; standard input is 0, standar
 const NONE = -1n; // there is no such argument
 const TOO_LONG = -2n; // it is longer than the room for it
 
-/** The parts one behind the other. */
+/**
+ * The parts one behind the other.
+ *
+ * @param {Uint8Array[]} parts
+ */
 export function joined(parts) {
   const whole = new Uint8Array(parts.reduce((length, part) => length + part.length, 0));
   let at = 0;
@@ -36,23 +40,35 @@ export function joined(parts) {
 export function run(program, words, input, most = 2 ** 32) {
   const encoder = new TextEncoder();
   const list = ["dgt_replay", ...words].map((word) => encoder.encode(word));
+  /** @type {Uint8Array[]} */
   const output = [];
+  /** @type {Uint8Array[]} */
   const errors = [];
   let read = 0;
-  /** Bytes of the module's memory. The memory that it had before it grew is gone, so they are looked up in each call. */
-  const bytes = (at, length) => new Uint8Array(instance.exports.memory.buffer, Number(at), Number(length));
+  /**
+   * Bytes of the module's memory. The memory that it had before it grew is gone, so they are looked up in each call.
+   *
+   * @type {(at: bigint, length: bigint | number) => Uint8Array}
+   */
+  const bytes = (at, length) => {
+    const memory = /** @type {WebAssembly.Memory} */ (instance.exports.memory);
+    return new Uint8Array(memory.buffer, Number(at), Number(length));
+  };
   const host = {
+    /** @type {(_stream: number, at: bigint, length: bigint) => bigint} */
     read(_stream, at, length) {
       const part = input.subarray(read, read + Math.min(Number(length), input.length - read));
       bytes(at, part.length).set(part);
       read += part.length;
       return BigInt(part.length);
     },
+    /** @type {(stream: number, at: bigint, length: bigint) => bigint} */
     write(stream, at, length) {
       (stream === OUTPUT ? output : errors).push(bytes(at, length).slice());
       return length;
     },
     arg_count: () => BigInt(list.length),
+    /** @type {(index: bigint, at: bigint, length: bigint) => bigint} */
     arg(index, at, length) {
       const word = list[Number(index)];
       if (word === undefined) {
@@ -64,6 +80,7 @@ export function run(program, words, input, most = 2 ** 32) {
     },
   };
   const instance = new WebAssembly.Instance(program, { host });
-  const status = instance.exports.start(BigInt(most));
+  const begin = /** @type {(most: bigint) => number} */ (instance.exports.start);
+  const status = begin(BigInt(most));
   return { status, output: joined(output), errors: joined(errors) };
 }

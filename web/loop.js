@@ -3,6 +3,8 @@
 
 import { stoodStill, timeAway } from './time_away.js';
 
+/** @typedef {{ when: number, cancel: () => void }} Timer */
+
 const PULSE = 250; // milliseconds after which the loop turns at the latest
 const WAITS = `
   onmessage = ({ data }) => setTimeout(() => postMessage(data.number), data.milliseconds);
@@ -11,6 +13,7 @@ const WAITS = `
 
 export class Loop {
   constructor() {
+    /** @type {Map<number | null, () => unknown>} */
     this.calls = new Map();
     this.count = 0;
     const url = URL.createObjectURL(new Blob([WAITS], { type: 'text/javascript' }));
@@ -47,7 +50,10 @@ export class Loop {
     return Math.floor(1000 * (this.turn.running + this.stoodStill));
   }
 
-  /** Calls it once, after this many seconds; `cancel` on what this returns takes that back. */
+  /**
+   * Calls it once, after this many seconds; `cancel` on what this returns takes that back.
+   * @type {(seconds: number, call: () => unknown) => Timer}
+   */
   after(seconds, call) {
     this.count += 1;
     const number = this.count;
@@ -56,6 +62,7 @@ export class Loop {
     return { when: this.now() + seconds, cancel: () => this.calls.delete(number) };
   }
 
+  /** @type {(number: number | null) => void} */
   due(number) {
     this.away();
     const call = this.calls.get(number);

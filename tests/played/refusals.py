@@ -1,6 +1,7 @@
 """What is refused, and what stands then; help, names and dates, old games, the archive, the sources."""
 
 import ast
+import json
 import os
 import pathlib
 import socket
@@ -467,6 +468,20 @@ def mypy(folder: pathlib.Path) -> None:
     places = os.pathsep.join(map(str, [links, TOP, *(TOP / name for name in MODULE_FOLDERS)]))
     words = ["--strict", "--python-version=3.9", "--explicit-package-bases", f"--cache-dir={folder}"]
     complains_of_nothing("mypy", *words, *files, path=places)
+
+
+def tsc(folder: pathlib.Path) -> None:
+    """TypeScript's checker has no complaint about the modules of web/ and those that they import; it has one about a text for a number."""
+    complains_of_nothing("node-typescript", "--project", TOP / "web" / "jsconfig.json")
+    (folder / "wrong.js").write_text(f"import {{ isLong }} from '{TOP}/web/kept/limit.js';\n\nisLong('1', 2);\n")
+    wrong = folder / "jsconfig.json"
+    wrong.write_text(json.dumps({"extends": str(TOP / "web" / "jsconfig.json"), "include": ["wrong.js"]}))
+    try:
+        complains_of_nothing("node-typescript", "--project", wrong)
+    except AssertionError as error:
+        same([line.split(": ")[1] for line in str(error).splitlines()], ["error TS2345"])
+    else:
+        raise AssertionError("a text passes for a number")
 
 
 def compiles(folder: pathlib.Path) -> None:

@@ -3,13 +3,34 @@
 
 import { STOPPED } from '../game/times.js';
 
+/**
+ * @typedef {import('../game/attended.js').Answer} Answer
+ * @typedef {import('../game/attended.js').Given} Given
+ * @typedef {import('../game/options.js').Options} Options
+ * @typedef {import('../game/program.js').Program} Program
+ * @typedef {import('../guard.js').Guard} Guard
+ * @typedef {import('../loop.js').Timer} Timer
+ */
+
+/**
+ * What is told: when, by the clock that counts on, and by the page's; and whether it is noted in the game's times already.
+ * @typedef {{ word: string, given: Given, at: number, now: number, isNoted: boolean }} Entry
+ * @typedef {object} Hears
+ * @property {(entry: Entry) => void} told
+ * @property {(entry: Entry, answer: Answer) => void} answered in the order in which it was told
+ * @property {() => void} wake the process is to be woken
+ */
+
 const LARGE = 1 << 16; // bytes: what follows so many is told, and copied, when they are answered
 
 export class Attendant {
   /**
-   * `hears` gets told(entry) for what is told, { word, given, at, now, isNoted }; answered(entry, answer) in the same order; and wake() when
-   * the process is to be woken. `began` is when its call begins, by the clock that counts on; `asks` says that it only asks a board who
-   * it is.
+   * `began` is when its call begins, by the clock that counts on; `asks` says that it only asks a board who it is.
+   * @param {Program} program
+   * @param {Guard} guard
+   * @param {Options} options
+   * @param {Hears} hears
+   * @param {{ began?: number, asks?: boolean }} call
    */
   constructor(program, guard, options, hears, { began = guard.counted(), asks = false } = {}) {
     this.program = program;
@@ -18,13 +39,18 @@ export class Attendant {
     this.began = began;
     this.last = began; // when it was told something last
     this.wasAway = guard.away();
+    /** @type {Timer | null} */
     this.timer = null;
     this.isLeft = false;
+    /** @type {Promise<void>} */
     this.turn = Promise.resolve(); // ends when the last large entry is answered
     this.key = program.attend(options, asks);
   }
 
-  /** This happens, in this call. */
+  /**
+   * This happens, in this call.
+   * @type {(word: string, given?: Given, at?: number) => void}
+   */
   tell(word, given = null, at = this.guard.counted()) {
     const away = this.guard.away();
     if (away > this.wasAway) this.send(STOPPED, Math.floor(1000 * (away - this.wasAway)), at);
@@ -34,6 +60,7 @@ export class Attendant {
 
   /**
    * This happens, or is from the calls before, and may be noted in the game's times already. An error in the process ends the recording.
+   * @type {(word: string, given?: Given, at?: number, isNoted?: boolean) => void}
    */
   send(word, given = null, at = this.began, isNoted = false) {
     if (this.isLeft || this.guard.ended) return;
@@ -46,17 +73,22 @@ export class Attendant {
     this.guard.call(() => asked.then((answer) => this.answered(entry, answer), (error) => this.fails(error)));
   }
 
+  /** @type {(entry: Entry, answer: Answer) => void} */
   answered(entry, answer) {
     if (this.isLeft || this.guard.ended) return;
     this.wakeIn(answer.due, entry.at);
     this.hears.answered(entry, answer);
   }
 
+  /** @type {(error: Error) => void} */
   fails(error) {
     if (!this.isLeft) throw error;
   }
 
-  /** Wakes it so many milliseconds after this time; never if that is null. */
+  /**
+   * Wakes it so many milliseconds after this time; never if that is null.
+   * @type {(due: number | null, at: number) => void}
+   */
   wakeIn(due, at) {
     if (this.timer) this.timer.cancel();
     const wakes = () => this.isLeft || this.hears.wake();

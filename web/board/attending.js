@@ -9,6 +9,55 @@ import { KEEP, KEPT, LENT, NUMBER, OTHER, TEXT, WAKE } from '../game/attended.js
 import { lineOf } from '../game/report.js';
 import { Attendant } from './attendant.js';
 
+/**
+ * @typedef {import('../game/attended.js').Answer} Answer
+ * @typedef {import('../game/attended.js').End} End
+ * @typedef {import('../game/attended.js').Given} Given
+ * @typedef {import('../game/attended.js').Raised} Raised
+ * @typedef {import('../game/attended.js').Stands} Stands
+ * @typedef {import('../game/options.js').Options} Options
+ * @typedef {import('../game/program.js').Program} Program
+ * @typedef {import('../game/report.js').Line} Line
+ * @typedef {import('../guard.js').Guard} Guard
+ * @typedef {import('../kept/capture.js').Capture} Capture
+ * @typedef {import('../kept/times.js').Times} Times
+ * @typedef {import('./attendant.js').Entry} Told
+ */
+
+/**
+ * An entry in its order: whether it is answered, and whose board has sent it, if it is held.
+ * @typedef {Told & { number: number, isAnswered?: boolean, owner?: string }} Entry
+ * @typedef {Entry & { given: Uint8Array }} Sent what the board has sent
+ */
+
+/**
+ * An answer that waits until the capture's first `mark` bytes are kept.
+ * @typedef {object} Pending
+ * @property {number} number
+ * @property {number} mark
+ * @property {Entry | null} entry
+ * @property {Pick<Answer, 'report' | 'end' | 'looks' | 'state'> & { game?: Uint8Array | null }} answer
+ * @property {boolean} [isRead]
+ */
+
+/**
+ * Who hears what the program says. What is in its lines, and what stands behind them here, is said as soon as all is kept.
+ * @typedef {object} Hears
+ * @property {Options} options of the game
+ * @property {string} number of its board
+ * @property {boolean} isConnected whether its line is open, or is being opened
+ * @property {(bytes: Uint8Array, at: number, now: number, number: string) => void} keeps the capture gets this
+ * @property {(letters: string, at: number) => void} asks the board is sent this
+ * @property {(handling: string, other: string) => void} handled whose board is on the cable
+ * @property {(number: string, bytes: Uint8Array) => boolean} lends whether another game has taken them
+ * @property {(line: Line) => void} hear a line
+ * @property {() => void} heardAll behind the last line
+ * @property {(end: End) => void} endsSoon before the lines with which the game ends
+ * @property {(end: End) => void} ends
+ * @property {(looks: Raised[]) => void} raises
+ * @property {(state: Stands, entry: Entry) => void} stands
+ */
+
 const MOST_HELD = 1 << 20; // bytes that no game has, as in the program
 const PART = 1 << 20; // bytes of a capture that the program gets at a time, with their times
 const OPENS = 0.2; // seconds in which a recorder that is begun may get its line
@@ -16,39 +65,58 @@ const CAPTURE = 'capture';
 const OF_THE_PAST = [KEPT, CAPTURE, BEGIN, AWAY]; // with the answers to these no game gets bytes
 const UNLINED = [...OF_THE_PAST, NUMBER, LENT, WAKE, TEXT, HEARD]; // these have no line in the times, or have it otherwise
 
+/** @type {(text: string) => Uint8Array} */
 const textBytes = (text) => new TextEncoder().encode(text);
 
 export class Attending {
   /**
-   * `hears` has options and number, those of the game and of its board; and isConnected, whether its line is open or is being
-   * opened. It gets keeps(bytes, at, now, number) with what the capture gets;
-   * asks(words, at) with what the board is sent; handled(handling, other), whose board is on the cable; lends(number, bytes), which
-   * says whether another game has taken them; and, as soon as all is kept, hear(line) for each line, heardAll() after them,
-   * ends(end) with what is said of the game's end, raises(looks) with what somebody must look at, and stands(state, entry) with what
-   * the board's state is said to be.
+   * @param {{ program: Program }} hall
+   * @param {Guard} guard
+   * @param {Hears} hears
    */
   constructor(hall, guard, hears) {
     this.program = hall.program;
     this.guard = guard;
     this.hears = hears;
+    /** @type {Attendant | null} */
     this.attendant = null;
     this.epoch = 0; // how often the lines were heard from the first one on
+    /** @type {string[]} */
     this.lines = [];
     this.heard = 0; // lines that were heard in this epoch
     this.told = 0; // entries
     this.shown = 0; // the last of them whose answer was shown
+    /** @type {Pending[]} */
     this.pending = []; // answers that wait until the capture's first `mark` bytes are kept
     this.isShowing = false;
+    /** @type {Entry[]} */
     this.unanswered = []; // entries
+    /** @type {Sent[]} */
     this.held = []; // entries with what the board has sent and no game has
+    /** @type {{ number: number, done: (nothing?: unknown) => void }[]} */
     this.waiting = []; // those who wait until an entry's answer is shown
+    /** @type {((text: Uint8Array | null) => void)[]} */
     this.texts = []; // those who wait for the text of the game
+    /** @type {(() => unknown)[] | null} */
     this.paused = null; // what happens while nothing is told
+    /** @type {Uint8Array[]} */
     this.later = []; // what the board has sent meanwhile
+    // What `take` sets.
+    /** @type {Capture} */
+    this.capture;
+    /** @type {Times} */
+    this.times;
+    this.kept = 0;
+    this.known = 0;
+    this.isAnew = true;
+    this.isHistory = false;
     guard.opened(() => this.close());
   }
 
-  /** Attends the board of this capture from now on. All that it has may be shown. */
+  /**
+   * Attends the board of this capture from now on. All that it has may be shown.
+   * @type {(capture: Capture, times: Times) => void}
+   */
   take(capture, times) {
     this.noteLines(true);
     this.unanswered = [];
@@ -104,13 +172,14 @@ export class Attending {
   /** A process reads the capture, and attends the board from now on. */
   attend() {
     this.isAnew = false;
-    const isBegun = this.attendant !== null;
-    if (isBegun) this.attendant.leave();
+    const before = this.attendant;
+    if (before) before.leave();
     const { held } = this;
     const { options } = this.hears;
+    /** @type {import('./attendant.js').Hears} */
     const hears = {
-      told: (entry) => this.hasTold(entry),
-      answered: (entry, answer) => this.answered(entry, answer),
+      told: (entry) => this.hasTold(/** @type {Entry} */ (entry)),
+      answered: (entry, answer) => this.answered(/** @type {Entry} */ (entry), answer),
       wake: () => this.tell(WAKE),
     };
     const { began, line } = this.times;
@@ -121,12 +190,15 @@ export class Attending {
     this.held = [];
     this.leaveTexts();
     this.tellPast(attendant);
-    if (isBegun && line.length === 0) attendant.send(GONE);
+    if (before && line.length === 0) attendant.send(GONE);
     else if (line.length === 0) this.guard.after(OPENS, () => this.hears.isConnected || this.tell(GONE));
     held.forEach(({ given, at }) => attendant.send(HEARD, given, at));
   }
 
-  /** Tells a process what is there already. Nothing else keeps these bytes, as a function that `attend` makes would. */
+  /**
+   * Tells a process what is there already. Nothing else keeps these bytes, as a function that `attend` makes would.
+   * @type {(attendant: Attendant) => void}
+   */
   tellPast(attendant) {
     const { isHistory } = this;
     const { number } = this.hears;
@@ -136,7 +208,9 @@ export class Attending {
       if (text) attendant.send(KEPT, textBytes(text));
       attendant.send(CAPTURE, bytes);
     }
+    /** @type {(begun: [what: string, count: number | null]) => void} */
     const tells = ([what, count]) => attendant.send(what, what === ADDED ? sent : count, began, true);
+    /** @type {(begun: [what: string, count: number | null]) => boolean} */
     const isFirst = ([what]) => OF_THE_PAST.includes(what);
     begun.filter(isFirst).forEach(tells);
     if (number) attendant.send(NUMBER, textBytes(number));
@@ -145,20 +219,27 @@ export class Attending {
 
   // What it is told.
 
-  /** This happens. */
+  /**
+   * This happens.
+   * @type {(word: string, given?: Given, at?: number) => void}
+   */
   tell(word, given = null, at = this.guard.counted()) {
-    if (this.paused && word === HEARD) this.later.push(given);
+    if (this.paused && word === HEARD) this.later.push(/** @type {Uint8Array} */ (given));
     this.inTurn(() => this.tellNow(word, given, at));
   }
 
-  /** The same, even while nothing else is told. */
+  /**
+   * The same, even while nothing else is told.
+   * @type {(word: string, given?: Given, at?: number) => void}
+   */
   tellNow(word, given = null, at = this.guard.counted()) {
-    this.attendant.tell(word, given, at);
+    /** @type {Attendant} */ (this.attendant).tell(word, given, at);
   }
 
   /**
    * The text of the game, as bytes, of all that the program was told by now; null if another process attends the board before
    * that is answered, or none any more.
+   * @type {() => Promise<Uint8Array | null>}
    */
   text() {
     return new Promise((done) => {
@@ -173,7 +254,10 @@ export class Attending {
     this.texts = [];
   }
 
-  /** Does this now, or when what happens is told again. */
+  /**
+   * Does this now, or when what happens is told again.
+   * @type {(work: () => unknown) => void}
+   */
   inTurn(work) {
     if (this.paused) this.paused.push(work);
     else work();
@@ -191,15 +275,19 @@ export class Attending {
     this.guard.call(() => works.forEach((work) => work()));
   }
 
+  /** @type {(entry: Entry) => void} */
   hasTold(entry) {
     this.told += 1;
     entry.number = this.told;
-    if (entry.word === HEARD) this.held.push(entry);
+    if (entry.word === HEARD) this.held.push(/** @type {Sent} */ (entry));
     this.unanswered.push(Object.assign(entry, { isNoted: entry.isNoted || UNLINED.includes(entry.word) }));
     this.noteLines();
   }
 
-  /** What was told gets its line, up to the first that may bring bytes to the game; or all of it, since nobody answers any more. */
+  /**
+   * What was told gets its line, up to the first that may bring bytes to the game; or all of it, since nobody answers any more.
+   * @type {(areAll?: boolean) => void}
+   */
   noteLines(areAll = false) {
     for (const entry of this.unanswered) {
       const { word, given, at } = entry;
@@ -211,6 +299,7 @@ export class Attending {
 
   // What it answers.
 
+  /** @type {(entry: Entry, answer: Answer) => void} */
   answered(entry, answer) {
     entry.isAnswered = true;
     this.unanswered.shift();
@@ -225,24 +314,35 @@ export class Attending {
     this.show();
   }
 
-  /** What was held has come to the game, or is another board's, or is dropped with its line. */
+  /**
+   * What was held has come to the game, or is another board's, or is dropped with its line.
+   * @type {(entry: Entry, answer: Answer) => void}
+   */
   settle({ word }, { handling, other }) {
+    /** @type {(one: Sent) => unknown} */
     const isOld = (one) => one.isAnswered && (handling === KEEP || (handling === OTHER && one.owner && one.owner !== other));
+    /** @type {(one: Sent) => unknown} */
     const isDropped = (one) => one.isAnswered && !one.owner && (word === OPENED || word === GONE);
     this.held = this.held.filter((one) => !isOld(one) && !isDropped(one));
     if (handling === OTHER) this.held.filter(({ isAnswered }) => isAnswered).forEach((one) => Object.assign(one, { owner: other }));
     let size = this.held.reduce((sum, { given }) => sum + given.length, 0);
-    while (size > MOST_HELD) size -= this.held.shift().given.length;
+    while (size > MOST_HELD) size -= /** @type {Sent} */ (this.held.shift()).given.length;
   }
 
-  /** Gives what another board has sent to the game that has it, if there is one. */
+  /**
+   * Gives what another board has sent to the game that has it, if there is one.
+   * @type {(number: string) => void}
+   */
   lend(number) {
     const count = this.held.length;
     while (this.held.length > 0 && this.held[0].isAnswered && this.hears.lends(number, this.held[0].given)) this.held.shift();
     if (this.held.length < count) this.tell(LENT);
   }
 
-  /** So many bytes more are kept: they may be shown. */
+  /**
+   * So many bytes more are kept: they may be shown.
+   * @type {(count: number) => void}
+   */
   isKept(count) {
     this.kept += count;
     this.show();
@@ -253,15 +353,18 @@ export class Attending {
     if (this.isShowing) return;
     this.isShowing = true;
     while (this.pending.length > 0 && this.pending[0].mark <= this.kept && !this.guard.ended) {
-      const { number, mark, entry, answer, isRead } = this.pending.shift();
+      const { number, mark, entry, answer, isRead } = /** @type {Pending} */ (this.pending.shift());
       for (const line of answer.report) this.lines.push(line);
       this.known = Math.max(this.known, mark);
       if (answer.end) this.hears.endsSoon(answer.end);
       if ((answer.report.length > 0 && isRead) || !entry || entry.word === BEGIN) this.hear();
       if (answer.end) this.hears.ends(answer.end);
       if (answer.looks.length > 0) this.hears.raises(answer.looks);
-      if (answer.state) this.hears.stands(answer.state, entry);
-      if (answer.game) this.texts.shift()(answer.game);
+      if (answer.state && entry) this.hears.stands(answer.state, entry);
+      if (answer.game) {
+        const [done] = this.texts.splice(0, 1);
+        done(answer.game);
+      }
       this.shown = Math.max(this.shown, number);
     }
     this.isShowing = false;
@@ -270,7 +373,10 @@ export class Attending {
     seen.forEach(({ done }) => done());
   }
 
-  /** Whether the answers to so many entries are shown, and no line is to be heard again. */
+  /**
+   * Whether the answers to so many entries are shown, and no line is to be heard again.
+   * @type {(number: number) => boolean}
+   */
   isShown(number) {
     return this.shown >= number && this.pending.every(({ entry }) => entry !== null);
   }
@@ -286,7 +392,10 @@ export class Attending {
     this.hears.heardAll();
   }
 
-  /** The promise ends when the answers to all that was told are shown. */
+  /**
+   * The promise ends when the answers to all that was told are shown.
+   * @type {() => Promise<unknown>}
+   */
   read() {
     const number = this.told;
     if (this.isShown(number) || this.guard.ended) return Promise.resolve();
@@ -295,7 +404,10 @@ export class Attending {
     });
   }
 
-  /** What the program hasn't answered, and can't any more: it counts as the game's, unless what came before it was held. */
+  /**
+   * What the program hasn't answered, and can't any more: it counts as the game's, unless what came before it was held.
+   * @type {() => Uint8Array[]}
+   */
   takeUnanswered() {
     this.noteLines(true);
     const isHeld = this.held.some(({ isAnswered }) => isAnswered);

@@ -5,10 +5,19 @@ import { fromStart } from '../game/reading.js';
 import { message } from '../../live/web/page/message.js';
 import { Again } from './again.js';
 
+/**
+ * @typedef {import('../../live/web/page/message.js').Message} Message
+ * @typedef {import('./recorder.js').Recorder} Recorder
+ */
+
 export class Beginning {
-  /** `recorder` records the game. */
+  /**
+   * `recorder` records the game.
+   * @param {Recorder} recorder
+   */
   constructor(recorder) {
     this.recorder = recorder;
+    /** @type {number | null} */
     this.epoch = null; // of the lines with which the program has said so
     this.bytes = 0; // of the capture that belong to the set-up
     this.again = new Again(recorder);
@@ -20,16 +29,23 @@ export class Beginning {
     return !isOver && this.epoch === attending.epoch;
   }
 
-  /** The game begins only behind so many bytes. */
+  /**
+   * The game begins only behind so many bytes.
+   * @type {(bytes: number) => Promise<void>}
+   */
   begin(bytes) {
     this.epoch = this.recorder.attending.epoch;
     this.bytes = bytes;
     return this.tryIt();
   }
 
-  /** Makes its capture begin with the start and what came after it. If that fails, what comes is kept with the set-up. */
+  /**
+   * Makes its capture begin with the start and what came after it. If that fails, what comes is kept with the set-up.
+   * @type {() => Promise<void>}
+   */
   tryIt() {
     const { recorder } = this;
+    /** @type {(error: Error) => Message} */
     const told = (error) => message('next.not_from_the_start', { name: recorder.name, why: error.message });
     return this.again.try(() => recorder.typing.exclusively(() => this.renew()), told, () => this.tryIt());
   }

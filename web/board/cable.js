@@ -6,13 +6,30 @@ import { Taken } from '../device/line.js';
 import { KEEP, OTHER } from '../game/attended.js';
 import { GONE, OPENED, TOOK } from '../game/times.js';
 
+/**
+ * @typedef {import('../guard.js').Guard} Guard
+ * @typedef {import('../loop.js').Timer} Timer
+ */
+
+/**
+ * @typedef {object} Hears
+ * @property {(what: string) => void} happened this is news of the line
+ * @property {(bytes: Uint8Array) => void} came the board has sent this
+ * @property {() => void} plugged
+ * @property {() => void} unplugged
+ * @property {(why: string) => void} taken another program has the port
+ * @property {(number: string) => void} numbered the number of the game's board is known
+ * @property {(number: string) => void} another a board with this number is on the cable
+ * @property {(other: string) => void} back it was, and the game's own is there again
+ */
+
 const AGAIN = 2.0; // seconds until a port that another program has is tried again
 
 export class Cable {
   /**
-   * `hears` gets happened(what) with news of the line, came(bytes) with what the board sends, plugged(), unplugged(),
-   * taken(why); numbered(number) when the number of the game's board is known; and another(number) and back(number) when
-   * another board is on the cable, or no more.
+   * @param {Guard} guard
+   * @param {string} number
+   * @param {Hears} hears
    */
   constructor(guard, number, hears) {
     this.guard = guard;
@@ -20,9 +37,13 @@ export class Cable {
     this.number = number; // the serial number of the game's board, empty if unknown
     this.other = ''; // that of the board on the cable, if it is another one
     this.told = ''; // that of the other board that was last reported, while it is on the cable
+    /** @type {Uint8Array[]} */
     this.latest = []; // what the board has sent last
+    /** @type {SerialPort | null} */
     this.port = null;
+    /** @type {Connection | null} */
     this.connection = null;
+    /** @type {Timer | null} */
     this.timer = null;
     this.isTaken = false;
     this.isLeft = false; // whether another game has its line
@@ -33,7 +54,10 @@ export class Cable {
     return this.connection !== null;
   }
 
-  /** Records from this port from now on. */
+  /**
+   * Records from this port from now on.
+   * @type {(port: SerialPort) => Promise<void>}
+   */
   async begin(port) {
     this.close();
     this.port = port;
@@ -54,7 +78,10 @@ export class Cable {
     }
   }
 
-  /** Goes on with an open connection, which has brought this. */
+  /**
+   * Goes on with an open connection, which has brought this.
+   * @type {(connection: Connection, came: Uint8Array[]) => void}
+   */
   take(connection, came) {
     this.close();
     this.port = connection.port;
@@ -72,7 +99,7 @@ export class Cable {
     this.hears.plugged();
   }
 
-  /** Leaves the line open to the game that has its board: { connection, came }. */
+  /** Leaves the line open to the game that has its board. */
   leave() {
     const { connection, latest } = this;
     this.connection = null;
@@ -92,7 +119,10 @@ export class Cable {
     this.timer = null;
   }
 
-  /** Sends this to the board. Returns whether its line is there. */
+  /**
+   * Sends this to the board. Returns whether its line is there.
+   * @type {(bytes: Uint8Array) => boolean}
+   */
   write(bytes) {
     if (this.connection) this.connection.write(bytes);
     return this.connection !== null;
@@ -100,6 +130,7 @@ export class Cable {
 
   // What the line does.
 
+  /** @type {(bytes: Uint8Array) => void} */
   heard(bytes) {
     this.hears.came(bytes);
   }
@@ -112,7 +143,10 @@ export class Cable {
 
   // Whose board it is.
 
-  /** What is done with what the board sends. If its number is the game's, that was answered before it was taken. */
+  /**
+   * What is done with what the board sends. If its number is the game's, that was answered before it was taken.
+   * @type {(handling: string, number: string) => void}
+   */
   handled(handling, number) {
     if (handling === KEEP) this.other = '';
     if (handling !== OTHER || number === this.number) return;
@@ -122,7 +156,10 @@ export class Cable {
     this.hears.another(number);
   }
 
-  /** The game gets these bytes, which its board has sent. With them its number may become known. */
+  /**
+   * The game gets these bytes, which its board has sent. With them its number may become known.
+   * @type {(bytes: Uint8Array, number: string) => void}
+   */
   brings(bytes, number) {
     if (number && !this.number) {
       this.latest = [bytes];
@@ -135,7 +172,10 @@ export class Cable {
     }
   }
 
-  /** From now on the board with this number is the game's. */
+  /**
+   * From now on the board with this number is the game's.
+   * @type {(number: string) => void}
+   */
   isOwn(number) {
     this.number = number;
     this.hears.numbered(number);

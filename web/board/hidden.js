@@ -5,25 +5,41 @@ import { gameOf } from '../game/reading.js';
 import { plural } from '../../live/web/page/message.js';
 import { Kind } from './state.js';
 
+/**
+ * @typedef {import('../game/report.js').Move} Move
+ * @typedef {import('../../live/web/page/message.js').Words} Words
+ * @typedef {import('./recorder.js').Recorder} Recorder
+ */
+
 const LONG = 15.0; // seconds in which a board is otherwise before it is read so, and from one reading to the next
 const MOST = 4 << 20; // bytes of a capture that is read so: a longer one takes the program long
 const OTHERWISE = [Kind.WRONG, Kind.IN_HAND, Kind.SETTING_UP];
 
-/** How many moves the other game has more, if it has all moves of this one; else 0. Pure. */
+/**
+ * How many moves the other game has more, if it has all moves of this one; else 0. Pure.
+ * @type {(plies: Move[], others: Move[]) => number}
+ */
 export function foundBeyond(plies, others) {
   const areKept = plies.every(({ san }, at) => at < others.length && others[at].san === san);
   return areKept ? others.length - plies.length : 0;
 }
 
-/** What to do about so many moves; empty without any. Pure. */
+/**
+ * What to do about so many moves; empty without any. Pure.
+ * @type {(count: number) => Words}
+ */
 export function adviceOf(count) {
   return count === 0 ? '' : plural('mend.hidden', count);
 }
 
 export class Hidden {
-  /** `recorder` records the game. */
+  /**
+   * `recorder` records the game.
+   * @param {Recorder} recorder
+   */
   constructor(recorder) {
     this.recorder = recorder;
+    /** @type {number | null} */
     this.nextAt = null; // when the capture is read again; null while the board agrees
     this.size = 0; // of the capture that was read last
     this.newest = ''; // of the game then

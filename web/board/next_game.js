@@ -8,17 +8,43 @@ import { lineOf } from '../game/report.js';
 import { message } from '../../live/web/page/message.js';
 import { Again } from './again.js';
 
+/**
+ * @typedef {import('../game/afterwards.js').Shown} Shown
+ * @typedef {import('../game/report.js').Line} Line
+ * @typedef {import('../game/report.js').Picture} Picture
+ * @typedef {import('../kept/database.js').Given} Given
+ * @typedef {import('../../live/web/page/message.js').Message} Message
+ * @typedef {import('../../live/web/page/message.js').Words} Words
+ * @typedef {import('./recorder.js').Recorder} Recorder
+ */
+
+/** @typedef {Line & { event: Picture }} PictureLine */
+
 const Reason = { RESULT: message('over.has_a_result'), NEXT: message('over.next_wanted') }; // why the game before is over
 
+/**
+ * @param {Line | null} line
+ * @returns {line is PictureLine}
+ */
 const isPicture = (line) => line !== null && line.event.kind === 'picture';
+/** @type {(line: PictureLine) => Shown} */
 const pictureOf = ({ offset, event }) => [offset, event.placement];
 
 export class NextGame {
-  /** `recorder` records the game that is on, and gets begin(content, given, before) when another one takes its place. */
+  /**
+   * `recorder` records the game that is on, and gets begin(content, given, before) when another one takes its place.
+   * @param {Recorder} recorder
+   */
   constructor(recorder) {
     this.recorder = recorder;
     this.again = new Again(recorder);
     this.isReading = false;
+    // What `readAgain` sets.
+    /** @type {number | null} */
+    this.at;
+    this.stood = '';
+    this.hasShown = false;
+    this.isRead = false;
     this.readAgain();
   }
 
@@ -33,10 +59,13 @@ export class NextGame {
   /** Where the game ends, and with it all that counts no more. */
   get end() {
     const { game, overTo, isOver } = this.recorder;
-    return isOver ? Math.max(game.end, overTo) : Infinity;
+    return isOver ? Math.max(Number(game.end), overTo) : Infinity;
   }
 
-  /** The next line of the report. */
+  /**
+   * The next line of the report.
+   * @type {(line: Line) => void}
+   */
   hear(line) {
     if (!isPicture(line)) return;
     if (line.offset < this.end) {
@@ -47,7 +76,10 @@ export class NextGame {
     }
   }
 
-  /** These pictures were shown. */
+  /**
+   * These pictures were shown.
+   * @type {(pictures: Shown[]) => void}
+   */
   begins(pictures) {
     if (this.at === null) this.at = nextBegins(pictures, this.end, startOf(this.recorder.options));
   }
@@ -87,15 +119,19 @@ export class NextGame {
 
   /** Begins the next game. If that fails, what comes is kept with the game that is over, after its end. */
   tryIt() {
+    /** @type {(error: Error) => Message} */
     const told = (error) => message('next.not_begun', { why: error.message });
     return this.again.try(() => this.begin(this.at), told, () => this.recorder.heardAll());
   }
 
-  /** The next game begins with the start, which the board has shown since this byte. */
+  /**
+   * The next game begins with the start, which the board has shown since this byte.
+   * @type {(offset: number | null) => Promise<unknown>}
+   */
   begin(offset) {
     const { recorder } = this;
     return recorder.typing.exclusively(async () => {
-      if (!recorder.isOver || this.at !== offset) return;
+      if (offset === null || !recorder.isOver || this.at !== offset) return;
       const { board, calls, capture, options } = recorder;
       await recorder.begin(await fromStart(calls, options, capture.view(), offset + 1), board.next || {});
       recorder.hears.says(message('next.begins_at_the_start', { name: recorder.game.name }));
@@ -103,8 +139,9 @@ export class NextGame {
   }
 
   /**
-   * Somebody wants the next game, whatever the board shows; with { options, name }, if given. If the pieces stand as after
+   * Somebody wants the next game, whatever the board shows; with these options and this name, if given. If the pieces stand as after
    * a first move, the game begins with it only if `takesMove`; else, or if the kings show a result, it waits until they are set up.
+   * @type {(given?: Given, takesMove?: boolean) => Promise<void>}
    */
   async want(given = {}, takesMove = false) {
     const { recorder } = this;
@@ -122,7 +159,10 @@ export class NextGame {
     });
   }
 
-  /** The next game, with { options, name } if given, begins when the pieces are set up. */
+  /**
+   * The next game, with these options and this name, if given, begins when the pieces are set up.
+   * @type {(given: Given, shows: Words) => void}
+   */
   wait(given, shows) {
     const { recorder } = this;
     recorder.knows({ next: given });
@@ -131,7 +171,7 @@ export class NextGame {
     recorder.hears.changed();
   }
 
-  /** What it has, { options, name }, if it waits until the pieces are set up; else null. */
+  /** What it has if it waits until the pieces are set up; else null. */
   get awaited() {
     return this.recorder.isOver ? this.recorder.board.next || null : null;
   }

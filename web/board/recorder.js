@@ -31,6 +31,55 @@ import { DISK_FULL, Kind, stateOf } from './state.js';
 import { Typing } from './typing.js';
 import { another, back as backAgain, mayTake } from './whose.js';
 
+/**
+ * @typedef {import('../game/attended.js').End} End
+ * @typedef {import('../game/attended.js').Over} Over
+ * @typedef {import('../game/attended.js').Raised} Raised
+ * @typedef {import('../game/attended.js').Stands} Stands
+ * @typedef {import('../game/looks.js').Look} Look
+ * @typedef {import('../game/options.js').Options} Options
+ * @typedef {import('../game/program.js').Program} Program
+ * @typedef {import('../game/report.js').Change} Change
+ * @typedef {import('../game/report.js').Line} Line
+ * @typedef {import('../game/report.js').Move} Move
+ * @typedef {import('../guard.js').Guard} Guard
+ * @typedef {import('../kept/database.js').Before} Before
+ * @typedef {import('../kept/database.js').Board} Board
+ * @typedef {import('../kept/database.js').Database} Database
+ * @typedef {import('../kept/database.js').Game} Game
+ * @typedef {import('../kept/database.js').Given} Given
+ * @typedef {import('../kept/database.js').Row} Row
+ * @typedef {import('../../live/web/page/message.js').Words} Words
+ * @typedef {import('./attending.js').Entry} Entry
+ * @typedef {import('./whose.js').Owner} Owner
+ */
+
+/**
+ * What a recorder begins with: what the database has; or what one has left that an error has ended before all was kept, of which the database
+ * may lack some. The rows of the times are null if they can't be read.
+ * @typedef {{ board: Board, game: Game, capture: Capture, times: Row[] | null, mayLack?: boolean }} Kept
+ */
+
+/** @typedef {Game & { pgn: string, bytes: Uint8Array, times: string }} Finished a game that is over, with its text, its capture and its times */
+
+/**
+ * What hears a recorder, and answers it.
+ * @typedef {object} Hears
+ * @property {(text: Words) => void} says
+ * @property {(isNews?: boolean) => void} changed
+ * @property {() => void} placed the PGN has changed
+ * @property {(game: Finished) => void} begun another game begins behind this one
+ * @property {(before: Before) => void} keeps a new capture was made instead of this one
+ * @property {() => void} cameBack its board was away, and is heard again
+ * @property {(number: string) => void} numbered
+ * @property {(name: string) => string} nextName
+ * @property {(number: string) => Owner | null} owner the game that has the board with this number
+ * @property {(number: string, bytes: Uint8Array) => boolean} lends that game gets these bytes; whether there is one
+ * @property {(number: string) => void} takes this game gets the board of that one
+ * @property {{ name: string, isUnended: boolean } | null} gameBefore
+ * @typedef {(game: Game, capture: Capture, words: string[]) => Times} TimesOf makes the times of a game's new capture
+ */
+
 const TICK = 1.0; // seconds between two looks at what waits
 const SAID = [Kind.WRONG, Kind.NO_START]; // states that are reported as lines too
 const UNSEEN = ['UNPLUGGED', 'SILENT', 'WAITS']; // states in which the board may have shown nothing
@@ -38,6 +87,7 @@ const UNSEEN = ['UNPLUGGED', 'SILENT', 'WAITS']; // states in which the board ma
 const HOW = message('press.no_result');
 // Why a game is over, as the program says it.
 const [CORRECTED, STOOD, UNFINISHED] = ['CORRECTED', 'STOOD', 'UNFINISHED'];
+/** @type {{ [why: string]: Words }} */
 const WHY = {
   STOOD: message('over.has_a_result'),
   'PLAYS-ON': message('over.if_it_goes_on', { why: message('over.played_on'), how: HOW }),
@@ -48,11 +98,10 @@ const WHY = {
 
 export class Recorder {
   /**
-   * `kept` is what the database has: { board, game, capture, times }; or what a recorder has left that an error has ended before all
-   * was kept, of which it may lack some, as `mayLack` says. `hears` gets says(text), changed(isNews), placed() when the PGN
-   * has changed, begun(game) with the last game when another one begins, and keeps(before) with the old capture when a
-   * new one was made; and cameBack() when its board was away and is heard again. It answers owner(number) and lends(number, heard),
-   * and gets takes(number) when this game gets the board that another one has had.
+   * @param {{ calls: Program, program: Program, database: Database }} hall
+   * @param {Guard} guard
+   * @param {Kept} kept
+   * @param {Hears} hears
    */
   constructor(hall, guard, kept, hears) {
     this.calls = hall.calls; // of the program
@@ -60,20 +109,51 @@ export class Recorder {
     this.guard = guard;
     this.hears = hears;
     this.board = kept.board;
+    // What `takeGame` sets.
+    /** @type {Game} */
+    this.game;
+    /** @type {Capture} */
+    this.capture;
+    /** @type {Times} */
+    this.times;
+    /** @type {Raised[]} */
+    this.raised;
+    this.opened = 0;
+    this.away = 0;
+    this.played = 0;
+    // What `reread` sets.
+    /** @type {Course} */
+    this.course;
+    /** @type {Alarms} */
+    this.alarms;
+    this.old = 0;
+    this.isOld = true;
+    this.endsAt = Infinity;
+    this.wantsText = false; // whether its text is to be made anew; `isMaking`: whether it is being made
+    this.isMaking = false;
+    this.lastNews = ''; // of its state
     this.pgn = '';
+    /** @type {Promise<void> | null} */
     this.made = null; // a promise that ends when the wanted text is there
+    /** @type {Words} */
     this.trouble = ''; // why it isn't recorded
     this.isStopped = false;
     this.isSilent = false; // whether no board answers
+    /** @type {number | null} */
     this.heardAt = null; // when the board was heard last; `leftAt`: the same, while it is away
+    /** @type {number | null} */
     this.leftAt = null;
-    this.gap = null; // when it was away last: { heardAt, cameAt }
+    /** @type {{ heardAt: number, cameAt: number } | null} */
+    this.gap = null; // when it was away last
     this.hasShown = false; // whether the board has shown something
+    /** @type {Stands} */
     this.said = { kind: 'WAITS', lasted: null, squares: [], hint: '' }; // of the board's state; `saidAt` is when
     this.saidAt = guard.now();
+    /** @type {string[]} */
     this.differs = []; // the squares that the report has named last
     this.newest = ''; // of the game, as it was shown last
     this.isUnkept = false; // whether the game's record couldn't be kept
+    /** @type {Promise<void> | null} */
     this.keeping = null; // a promise that ends when it was last kept, or couldn't be
     guard.opened(() => this.times.close()); // after the cable
     this.typing = new Typing(this);
@@ -91,7 +171,10 @@ export class Recorder {
     this.reread();
   }
 
-  /** Records this game from now on. */
+  /**
+   * Records this game from now on.
+   * @type {(game: Game, capture: Capture, times: Times) => void}
+   */
   takeGame(game, capture, times) {
     this.game = game;
     this.capture = capture;
@@ -163,7 +246,10 @@ export class Recorder {
     this.newest = newest;
   }
 
-  /** The next line of the report. */
+  /**
+   * The next line of the report.
+   * @type {(line: Line) => void}
+   */
   hear(line) {
     const { offset, event } = line;
     if (event.kind === 'fault') return;
@@ -171,7 +257,7 @@ export class Recorder {
     if (this.isOld && !isOld) this.tellOld();
     if (event.kind === 'differs') this.differs = event.squares;
     this.next.hear(line);
-    if (this.isOver && offset >= this.game.end) return;
+    if (this.game.end !== null && offset >= this.game.end) return;
     this.course.take(line);
     if (isOld || offset >= this.endsAt) return;
     if (event.kind === 'recovered') {
@@ -181,8 +267,9 @@ export class Recorder {
     }
   }
 
+  /** @type {(change: Change, offset: number) => void} */
   hearChange(change, offset) {
-    this.hears.says(shownOf(change), change.kind === 'move');
+    this.hears.says(shownOf(change));
     this.wantText();
     if (change.kind !== 'result' || change.outcome === '*') return;
     this.hears.says(offset < this.typedTo ? message('over.ends_if_meant') : message('over.ends_unless_changed'));
@@ -215,13 +302,17 @@ export class Recorder {
   /**
    * The game gets what the board on its cable has sent. It came then, by the clock that counts on, and by the page's. The
    * program may say the number that the game's board has from now on.
+   * @type {(bytes: Uint8Array, at: number, now: number, number: string) => void}
    */
   keeps(bytes, at, now, number) {
     this.cable.brings(bytes, number);
     if (!this.cable.isLeft) this.takeSent(bytes, at, now); // else another game has this board, and these bytes
   }
 
-  /** What its board has sent comes to the game. */
+  /**
+   * What its board has sent comes to the game.
+   * @type {(bytes: Uint8Array, at: number, now: number, isBrought?: boolean) => void}
+   */
   takeSent(bytes, at, now, isBrought = false) {
     const room = LARGEST - this.capture.size;
     if (room <= 0) return; // it couldn't be shortened
@@ -235,7 +326,10 @@ export class Recorder {
     this.room.close();
   }
 
-  /** The board is heard now. The page may have slept too. */
+  /**
+   * The board is heard now. The page may have slept too.
+   * @type {(now: number, hasSlept: boolean) => void}
+   */
   boardIsThere(now, hasSlept) {
     const back = cameBack(this.leftAt, hasSlept, now);
     this.leftAt = null;
@@ -259,16 +353,23 @@ export class Recorder {
     }
   }
 
-  /** The board is asked with these letters. */
+  /**
+   * The board is asked with these letters.
+   * @type {(letters: string, at: number) => void}
+   */
   asks(letters, at) {
     if (this.cable.write(new TextEncoder().encode(letters))) this.times.note(ASKED, letters.length, at);
   }
 
+  /** @type {(handling: string, other: string) => void} */
   handled(handling, other) {
     this.cable.handled(handling, other);
   }
 
-  /** Another game's cable has brought this, which is this board's. */
+  /**
+   * Another game's cable has brought this, which is this board's.
+   * @type {(bytes: Uint8Array) => void}
+   */
   takeLent(bytes) {
     this.attending.inTurn(() => {
       const at = this.guard.counted();
@@ -277,7 +378,10 @@ export class Recorder {
     });
   }
 
-  /** This is the state of the board from now on. */
+  /**
+   * This is the state of the board from now on.
+   * @type {(said: Stands, entry: Pick<Entry, 'word' | 'now'>) => void}
+   */
   stands(said, { word, now }) {
     if (said.kind === 'WAITS' && this.hasShown) return; // another process attends it, which hasn't heard it yet
     this.hasShown = this.hasShown || !UNSEEN.includes(said.kind);
@@ -294,22 +398,30 @@ export class Recorder {
     return stateOf(this.said, this.saidAt, this.differs, beside);
   }
 
+  /** @type {(seconds: number) => void} */
   sayUnheard(seconds) {
     if (!this.isOver) this.hears.says(message('board.slept_here', { time: lasting(seconds) }));
   }
 
+  /** @type {(text: Words) => void} */
   says(text) {
     this.hears.says(text);
   }
 
   // What the cable brings.
 
-  /** The board has sent this. */
+  /**
+   * The board has sent this.
+   * @type {(bytes: Uint8Array) => void}
+   */
   came(bytes) {
     this.attending.tell(HEARD, bytes);
   }
 
-  /** This happens on its cable. */
+  /**
+   * This happens on its cable.
+   * @type {(what: string) => void}
+   */
   happened(what) {
     this.attending.tell(what);
   }
@@ -327,13 +439,17 @@ export class Recorder {
     this.hears.changed();
   }
 
+  /** @type {(why: Words) => void} */
   taken(why) {
     this.trouble = message('port.not_opened');
     this.hears.says(linked('colon', [this.trouble, why]));
     this.hears.changed();
   }
 
-  /** No board answers, or one does again: that is said if it has sent something. */
+  /**
+   * No board answers, or one does again: that is said if it has sent something.
+   * @type {(isSilent: boolean, word: string) => void}
+   */
   silence(isSilent, word) {
     this.isSilent = isSilent;
     if (isSilent) this.boardIsGone();
@@ -341,26 +457,33 @@ export class Recorder {
     else if (word === HEARD) this.hears.says(message('port.answers_again'));
   }
 
+  /** @type {(number: string) => void} */
   numbered(number) {
     this.knows({ serial: number });
     this.hears.numbered(number);
   }
 
-  /** This is known of its board from now on. */
+  /**
+   * This is known of its board from now on.
+   * @type {(more: Partial<Board>) => void}
+   */
   knows(more) {
     this.board = { ...this.board, ...more };
     this.keep(() => this.database.putBoard(this.board));
   }
 
+  /** @type {(number: string) => void} */
   another(number) {
     const owner = this.hears.owner(number);
     this.tellLook(this.alarms.add(another(this.cable.number, number, owner, this.course.plies.length > 0)));
   }
 
+  /** @type {(other: string) => void} */
   back(other) {
     this.tellLook(this.alarms.add(backAgain(this.cable.number, other)));
   }
 
+  /** @type {(number: string, bytes: Uint8Array) => boolean} */
   lends(number, bytes) {
     return this.hears.lends(number, bytes);
   }
@@ -375,18 +498,27 @@ export class Recorder {
 
   // Alarms.
 
-  /** Its cable may have been exchanged with those of the boards with these numbers. The program keeps the suspicions. */
+  /**
+   * Its cable may have been exchanged with those of the boards with these numbers. The program keeps the suspicions.
+   * @type {(others: number[]) => void}
+   */
   suspect(others) {
     this.alarms.suspect(others);
     for (const other of others) this.attending.tell(SUSPECT, other);
   }
 
-  /** Its board has the same serial number as those of the boards with these numbers. */
+  /**
+   * Its board has the same serial number as those of the boards with these numbers.
+   * @type {(others: number[]) => void}
+   */
   sharesNumber(others) {
     this.tellLook(this.alarms.add(toldOfSameNumber(others)));
   }
 
-  /** The program has raised these. Nobody need look at a game that is over, unless it goes on. */
+  /**
+   * The program has raised these. Nobody need look at a game that is over, unless it goes on.
+   * @type {(looks: Raised[]) => void}
+   */
   raises(looks) {
     this.raised.push(...looks);
     if (!this.isOld && !this.isOver) this.tellRaised();
@@ -397,6 +529,7 @@ export class Recorder {
     for (const look of this.alarms.raise(raised, this.course)) this.tellLook(look);
   }
 
+  /** @type {(look: Look | null, ...otherwise: Words[]) => void} */
   tellLook(look, ...otherwise) {
     if (!look) return;
     const advice = linked('semicolon', [message('advice.look', { how: message('press.ok') }), ...otherwise]);
@@ -442,17 +575,24 @@ export class Recorder {
     return this.keeping;
   }
 
-  /** Keeps the texts that the game's file may have soon: so the page knows them again, whenever its tab is killed. */
+  /**
+   * Keeps the texts that the game's file may have soon: so the page knows them again, whenever its tab is killed.
+   * @type {(texts: string[]) => Promise<unknown>}
+   */
   keepTexts(texts) {
     this.game = { ...this.game, texts };
     return this.database.putGame(this.game);
   }
 
-  /** Keeps something besides the capture. A failure is reported. */
+  /**
+   * Keeps something besides the capture. A failure is reported.
+   * @type {(change: () => Promise<unknown>) => void}
+   */
   keep(change) {
     change().catch((error) => this.sayUnkept(error));
   }
 
+  /** @type {(error: Error) => void} */
   sayUnkept(error) {
     this.hears.says(message('keep.change', { why: error.message }));
   }
@@ -501,13 +641,19 @@ export class Recorder {
     return this.pgn;
   }
 
-  /** The text of a game with this capture that is over, up to its end. */
+  /**
+   * The text of a game with this capture that is over, up to its end.
+   * @type {(game: Pick<Game, 'end'>) => Promise<string>}
+   */
   async textOf({ end }) {
     await this.attending.read(); // whether it was forfeited is known by its lines
-    return textOf(this.calls, this.options, this.capture.view(end), this.forfeit);
+    return textOf(this.calls, this.options, this.capture.view(Number(end)), this.forfeit);
   }
 
-  /** The text of the game; null if the game is read anew meanwhile. */
+  /**
+   * The text of the game; null if the game is read anew meanwhile.
+   * @type {() => Promise<string | null>}
+   */
   async textNow() {
     if (this.isOver) return this.textOf(this.game);
     const pgn = await this.attending.text();
@@ -535,7 +681,10 @@ export class Recorder {
 
   // Ending.
 
-  /** What the program says of the game's end. A game that is stored as over stays as it is. */
+  /**
+   * What the program says of the game's end. A game that is stored as over stays as it is.
+   * @type {(end: End) => void}
+   */
   ends({ over, played, begins }) {
     this.played = played || this.played;
     if (this.isOver) {
@@ -547,12 +696,18 @@ export class Recorder {
     }
   }
 
-  /** The report has lines of the answer with which the game is over. What they say behind its end is no move of it. */
+  /**
+   * The report has lines of the answer with which the game is over. What they say behind its end is no move of it.
+   * @type {(end: End) => void}
+   */
   endsSoon({ over, begins }) {
     if (over && begins === null && !this.isOver) this.endsAt = over.bytes;
   }
 
-  /** The game is over, the program says: so many bytes are the game's, and what came behind them was no part of it. */
+  /**
+   * The game is over, the program says: so many bytes are the game's, and what came behind them was no part of it.
+   * @type {(over: Over) => void}
+   */
   isOverSo({ why, bytes, isSure }) {
     const { plies, settledAt } = this.course;
     this.alarms.end(bytes);
@@ -562,7 +717,10 @@ export class Recorder {
     this.closeGame(bytes, WHY[why] || why);
   }
 
-  /** Pieces were set up before anybody gave a result. These plies were part of that. */
+  /**
+   * Pieces were set up before anybody gave a result. These plies were part of that.
+   * @type {(plies: Move[], isSure: boolean) => void}
+   */
   tellSetUp(plies, isSure) {
     if (plies.length > 0) this.hears.says(message('over.dropped', { plies: plies.map(wordsOf).join('; ') }));
     if (!isSure) this.hears.says(message('over.end_not_sure', { pgn: this.game.name }));
@@ -588,16 +746,22 @@ export class Recorder {
     await this.keepGame();
   }
 
-  /** How many bytes of its capture give so many of its plies alone; null if those up to the last of them give more. */
+  /**
+   * How many bytes of its capture give so many of its plies alone; null if those up to the last of them give more.
+   * @type {(stays: number) => Promise<number | null>}
+   */
   async endBehind(stays) {
     const { plies, settledAt } = this.course;
     const end = stays > 0 ? settledAt[stays - 1] + 1 : 0;
     return (await hasAlone(this.calls, this.options, this.capture.view(end), plies.slice(0, stays))) ? end : null;
   }
 
-  /** The game stays over, and ends with this byte; what came up to its earlier end counts no more. */
+  /**
+   * The game stays over, and ends with this byte; what came up to its earlier end counts no more.
+   * @type {(end: number, looks: Look[]) => Promise<void>}
+   */
   endWith(end, looks) {
-    this.game = { ...this.game, end, overTo: Math.max(this.game.end, this.overTo), looks };
+    this.game = { ...this.game, end, overTo: Math.max(Number(this.game.end), this.overTo), looks };
     this.reread();
     const done = this.keepGame();
     this.times.isNotOver();
@@ -608,17 +772,20 @@ export class Recorder {
   /**
    * The game stays over, and ends with a result that somebody has given in the place of the kings': its capture has these bytes behind
    * its last ply, and then a dump of how the board stood at its earlier end.
+   * @type {(cut: number, put: Uint8Array, stood: Uint8Array) => Promise<void>}
    */
   async endsAnew(cut, put, stood) {
     const bytes = this.capture.view();
-    const { end } = this.game;
+    const end = Number(this.game.end);
     const typedTo = cut + put.length;
     const overTo = typedTo + stood.length + Math.max(0, this.overTo - end);
     const content = joined(bytes.subarray(0, cut), put, stood, bytes.subarray(end));
+    /** @type {TimesOf} */
     const timesOf = (game, capture) => this.times.upTo(cut, game, capture, put.length);
     await this.renew(content, true, { end: typedTo, typedTo, overTo }, timesOf);
   }
 
+  /** @type {(end: number, reason: Words) => void} */
   closeGame(end, reason) {
     this.game = { ...this.game, end, looks: this.alarms.looks.kept };
     this.keepGame();
@@ -627,15 +794,18 @@ export class Recorder {
     this.reread();
   }
 
-  /** The next game begins with this. It has the same options, unless others are given. The game before it has ended so. */
+  /**
+   * The next game begins with this. It has the same options, unless others are given. The game before it has ended so.
+   * @type {(content: Uint8Array, given?: Given, before?: Game) => Promise<void>}
+   */
   async begin(content, { options: given = this.options, name: wanted = '' } = {}, before = this.game) {
     const pgn = await this.textOf(before);
     const options = { ...given, began: dayOf(new Date()) };
     const name = wanted || this.hears.nextName(before.name);
-    const game = { board: this.board.id, name, options, end: null, looks: this.alarms.looks.carried };
+    const begun = { board: this.board.id, name, options, end: null, looks: this.alarms.looks.carried };
     const chunks = content.length > 0 ? spread(content, this.guard.now()) : [];
     const board = { ...this.board, next: null };
-    game.id = await this.database.beginGame(board, game, chunks, before);
+    const game = { ...begun, id: await this.database.beginGame(board, begun, chunks, before) };
     this.board = { ...board, game: game.id };
     if (!this.isOver) this.times.note(OVER, before.end);
     this.hears.begun({ ...before, pgn, bytes: this.capture.view(), times: this.times.all });
@@ -649,7 +819,10 @@ export class Recorder {
 
   // What is put into the capture.
 
-  /** Adds this by hand. */
+  /**
+   * Adds this by hand.
+   * @type {(put: Uint8Array) => Promise<void>}
+   */
   async add(put) {
     this.capture.append(put, this.guard.now());
     this.attending.tellNow(ADDED, put);
@@ -662,7 +835,10 @@ export class Recorder {
     return countingForfeit(this.game.forfeit || '', this.course.plies.length, this.course.result);
   }
 
-  /** The game is forfeited so from now on, or is played after all. */
+  /**
+   * The game is forfeited so from now on, or is played after all.
+   * @type {(kind: string) => Promise<void>}
+   */
   async forfeits(kind) {
     if (kind === (this.game.forfeit || '')) return;
     this.game = { ...this.game, forfeit: kind };
@@ -674,8 +850,9 @@ export class Recorder {
   /**
    * The capture is this from now on; the old one is kept beside it, if wanted. Up to `typedTo` it is what was typed. `timesOf`
    * makes the times of the new capture of this game. If the game goes on with it, plies were taken off.
+   * @type {(content: Uint8Array, keepsBefore: boolean, changes?: Partial<Game>, timesOf?: TimesOf) => Promise<void>}
    */
-  async renew(content, keepsBefore, changes = {}, timesOf = (game, capture, words) => this.times.next(game, capture, 0, words)) {
+  async renew(content, keepsBefore, changes = {}, timesOf = /** @type {TimesOf} */ ((game, capture, words) => this.times.next(game, capture, 0, words))) {
     await this.times.hold();
     const chunks = spread(content, this.guard.now());
     const { all } = this.times;
@@ -698,7 +875,10 @@ export class Recorder {
     this.reread();
   }
 
-  /** Puts in what a longer capture of this game has beyond what was kept when the game was opened, with its times. */
+  /**
+   * Puts in what a longer capture of this game has beyond what was kept when the game was opened, with its times.
+   * @type {(longer: Uint8Array, lines: string, name: string) => Promise<void>}
+   */
   async takeUp(longer, lines, name) {
     await this.typing.exclusively(async () => {
       const content = withMore(this.capture.view(), this.opened, longer);
@@ -706,6 +886,7 @@ export class Recorder {
       const { opened } = this;
       const more = this.typedTo > opened ? content.length - this.capture.size : 0;
       const isOfLonger = isOf(foundIn(lines), longer);
+      /** @type {TimesOf} */
       const timesOf = (game, capture) =>
         isOfLonger ? this.times.upTo(longer.length, game, capture, 0, lines) : this.times.upTo(opened, game, capture);
       await this.renew(content, false, { typedTo: this.typedTo + more, overTo: this.overTo }, timesOf);
@@ -715,13 +896,16 @@ export class Recorder {
 
   // What is edited.
 
-  /** Takes other options. Names change only tags; how the capture is read changes the game. */
+  /**
+   * Takes other options. Names change only tags; how the capture is read changes the game.
+   * @type {(changes: Partial<Omit<Game, 'options'>> & { options?: Partial<Options> }) => Promise<void>}
+   */
   async edit(changes) {
     const options = { ...this.options, ...changes.options };
     if (options.rotated !== this.options.rotated && this.course.plies.length > 0) {
       throw new Refused(message('options.lies_as_before'));
     }
-    const isRead = ['rotated', 'first', 'recover'].some((name) => options[name] !== this.options[name]);
+    const isRead = /** @type {(keyof Options)[]} */ (['rotated', 'first', 'recover']).some((name) => options[name] !== this.options[name]);
     const isTagged = ofLive(options).join('\n') !== ofLive(this.options).join('\n');
     this.game = { ...this.game, ...changes, options };
     this.keepGame();
@@ -735,7 +919,10 @@ export class Recorder {
     this.hears.changed();
   }
 
-  /** Nothing more is kept while this is done, which ends the recording; unless it fails. */
+  /**
+   * Nothing more is kept while this is done, which ends the recording; unless it fails.
+   * @type {(work: () => Promise<unknown>) => Promise<void>}
+   */
   async keepsNothing(work) {
     await this.typing.exclusively(async () => {
       await this.times.hold();

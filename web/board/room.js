@@ -6,10 +6,18 @@ import { MOST, isLong, needless } from '../kept/limit.js';
 import { message } from '../../live/web/page/message.js';
 import { Again } from './again.js';
 
+/**
+ * @typedef {import('../../live/web/page/message.js').Message} Message
+ * @typedef {import('./recorder.js').Recorder} Recorder
+ */
+
 const LATER = 60.0; // seconds until it is tried again
 
 export class Room {
-  /** `recorder` records the game. */
+  /**
+   * `recorder` records the game.
+   * @param {Recorder} recorder
+   */
   constructor(recorder) {
     this.recorder = recorder;
     this.again = new Again(recorder, LATER);
@@ -19,7 +27,7 @@ export class Room {
   /** Whether the game is over since it could have no more. */
   get isFull() {
     const { isOver, game } = this.recorder;
-    return isOver && game.end >= MOST;
+    return isOver && Number(game.end) >= MOST;
   }
 
   /** A game is over when it has as many bytes as it may have. */
@@ -46,6 +54,7 @@ export class Room {
 
   async tryIt() {
     const { recorder } = this;
+    /** @type {(error: Error) => Message} */
     const told = (error) => message('capture.not_shortened', { name: recorder.name, why: error.message });
     this.isBusy = true;
     await this.again.try(() => recorder.typing.exclusively(() => this.shorten()), told, () => this.look());

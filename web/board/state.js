@@ -3,6 +3,14 @@
 import { lasting } from '../../live/web/page/chess.js';
 import { linked, message } from '../../live/web/page/message.js';
 
+/**
+ * @typedef {import('../game/attended.js').Stands} Stands
+ * @typedef {import('../../live/web/page/message.js').Message} Message
+ * @typedef {import('../../live/web/page/message.js').Words} Words
+ */
+
+/** @typedef {{ squares?: string[], result?: string, hint?: Words, disk?: Words, look?: Words }} Beside */
+
 const MOST_LISTED = 8;
 export const TURNED_ROUND = message('state.turned_round');
 const OTHER_BOARD = message('state.other_board');
@@ -20,6 +28,7 @@ export const Kind = {
   SILENT: message('state.silent'),
   UNPLUGGED: message('state.unplugged'),
 };
+/** @type {{ [kind: string]: Message }} */
 const KINDS = {
   WAITS: Kind.WAITS,
   AGREES: Kind.AGREES,
@@ -31,14 +40,25 @@ const KINDS = {
   SILENT: Kind.SILENT,
   UNPLUGGED: Kind.UNPLUGGED,
 };
+/** @type {{ [hint: string]: Message }} */
 const HINTS = { 'TURNED-ROUND': TURNED_ROUND, 'OTHER-BOARD': OTHER_BOARD };
 const ALARMS = [Kind.WRONG, Kind.NO_START, Kind.SILENT, Kind.UNPLUGGED];
 
-
 /** The state at a moment. `since` is null if it isn't known for how long it has been so. */
 export class State {
+  /**
+   * @param {Message} kind
+   * @param {number | null} since
+   * @param {Beside} beside
+   */
   constructor(kind, since, { squares = [], result = '', hint = '', disk = '', look = '' } = {}) {
-    Object.assign(this, { kind, since, squares, result, hint, disk, look });
+    this.kind = kind;
+    this.since = since;
+    this.squares = squares;
+    this.result = result;
+    this.hint = hint;
+    this.disk = disk;
+    this.look = look;
   }
 
   /** Whether somebody must go to the board, or to the disk. */
@@ -57,11 +77,16 @@ export class State {
     return [kind, result, hint, disk, look, kind === Kind.WRONG ? squares : []];
   }
 
-  /** The state in words: those before its duration, and those after. Beyond a limit, squares are only counted. */
+  /**
+   * The state in words: those before its duration, and those after. Beyond a limit, squares are only counted.
+   * @type {(mostListed?: number) => [front: Words, rest: Words]}
+   */
   parts(mostListed = MOST_LISTED) {
     const { length } = this.squares;
     const words = length <= mostListed ? this.squares.join(' ') : message('state.squares', { count: length });
+    /** @type {Words} */
     let front = this.kind;
+    /** @type {Words} */
     let rest = '';
     if (this.kind === Kind.RESULT) front = linked('space', [front, this.result]);
     else if (words) rest = linked(this.kind === Kind.IN_HAND ? 'space' : 'colon', ['', words]);
@@ -80,18 +105,23 @@ export class State {
     return [this.disk ? linked('comma', [this.disk, front]) : front, rest];
   }
 
-  /** The state in a line. */
+  /**
+   * The state in a line.
+   * @type {(now: number, mostListed?: number) => Words}
+   */
   text(now, mostListed = MOST_LISTED) {
     const [front, rest] = this.parts(mostListed);
-    const isLong = this.since !== null && now >= this.since + 1;
+    const { since } = this;
+    const isLong = since !== null && now >= since + 1;
     const lasts = ALARMS.includes(this.kind) && isLong;
-    return linked('nothing', [lasts ? message('state.since', { state: front, time: lasting(now - this.since) }) : front, rest]);
+    return linked('nothing', [lasts ? message('state.since', { state: front, time: lasting(now - since) }) : front, rest]);
   }
 }
 
 /**
  * The state that the program has said at this time. `differs` are the squares that its report has named last; `beside` has the
- * game's result, and what the page itself says: { result, disk, look }.
+ * game's result, and what the page itself says.
+ * @type {(said: Stands, at: number, differs: string[], beside: { result: string, disk: Words, look: Words }) => State}
  */
 export function stateOf({ kind, lasted, squares, hint }, at, differs, { result, disk, look }) {
   const since = lasted === null ? null : at - lasted / 1000;

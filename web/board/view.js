@@ -7,13 +7,29 @@ import { NO_TIME } from '../game/report.js';
 import { linked, message } from '../../live/web/page/message.js';
 import { DISK_FULL, Kind, State, TURNED_ROUND } from './state.js';
 
-/** The clocks as they run; if there is no clock, each player's time after his last move. */
+/**
+ * @typedef {import('../game/course.js').Course} Course
+ * @typedef {import('../game/options.js').Options} Options
+ * @typedef {import('../../live/web/page/message.js').Message} Message
+ * @typedef {import('../../live/web/page/message.js').Words} Words
+ * @typedef {import('../../live/web/page/tile.js').Board} View
+ */
+
+/** @typedef {Pick<View, 'state' | 'since' | 'alarm' | 'differing'> & { mend: Words }} Standing */
+
+/**
+ * The clocks as they run; if there is no clock, each player's time after his last move.
+ * @type {(course: Course) => string[]}
+ */
 function clocks(course) {
   const { clock } = course;
   return clock && clock.white !== NO_TIME ? [clock.white, clock.black] : clocksOf(course.plies);
 }
 
-/** A state's words without its duration, and when it began. */
+/**
+ * A state's words without its duration, and when it began.
+ * @type {(state: State, now: number) => Standing}
+ */
 export function standing(state, now) {
   const { kind, since, isAlarm, differing } = state;
   const words = new State(kind, now, state).text(now);
@@ -21,33 +37,46 @@ export function standing(state, now) {
   return { state: String(words), since: isWaiting ? null : since, alarm: isAlarm, differing, mend: mendOf(state) };
 }
 
+/** @type {{ [kind: string]: Message }} */
 const MENDS = {
-  [Kind.WRONG]: message('mend.wrong'),
-  [Kind.NO_START]: message('mend.no_start'),
-  [Kind.SILENT]: message('mend.silent'),
-  [Kind.UNPLUGGED]: message('mend.unplugged'),
+  [String(Kind.WRONG)]: message('mend.wrong'),
+  [String(Kind.NO_START)]: message('mend.no_start'),
+  [String(Kind.SILENT)]: message('mend.silent'),
+  [String(Kind.UNPLUGGED)]: message('mend.unplugged'),
 };
 
-/** What somebody may do about a state; empty if it isn't an alarm. */
+/**
+ * What somebody may do about a state; empty if it isn't an alarm.
+ * @type {(state: { kind: Words, disk: Words }) => Words}
+ */
 export function mendOf({ kind, disk }) {
   if (disk) return disk === DISK_FULL ? message('mend.disk_full') : message('mend.not_written');
-  return MENDS[kind] || '';
+  return MENDS[String(kind)] || '';
 }
 
-/** What somebody may do about a game that is over; empty if a mate or stalemate on the board has ended it. */
+/**
+ * What somebody may do about a game that is over; empty if a mate or stalemate on the board has ended it.
+ * @type {(course: Pick<Course, 'result' | 'isEndedByMove'>) => Words}
+ */
 export function mendOfOver({ result, isEndedByMove }) {
   const goesOn = message('mend.goes_on');
   if (result === '*') return linked('space', [message('mend.no_result'), goesOn]);
   return isEndedByMove ? '' : goesOn;
 }
 
-/** A game that isn't recorded now: words alone, since nobody knows when that began. */
+/**
+ * A game that isn't recorded now: words alone, since nobody knows when that began.
+ * @type {(words: Words, looks?: Words, mend?: Words) => Standing}
+ */
 export function resting(words, looks = '', mend = '') {
   const state = String(linked('semicolon', [...(looks ? [looks] : []), words]));
   return { state, since: null, alarm: Boolean(looks), differing: [], mend };
 }
 
-/** A board's number, its game and its state, as a card shows them. Each move is shown with its position. */
+/**
+ * A board's number, its game and its state, as a card shows them. Each move is shown with its position.
+ * @type {(number: number, game: { options: Options, name: string, forfeit?: string }, course: Course, stands: Standing) => View & { name: string }}
+ */
 export function viewOf(number, { options, name, forfeit = '' }, course, stands) {
   const plies = course.plies.slice(0, Math.max(0, course.fens.length - 1));
   return {

@@ -2,8 +2,17 @@
 
 import { Line } from './line.js';
 
+/**
+ * @typedef {import('../guard.js').Guard} Guard
+ * @typedef {import('./line.js').Hears} Hears
+ */
+
 export class Connection {
-  /** `hears` gets heard(bytes) with what comes, and lost() once when the line goes away. */
+  /**
+   * @param {Guard} guard
+   * @param {SerialPort} port
+   * @param {Hears} hears
+   */
   constructor(guard, port, hears) {
     this.guard = guard;
     this.port = port;
@@ -22,6 +31,7 @@ export class Connection {
     if (!this.closed) this.isOpen = true;
   }
 
+  /** @type {(bytes: Uint8Array) => void} */
   heard(bytes) {
     if (!this.closed) this.hears.heard(bytes);
   }
@@ -32,6 +42,7 @@ export class Connection {
     this.hears.lost();
   }
 
+  /** @type {(bytes: Uint8Array) => void} */
   write(bytes) {
     this.line.write(bytes);
   }

@@ -1,5 +1,7 @@
 // One serial port, by Web Serial: opened, read, written to.
 
+/** @typedef {{ heard: (bytes: Uint8Array) => void, lost: () => void }} Hears `lost` is called once, when the line goes away */
+
 const BAUD_RATE = 9600;
 const ROOM = 4096; // bytes that the browser keeps until they are read
 
@@ -7,12 +9,17 @@ const ROOM = 4096; // bytes that the browser keeps until they are read
 export class Taken extends Error {}
 
 export class Line {
-  /** `heard(bytes)` is called with what comes, and `lost()` once when the line goes away. */
+  /**
+   * @param {SerialPort} port
+   * @param {Hears} hears
+   */
   constructor(port, hears) {
     this.port = port;
     this.hears = hears;
     this.closed = false;
+    /** @type {ReadableStreamDefaultReader<Uint8Array> | null} */
     this.reader = null;
+    /** @type {WritableStreamDefaultWriter<Uint8Array> | null} */
     this.writer = null;
   }
 
@@ -54,7 +61,10 @@ export class Line {
     }
   }
 
-  /** Sends this, if the line is there. */
+  /**
+   * Sends this, if the line is there.
+   * @type {(bytes: Uint8Array) => void}
+   */
   write(bytes) {
     if (this.writer && !this.closed) this.writer.write(bytes).catch(() => {});
   }

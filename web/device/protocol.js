@@ -7,7 +7,10 @@ export const LETTERS = '.PRNBKQprnbkq*'; // by piece code; `*` is one of the cod
 /** The squares by number: a8 is 0, h8 is 7, h1 is 63. */
 export const SQUARES = [...'87654321'].flatMap((rank) => [...'abcdefgh'].map((file) => file + rank));
 
-/** The dumps in bytes that the program has made: in those each 86 begins one, unless too few bytes come behind it. */
+/**
+ * The dumps in bytes that the program has made: in those each 86 begins one, unless too few bytes come behind it.
+ * @type {(made: Uint8Array) => Uint8Array[]}
+ */
 export function dumpsIn(made) {
   const starts = [...made.keys()].filter((at) => made[at] === DUMP_ID && at + DUMP_SIZE <= made.length);
   return starts.map((at) => made.slice(at, at + DUMP_SIZE));
@@ -15,6 +18,7 @@ export function dumpsIn(made) {
 
 /**
  * The picture of a FEN, of its first field, or of a line of `pictures`. Throws RangeError if the text is none of these.
+ * @type {(text: string) => number[]}
  */
 export function pictureOfPlacement(text) {
   const codes = [];
@@ -36,17 +40,26 @@ export function pictureOfPlacement(text) {
   return codes;
 }
 
-/** The squares on which two pictures differ, in the order a8, b8, .. h1. */
+/**
+ * The squares on which two pictures differ, in the order a8, b8, .. h1.
+ * @type {(one: number[], other: number[]) => string[]}
+ */
 export function differing(one, other) {
   return SQUARES.filter((square, at) => one[at] !== other[at]);
 }
 
-/** Whether two pictures, or two frames, are the same. */
+/**
+ * Whether two pictures, or two frames, are the same.
+ * @type {(one: number[] | Uint8Array, other: number[] | Uint8Array) => boolean}
+ */
 export function same(one, other) {
   return one.length === other.length && one.every((code, at) => code === other[at]);
 }
 
-/** The parts, one after the other. */
+/**
+ * The parts, one after the other.
+ * @type {(...parts: Uint8Array[]) => Uint8Array}
+ */
 export function joined(...parts) {
   const whole = new Uint8Array(parts.reduce((length, part) => length + part.length, 0));
   let at = 0;

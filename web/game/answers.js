@@ -5,12 +5,24 @@ import { ProgramError, endedWith } from './program.js';
 import { Refused, WAYS, shortened } from './typed.js';
 import { linked, message, plural } from '../../live/web/page/message.js';
 
+/**
+ * @typedef {import('../../live/web/page/message.js').Message} Message
+ * @typedef {import('../../live/web/page/message.js').Words} Words
+ * @typedef {import('./program.js').Outcome} Outcome
+ */
+
+/**
+ * What a command has said of a line: with the bytes to add, if there are any.
+ * @typedef {{ kind: string, words: string[], put: Uint8Array | null }} Said
+ */
+
 const TOO_LONG = 'input: too long';
 const NUMBERED = /^[0-9]+\s+(?:[A-Za-z*]|[01½][-–—−:/.]|[+-][+-])/; // a line that begins as in a round
 const OK_NUMBERED = /^ok\s+([0-9]+)$/i;
 const NUMBER = /^[0-9]+\.+/; // of a move
 
 const NOTHING_ADDED = message('typed.nothing_added');
+/** @type {{ [kind: string]: Message }} */
 const SENTENCES = {
   mixed: message('typed.mixed'),
   ended: message('typed.ended_on_the_board', { nothing_added: NOTHING_ADDED }),
@@ -19,8 +31,8 @@ const SENTENCES = {
 };
 
 /**
- * The answer of a command: { kind, words, put } with what a sentence needs, and the bytes, if there are any. Throws
- * ProgramError if it gave none.
+ * The answer of a command. Throws ProgramError if it gave none.
+ * @type {(command: string, outcome: Outcome) => Said}
  */
 export function readAnswer(command, { status, errors, output }) {
   const said = new TextDecoder().decode(errors).trim();
@@ -32,23 +44,33 @@ export function readAnswer(command, { status, errors, output }) {
   throw new ProgramError(linked('colon', [endedWith(command, status), said]));
 }
 
-/** What is added, in words; of a result also what it ends, a game with these plies, as `14... Qd7`. */
+/**
+ * What is added, in words; of a result also what it ends, a game with these plies, as `14... Qd7`.
+ * @type {(said: Said, line: string, plies: string[]) => Words}
+ */
 export function meaning({ kind, words }, line, plies) {
   if (kind !== 'result') return line.trim().split(/\s+/u).join(' ');
   return message('result.added', { result: words[0], where: whatEnds(plies) });
 }
 
-/** Where a result ends a game with these plies. */
+/**
+ * Where a result ends a game with these plies.
+ * @type {(plies: string[]) => Message}
+ */
 function whatEnds(plies) {
   if (plies.length === 0) return message('result.before_the_first_move');
   return plural('result.after', plies.length, { last: plies[plies.length - 1] });
 }
 
-/** Why a line adds nothing. `place` is what `placeOf` says. */
+/**
+ * Why a line adds nothing. `place` is what `placeOf` says.
+ * @type {(said: Pick<Said, 'kind' | 'words'>, line: string, place: Words) => Refused}
+ */
 export function refuse(said, line, place) {
   return new Refused(whyNothing(said, line, place));
 }
 
+/** @type {(said: Pick<Said, 'kind' | 'words'>, line: string, place: Words) => Message} */
 function whyNothing({ kind, words }, line, place) {
   if (NUMBERED.test(line.trim()) && ['unknown', 'mixed'].includes(kind)) return message('typed.number_in_front', { ways: WAYS });
   const [, number] = OK_NUMBERED.exec(line.trim()) || [];
@@ -56,18 +78,31 @@ function whyNothing({ kind, words }, line, place) {
   if (Object.hasOwn(SENTENCES, kind)) return SENTENCES[kind];
   if (kind === 'illegal') return message('typed.illegal', { word: words[1], place, nothing_added: NOTHING_ADDED });
   if (kind === 'misnumbered') {
-    return message('typed.misnumbered', { number: NUMBER.exec(words[1])[0], place, nothing_added: NOTHING_ADDED });
+    return message('typed.misnumbered', { number: numberIn(words[1]), place, nothing_added: NOTHING_ADDED });
   }
   if (kind === 'meant') return message('typed.meant', { written_so: writtenSo(words[1], words[2]), nothing_added: NOTHING_ADDED });
   if (kind === 'unknown') return message('typed.neither', { word: shortened(words[1]), ways: WAYS });
   return message('typed.no_move', { line: shortened(line), ways: WAYS });
 }
 
-/** The message that a move is to be written otherwise. */
+/**
+ * The number before a move, with its stops.
+ * @type {(word: string) => string}
+ */
+function numberIn(word) {
+  const [number] = NUMBER.exec(word) || [''];
+  return number;
+}
+
+/**
+ * The message that a move is to be written otherwise.
+ * @type {(word: string, meant: string) => Message}
+ */
 function writtenSo(word, meant) {
   return message('spelling.write', { word, meant, how: howWritten(word, meant) });
 }
 
+/** @type {(word: string, meant: string) => Message} */
 function howWritten(word, meant) {
   if (word.replace(/[,;]+$/, '') === meant) return message('spelling.no_commas');
   if (meant.startsWith('O-O')) return message('spelling.castling');
@@ -78,6 +113,7 @@ function howWritten(word, meant) {
 /**
  * Where in a game with these moves a line goes wrong; empty if that isn't said. Before a move that isn't legal, who is to move;
  * before one with a wrong number, the right one.
+ * @type {(said: Said, fen: string | null, played: string[], line: string) => Words}
  */
 export function placeOf({ kind, words }, fen, played, line) {
   if (!['illegal', 'misnumbered'].includes(kind)) return '';
@@ -89,13 +125,19 @@ export function placeOf({ kind, words }, fen, played, line) {
   return sans.length === 0 ? place : message('typed.after_a_move', { place, last: `${numberOf(half - 1)} ${sans[sans.length - 1]}` });
 }
 
-/** The half-move with which a game from this start begins: twice its number, and one more for Black's. */
+/**
+ * The half-move with which a game from this start begins: twice its number, and one more for Black's.
+ * @type {(fen: string | null) => number}
+ */
 function firstHalf(fen) {
   const fields = (fen || '').split(' ').filter((field) => field);
   return 2 * (Number(fields[5]) || 1) + (fields[1] === 'b' ? 1 : 0);
 }
 
-/** The number of a half-move, as `14.` or `14...`. */
+/**
+ * The number of a half-move, as `14.` or `14...`.
+ * @type {(half: number) => string}
+ */
 function numberOf(half) {
   return `${Math.floor(half / 2)}${half % 2 === 1 ? '...' : '.'}`;
 }

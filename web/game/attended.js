@@ -1,6 +1,48 @@
 // What `live` is told of a board that it attends, and what it answers, as bytes. Section 6 of docs/FORMATS.md has the lines.
 // Pure.
 
+/**
+ * What is told of an event, or how much of it; null for a word alone.
+ * @typedef {Uint8Array | number | null} Given
+ */
+
+/**
+ * How the board stands; `lasted` in milliseconds, null if that isn't known.
+ * @typedef {{ kind: string, lasted: number | null, squares: string[], hint: string }} Stands
+ */
+
+/**
+ * What somebody must look at: `plies` is how many the game has there, or the number of a suspicion; `moves` is 0 where none are counted.
+ * @typedef {{ where: string, plies: number, why: string, moves: number }} Raised
+ */
+
+/**
+ * How a game is over. So many bytes of the capture are the game's; if that isn't sure, somebody must look.
+ * @typedef {{ why: string, result: string, bytes: number, isSure: boolean }} Over
+ */
+
+/**
+ * What is said of a game's end: how it is `over`; how many moves were `played` since; how many bytes of the capture belong to the
+ * set-up, if the game `begins` only then. What isn't said is null.
+ * @typedef {{ over: Over | null, played: number | null, begins: number | null }} End
+ */
+
+/**
+ * An answer. `game` is the PGN, as bytes, if it was asked for.
+ * @typedef {object} Answer
+ * @property {Uint8Array} kept
+ * @property {Uint8Array | null} game
+ * @property {string[]} report
+ * @property {Raised[]} looks
+ * @property {string} handling
+ * @property {string} other
+ * @property {string} number
+ * @property {string} asks
+ * @property {End | null} end
+ * @property {Stands | null} state
+ * @property {number | null} due
+ */
+
 const NEWLINE = 0x0a;
 const ALARMED = ['TURNED-ROUND', 'OTHER-BOARD'];
 export const [KEEP, HOLD, OTHER] = ['keep', 'hold', 'other'];
@@ -15,7 +57,10 @@ const RAISED = new RegExp(`^(?:(${SUSPECT}) ([0-9]+)|(${AT}|${AFTER}|${SINCE}) (
 /** A line that stands in no answer. */
 export class NoAnswer extends Error {}
 
-/** One thing that happens: when, in milliseconds since the call began; the word; its number, or the bytes behind it. */
+/**
+ * One thing that happens: when, in milliseconds since the call began; the word; its number, or the bytes behind it.
+ * @type {(at: number, word: string, given?: Given) => Uint8Array}
+ */
 export function entryOf(at, word, given = null) {
   const bytes = given instanceof Uint8Array ? given : new Uint8Array(0);
   const number = given === null ? '' : ` ${given instanceof Uint8Array ? given.length : given}`;
@@ -26,23 +71,30 @@ export function entryOf(at, word, given = null) {
   return entry;
 }
 
-/** The answer before any line of it is read. `game` is the PGN, as bytes, if it was asked for. */
+/**
+ * The answer before any line of it is read. `game` is the PGN, as bytes, if it was asked for.
+ * @type {() => Answer}
+ */
 function noAnswer() {
   const none = { handling: '', other: '', number: '', asks: '', end: null, state: null, due: null };
   return { kept: new Uint8Array(0), game: null, report: [], looks: [], ...none };
 }
 
+/** @type {(word: string) => number | null} */
 const spanOf = (word) => (word === '-' ? null : Number(word));
 
-/** How the board stands: { kind, lasted, squares, hint }; `lasted` in milliseconds, null if that isn't known. */
+/**
+ * How the board stands.
+ * @type {(words: string[]) => Stands}
+ */
 function stateOf([kind, lasted, ...rest]) {
-  const hint = ALARMED.includes(rest[rest.length - 1]) ? rest.pop() : '';
+  const hint = ALARMED.includes(rest[rest.length - 1]) ? String(rest.pop()) : '';
   return { kind, lasted: spanOf(lasted), squares: rest, hint };
 }
 
 /**
- * What somebody must look at, as `at 27 LATE`, `since 24 STOPPED 3` or `SUSPECT 3` says it: { where, plies, why, moves }. `plies` is
- * how many the game has there, or the number of a suspicion; `moves` is 0 where none are counted.
+ * What somebody must look at, as `at 27 LATE`, `since 24 STOPPED 3` or `SUSPECT 3` says it.
+ * @type {(text: string) => Raised}
  */
 function readLook(text) {
   const [, suspect, number, where, plies, why, moves] = RAISED.exec(text) || [];
@@ -52,8 +104,8 @@ function readLook(text) {
 }
 
 /**
- * How a game is over, as `STOOD 0-1 335 sure` says it: { why, result, bytes, isSure }. So many bytes of the capture are the game's; if
- * that isn't sure, somebody must look.
+ * How a game is over, as `STOOD 0-1 335 sure` says it.
+ * @type {(text: string) => Over}
  */
 function readOver(text) {
   const [, why, result, bytes, sure] = OVER.exec(text) || [];
@@ -61,22 +113,23 @@ function readOver(text) {
   return { why, result, bytes: Number(bytes), isSure: sure === 'sure' };
 }
 
-/**
- * What is said of a game's end: how it is `over`; how many moves were `played` since; how many bytes of the capture belong to the
- * set-up, if the game `begins` only then. What isn't said is null.
- */
+/** @type {() => End} */
 const noEnd = () => ({ over: null, played: null, begins: null });
 
 /** Takes what `live` writes, and gives its answers. */
 export class Answers {
   constructor() {
+    /** @type {string[]} */
     this.line = []; // parts of the line that has begun
     this.filled = new Uint8Array(0); // what `kept` or `game` has told
     this.lacks = 0; // bytes of it that are still to come
     this.answer = noAnswer();
   }
 
-  /** What it has written. Returns the answers that are whole now. */
+  /**
+   * What it has written. Returns the answers that are whole now.
+   * @type {(bytes: Uint8Array) => Answer[]}
+   */
   take(bytes) {
     const whole = [];
     let at = 0;
@@ -102,7 +155,10 @@ export class Answers {
     return whole;
   }
 
-  /** Takes a line. Returns whether it ends an answer. */
+  /**
+   * Takes a line. Returns whether it ends an answer.
+   * @type {(line: string) => boolean}
+   */
   takeLine(line) {
     const { answer } = this;
     const [word, ...rest] = line.split(' ');
@@ -111,7 +167,8 @@ export class Answers {
     } else if (word === KEPT || word === 'game') {
       this.lacks = Number(rest[0]);
       this.filled = new Uint8Array(this.lacks);
-      answer[word] = this.filled;
+      if (word === KEPT) answer.kept = this.filled;
+      else answer.game = this.filled;
     } else if (word === KEEP || word === HOLD || word === OTHER) {
       answer.handling = word;
       answer.other = rest.join(' ');

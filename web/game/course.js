@@ -1,18 +1,32 @@
 // The course of a game, as the program reports it. Pure: lines are passed in.
 
+/**
+ * @typedef {import('./report.js').Change} Change
+ * @typedef {import('./report.js').Clock} Clock
+ * @typedef {import('./report.js').Line} Line
+ * @typedef {import('./report.js').Move} Move
+ */
+
 /** The moves of a game with their positions, its result, and what the board shows. */
 export class Course {
   constructor() {
+    /** @type {Move[]} */
     this.plies = [];
+    /** @type {number[]} */
     this.settledAt = []; // the offset of the last line about each ply
+    /** @type {string[]} */
     this.fens = []; // of the start and after each ply, as far as they are reported
     this.result = '*';
     this.resultAt = -1; // the offset of the last line about it
     this.placement = ''; // what the board shows
+    /** @type {Clock | null} */
     this.clock = null; // what the clocks show, as far as it is reported
   }
 
-  /** The next line. */
+  /**
+   * The next line.
+   * @type {(line: Line) => void}
+   */
   take({ offset, event }) {
     if (event.kind === 'picture') {
       this.placement = event.placement;
@@ -37,6 +51,7 @@ export class Course {
     return this.result !== '*' && this.plies.length > 0 && this.resultAt === this.settledAt[this.plies.length - 1];
   }
 
+  /** @type {(change: Change, offset: number) => void} */
   takeChange(change, offset) {
     if (change.kind === 'result') {
       this.result = change.outcome;
@@ -53,8 +68,12 @@ export class Course {
   }
 }
 
-/** White's clock and Black's, each after its last move. */
+/**
+ * White's clock and Black's, each after its last move.
+ * @type {(plies: Move[]) => string[]}
+ */
 export function clocksOf(plies) {
+  /** @type {(isBlack: boolean) => Move | undefined} */
   const last = (isBlack) => [...plies].reverse().find((ply) => ply.clock && ply.number.endsWith('...') === isBlack);
-  return [false, true].map((isBlack) => (last(isBlack) ? last(isBlack).clock : ''));
+  return [false, true].map((isBlack) => last(isBlack)?.clock || '');
 }

@@ -8,10 +8,12 @@ const LONGEST_NAME = 100; // characters of a tag's value
 
 // What passports write for the letters that aren't a basic letter with a mark (the tables for Latin letters of ICAO Doc
 // 9303), and for those marked ones that they write as two letters.
+/** @type {{ [letter: string]: string }} */
 const WRITTEN = {
   ä: 'ae', å: 'aa', æ: 'ae', ð: 'd', đ: 'd', ħ: 'h', ı: 'i', ĳ: 'ij', ĸ: 'q', ł: 'l', ŀ: 'l', ŉ: 'n', ŋ: 'n', ö: 'oe', ø: 'oe',
   œ: 'oe', ß: 'ss', þ: 'th', ŧ: 't', ü: 'ue',
 };
+/** @type {{ [letter: string]: string }} */
 const SIGNS = {
   '‘': "'", '’': "'", '‚': "'", 'ʼ': "'", '′': "'", '´': "'", '“': '"', '”': '"', '„': '"', '«': '"', '»': '"', '″': '"',
   '‐': '-', '‑': '-', '‒': '-', '–': '-', '—': '-', '−': '-', '×': 'x', '·': '.',
@@ -34,6 +36,7 @@ export class Unreadable extends Complaint {}
 /**
  * A name in printable ASCII: `Jörg Müller` becomes `Joerg Mueller`, `José` becomes `Jose`; an ASCII name stays as it
  * is.
+ * @type {(text: string) => string}
  */
 export function asciiName(text) {
   const letters = [...text.normalize('NFC')];
@@ -44,9 +47,13 @@ export function asciiName(text) {
   return name;
 }
 
+/** @type {(letter: string) => boolean} */
 const isUpper = (letter) => /^[\p{Lu}\p{Lt}]$/u.test(letter);
 
-/** What is written for one character, or null if nothing is known for it. */
+/**
+ * What is written for one character, or null if nothing is known for it.
+ * @type {(letter: string, before: string, after: string) => string | null}
+ */
 function written(letter, before, after) {
   if (letter >= ' ' && letter <= '~' && letter.length === 1) return letter;
   if (letter === '\t' || /^\p{Zs}$/u.test(letter)) return ' ';
@@ -64,21 +71,30 @@ function written(letter, before, after) {
   return /^[ -~]*$/.test(spelt) ? spelt : null;
 }
 
-/** A date as PGN has it. `31.05.2024`, `2024-05-31`, `2024/5/31` are `2024.05.31`; `2024` is `2024.??.??`. */
+/**
+ * A date as PGN has it. `31.05.2024`, `2024-05-31`, `2024/5/31` are `2024.05.31`; `2024` is `2024.??.??`.
+ * @type {(text: string) => string}
+ */
 export function pgnDate(text) {
   for (const pattern of PARTS) {
     const match = pattern.exec(text.trim());
-    if (match) return dateOf(text, match.groups);
+    if (match && match.groups) return dateOf(text, match.groups);
   }
   throw new Unreadable(message('date.unreadable', { text: `'${printable(text)}'` }));
 }
 
-/** The day of a Date, as PGN has it. */
+/**
+ * The day of a Date, as PGN has it.
+ * @type {(date: Date) => string}
+ */
 export function dayOf(date) {
   return [date.getFullYear(), date.getMonth() + 1, date.getDate()].map((part) => String(part).padStart(2, '0')).join('.');
 }
 
-/** The date with these parts, if there is such a day. */
+/**
+ * The date with these parts, if there is such a day.
+ * @type {(text: string, parts: { [part: string]: string }) => string}
+ */
 function dateOf(text, { year, month = '?', day = '?' }) {
   const parts = [year, padded(month), padded(day)];
   // A leap year and a long month replace unknown ones.
@@ -90,7 +106,10 @@ function dateOf(text, { year, month = '?', day = '?' }) {
   return parts.join('.');
 }
 
-/** A month or a day, as two characters. */
+/**
+ * A month or a day, as two characters.
+ * @type {(part: string) => string}
+ */
 function padded(part) {
   return part === '?' ? '??' : part.padStart(2, '0');
 }

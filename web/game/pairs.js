@@ -4,6 +4,15 @@
 
 import { Complaint, message } from '../../live/web/page/message.js';
 
+/** @typedef {{ White: string, Black: string }} Pair the players of a board */
+
+/**
+ * The places of the columns that headings name. If no column is the board's, the first one may be, or none: -1.
+ * @typedef {{ count: number, board: number, White: number, Black: number }} Heading
+ * @typedef {{ number: number | null, names: string[] }} Parts
+ * @typedef {Parts & { at: number, line: string }} Read
+ */
+
 const MOST_SHOWN = 40; // letters of a line that a message quotes
 const TITLE = /^(?:W?(?:GM|IM|FM|CM)|w?[gmfc])$/; // a cell with a title
 const TITLED = /^W?(?:GM|IM|FM|CM)\s+(?=\S+[\s,])/; // a title before a name
@@ -15,6 +24,7 @@ const COUNTED = /^[([]?(?:[0-9]+(?:[.,][0-9]+)?[½¼¾]?|[½¼¾])[)\]]?$/; // p
 const RESULT = /^(?:[([]?[0-9½.,]*[)\]]?\s*[-–—:]\s*[([]?[0-9½.,]*[)\]]?|\*|\.+|vs?\.?|1\/2\s*[-–—:]\s*1\/2|[+-]\s*[-–—:]\s*[+-])$/;
 const BETWEEN = /\s+(?:[-–—:]|vs\.?)\s+/iu; // two names
 const BYES = ['bye', 'spielfrei', 'notpaired', 'nichtausgelost', 'exempt', 'descansa', 'riposo'];
+/** @type {{ [column: string]: string[] }} */
 const COLUMNS = {
   board: ['board', 'boardno', 'bo', 'bd', 'brd', 'table', 'tisch', 'brett', 'br', 'tavolo', 'tav', 'tablero', 'mesa', 'echiquier', 'ech'],
   White: ['white', 'weiss', 'blancs', 'blanc', 'blancas', 'blanco', 'bianco', 'bianchi'],
@@ -26,24 +36,33 @@ const COLUMNS = {
 /** Pairs that can't be read. The message says where, why, and what to type. */
 export class NoPair extends Complaint {}
 
-/** Only letters and digits, in lower case and without marks: `Weiß` becomes `weiss`. */
+/**
+ * Only letters and digits, in lower case and without marks: `Weiß` becomes `weiss`.
+ * @type {(text: string) => string}
+ */
 function normal(text) {
   return text.replaceAll('ß', 'ss').normalize('NFKD').toLowerCase().replace(/[^\p{L}\p{N}]/gu, '');
 }
 
-/** The cells of a line at this separator; one in quotes may have it inside. */
+/**
+ * The cells of a line at this separator; one in quotes may have it inside.
+ * @type {(line: string, separator: string) => string[]}
+ */
 function divided(line, separator) {
   const cells = [''];
   let isQuoted = false;
-  for (const [at, letter] of [...line].entries()) {
-    if (letter === '"' && (isQuoted || !cells.at(-1).trim())) isQuoted = !isQuoted;
+  for (const letter of line) {
+    if (letter === '"' && (isQuoted || !cells[cells.length - 1].trim())) isQuoted = !isQuoted;
     else if (letter === separator && !isQuoted) cells.push('');
     else cells[cells.length - 1] += letter;
   }
   return cells.map((cell) => cell.trim());
 }
 
-/** The cells of a line: at tabs, semicolons, wide gaps or commas, and where two names have a dash between them. */
+/**
+ * The cells of a line: at tabs, semicolons, wide gaps or commas, and where two names have a dash between them.
+ * @type {(line: string) => { cells: string[], hasCommas: boolean }}
+ */
 function cellsOf(line) {
   if (line.includes('\t')) return { cells: divided(line, '\t'), hasCommas: false };
   if (line.includes(';')) return { cells: divided(line, ';'), hasCommas: false };
@@ -52,13 +71,19 @@ function cellsOf(line) {
   return { cells: divided(line, ','), hasCommas: line.includes(',') };
 }
 
-/** A name without what may stand around it: points, a title, a rating. */
+/**
+ * A name without what may stand around it: points, a title, a rating.
+ * @type {(cell: string) => string}
+ */
 function nameIn(cell) {
   const name = cell.replace(/^[([][0-9½.,]+[)\]]\s*/, '').replace(/\s*[([][0-9½.,]+[)\]]$/, '').replace(/\s+[0-9]{3,4}$/, '');
   return name.replace(TITLED, '').trim();
 }
 
-/** The names of a line, and the board's number before them, if there is one. */
+/**
+ * The names of a line, and the board's number before them, if there is one.
+ * @type {(cells: string[]) => Parts}
+ */
 function partsOf(cells) {
   const filled = cells.filter((cell) => cell);
   const [, alone] = NUMBER.exec(filled[0] || '') || [];
@@ -66,18 +91,20 @@ function partsOf(cells) {
   const others = alone ? filled.slice(1) : [...(before ? [rest] : filled.slice(0, 1)), ...filled.slice(1)];
   const texts = others.filter((cell) => !COUNTED.test(cell) && !RESULT.test(cell) && !TITLE.test(cell));
   const named = texts.length > 2 ? texts.filter((cell) => !/^[A-Z]{3}$/.test(cell)) : texts; // federations
-  const isName = (name) => name && !COUNTED.test(name) && !RESULT.test(name);
+  /** @type {(name: string) => boolean} */
+  const isName = (name) => name !== '' && !COUNTED.test(name) && !RESULT.test(name);
   const names = named.flatMap((cell) => cell.split(BETWEEN)).map(nameIn).filter(isName);
   const number = alone || before;
   return { number: number ? Number(number) : null, names };
 }
 
 /**
- * The places of the columns that headings name: { count, board, White, Black }; null if these are no headings. If no column is the
- * board's, the first one may be.
+ * The places of the columns that headings name; null if these are no headings.
+ * @type {(cells: string[]) => Heading | null}
  */
 function headingOf(cells) {
   const words = cells.map(normal);
+  /** @type {(column: string) => number} */
   const place = (column) => words.findIndex((word) => COLUMNS[column].includes(word));
   const named = words.flatMap((word, at) => (COLUMNS.name.includes(word) ? [at] : []));
   const [white, black] = place('White') < 0 && named.length === 2 ? named : [place('White'), place('Black')];
@@ -86,17 +113,24 @@ function headingOf(cells) {
   return { count: cells.length, board, White: white, Black: black };
 }
 
-/** The same as `partsOf`, by the places that headings have given. */
+/**
+ * The same as `partsOf`, by the places that headings have given.
+ * @type {(heading: Heading, cells: string[]) => Parts}
+ */
 function partsBy(heading, cells) {
   const [, number] = NUMBER.exec(cells[heading.board] || '') || [];
   const names = [cells[heading.White], cells[heading.Black]].map(nameIn).filter((name) => A_NAME.test(name));
   return { number: number ? Number(number) : null, names };
 }
 
+/** @type {(line: string) => string} */
 const quoted = (line) => (line.length > MOST_SHOWN ? `${line.slice(0, MOST_SHOWN)}..` : line);
 const HOW = message('paste.how');
 
-/** What a line has: { at, line, number, names }; null if it has a bye, or headings again. Throws NoPair if it has no pair. */
+/**
+ * What a line has; null if it has a bye, or headings again. Throws NoPair if it has no pair.
+ * @type {(typed: { line: string, at: number }, heading: Heading | null) => Read | null}
+ */
 function readLine({ line, at }, heading) {
   const { cells, hasCommas } = cellsOf(line);
   if (cells.some((cell) => BYES.includes(normal(cell))) || headingOf(cells)) return null;
@@ -118,14 +152,16 @@ function readLine({ line, at }, heading) {
 }
 
 /**
- * The players of each board: `pairs`, a map from its number to { White, Black }; and `passed`, the lines that say nothing of these
+ * The players of each board: `pairs`, a map from its number; and `passed`, the lines that say nothing of these
  * boards. Without numbers the lines are those of `boards` in their order. Throws NoPair.
+ * @type {(text: string, boards: number[]) => { pairs: Map<number, Pair>, passed: string[] }}
  */
 export function pairsOf(text, boards) {
   const lines = text.split(/\r\n|\r|\n/u).map((line, at) => ({ line, at: at + 1 })).filter(({ line }) => line.trim());
   const head = lines.findIndex(({ line }) => headingOf(cellsOf(line).cells) !== null);
   const heading = head < 0 ? null : headingOf(cellsOf(lines[head].line).cells);
   const passed = lines.slice(0, Math.max(0, head)).map(({ line }) => line.trim());
+  /** @type {Read[]} */
   const read = [];
   for (const one of lines.slice(head + 1)) {
     const found = readLine(one, heading);
@@ -133,11 +169,12 @@ export function pairsOf(text, boards) {
     else passed.push(one.line.trim());
   }
   const areNumbered = read.some(({ number }) => number !== null);
+  /** @type {Map<number, Pair>} */
   const pairs = new Map();
   for (const { at, line, number: typed, names: [White, Black] } of read) {
     if (areNumbered && typed === null) throw new NoPair(message('paste.no_number', { line: at, how: HOW }));
-    const number = areNumbered ? typed : boards[pairs.size];
-    if (!areNumbered && number === undefined) throw new NoPair(message('paste.few_boards', { line: at, count: boards.length }));
+    const number = typed === null ? boards[pairs.size] : typed;
+    if (number === undefined) throw new NoPair(message('paste.few_boards', { line: at, count: boards.length }));
     if (pairs.has(number)) throw new NoPair(message('paste.board_twice', { line: at, board: number }));
     if (boards.includes(number)) pairs.set(number, { White, Black });
     else if (number > Math.max(...boards)) passed.push(line); // a board of which nothing is recorded here

@@ -1,21 +1,29 @@
 // What the program reports of a game: the lines of `watch`, and the pairs of `recover`. They are read only here.
-//
-// An event is one of
-//   { kind: 'move', number: '12...', san, clock, corrects }  a picture settled a move, or corrected the last one
-//   { kind: 'result', outcome }                              the result is now this; `*` if there is none any more
-//   { kind: 'differs', squares }                             the picture differs from the position on these squares
-//   { kind: 'agrees' }                                       the picture shows the position
-//   { kind: 'fault', what }                                  bytes that are no frame
-//   { kind: 'picture', placement }                           a trusted picture that differs from the one before
-//   { kind: 'position', fen }                                the position that the game has reached
-//   { kind: 'clock', white, black }                          what the clocks show has changed to this
-//   { kind: 'recovered', text }                              two moves that no picture showed were added
 
 import { pictureOfPlacement } from '../device/protocol.js';
 
+/**
+ * The events of a game. A move's number is written as `12...`.
+ * @typedef {{ kind: 'move', number: string, san: string, clock: string, corrects: boolean }} Move a picture settled it, or corrected the last one
+ * @typedef {{ kind: 'result', outcome: string }} Result it is this from now on; `*` if there is none any more
+ * @typedef {{ kind: 'differs', squares: string[] }} Differs the picture differs from the position on these squares
+ * @typedef {{ kind: 'agrees' }} Agrees the picture shows the position
+ * @typedef {{ kind: 'fault', what: string }} Fault bytes that are no frame
+ * @typedef {{ kind: 'picture', placement: string }} Picture a trusted one that differs from the one before
+ * @typedef {{ kind: 'position', fen: string }} Position the game has reached it
+ * @typedef {{ kind: 'clock', white: string, black: string }} Clock what the clocks show has changed to this
+ * @typedef {{ kind: 'recovered', text: string }} Recovered two moves that no picture showed were added
+ * @typedef {Move | Result} Change
+ * @typedef {Change | Differs | Agrees | Fault | Picture | Position | Clock | Recovered} Event
+ * @typedef {{ offset: number, event: Event }} Line a line of `watch`, `follow` or `recover`
+ */
+
 export const NO_TIME = '--:--:--'; // of a clock that isn't connected
 
-/** The words of a line without its offset. */
+/**
+ * The words of a line without its offset.
+ * @type {(event: Event) => string}
+ */
 export function wordsOf(event) {
   switch (event.kind) {
     case 'move':
@@ -31,12 +39,18 @@ export function wordsOf(event) {
   }
 }
 
-/** A move as `12. Nf3`. */
+/**
+ * A move as `12. Nf3`.
+ * @type {(move: Move) => string}
+ */
 export function shortOf(move) {
   return `${move.number} ${move.san}`;
 }
 
-/** A move, a result or a pair, as it is shown: `12. Nf3  1:12:07`, `correction 12. Nf3  1:12:07`. */
+/**
+ * A move, a result or a pair, as it is shown: `12. Nf3  1:12:07`, `correction 12. Nf3  1:12:07`.
+ * @type {(event: Event) => string}
+ */
 export function shownOf(event) {
   if (event.kind === 'move') {
     return (event.corrects ? 'correction ' : '') + [shortOf(event), event.clock].filter((part) => part).join('  ');
@@ -44,7 +58,10 @@ export function shownOf(event) {
   return event.kind === 'recovered' ? event.text : wordsOf(event);
 }
 
-/** The event of a line, from its words after the offset; null if it is none. */
+/**
+ * The event of a line, from its words after the offset; null if it is none.
+ * @type {(words: string) => Event | null}
+ */
 export function eventOf(words) {
   const at = words.indexOf(' ');
   const kind = at < 0 ? words : words.slice(0, at);
@@ -64,18 +81,23 @@ export function eventOf(words) {
 }
 
 /**
- * A line of `watch`, `follow` or `recover`: { offset, event }. Null for the last line, `rest N`, and for anything else.
+ * A line that is read. Null for the last line, `rest N`, and for anything else.
+ * @type {(text: string) => Line | null}
  */
 export function lineOf(text) {
   const match = /^([0-9]{1,15}) ([^]*)$/.exec(text);
   const event = match ? eventOf(match[2]) : null;
-  return event ? { offset: Number(match[1]), event } : null;
+  return match && event ? { offset: Number(match[1]), event } : null;
 }
 
+/** @type {Map<string, number[]>} */
 const known = new Map();
 const MOST_KNOWN = 4096;
 
-/** The picture of a placement. */
+/**
+ * The picture of a placement.
+ * @type {(placement: string) => number[]}
+ */
 export function codesOf(placement) {
   let codes = known.get(placement);
   if (!codes) {

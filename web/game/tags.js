@@ -4,6 +4,13 @@
 
 import { Complaint, message } from '../../live/web/page/message.js';
 
+/** @typedef {import('./options.js').Tags} Tags */
+
+/**
+ * A period of a time control as it is written: no moves are 0, and an unknown unit is empty.
+ * @typedef {{ moves: number, base: number, increment: string, unit: string }} Period
+ */
+
 const ROSTER = ['Event', 'Site', 'Date', 'Round', 'White', 'Black', 'Result']; // the first tags, in order
 const GAME_SAYS = ['Result', 'FEN', 'SetUp', 'PlyCount', 'Termination', 'Variant'];
 const LONGEST_VALUE = 255; // characters of a value, as PGN has it
@@ -26,9 +33,13 @@ const UNITS = [MINUTES, SECONDS];
 /** A value that its tag can't have. The message says what to type; the name of the value goes before it. */
 export class Malformed extends Complaint {}
 
+/** @type {(text: string) => string} */
 const quoted = (text) => `'${text}'`;
 
-/** The visible text: each kind of blank as a blank, and no invisible marks. */
+/**
+ * The visible text: each kind of blank as a blank, and no invisible marks.
+ * @type {(text: string) => string}
+ */
 export function cleaned(text) {
   const letters = [...text].map((letter) => {
     if (/^\p{Zs}$/u.test(letter)) return ' ';
@@ -37,12 +48,18 @@ export function cleaned(text) {
   return letters.join('').trim();
 }
 
-/** Whether each character can be printed, except those that join letters. */
+/**
+ * Whether each character can be printed, except those that join letters.
+ * @type {(text: string) => boolean}
+ */
 export function isSeen(text) {
   return [...text].every((letter) => letter === ' ' || JOINERS.includes(letter) || !/^[\p{C}\p{Z}]$/u.test(letter));
 }
 
-/** The published value of a tag; empty if there is none. Throws Malformed if the tag can't have it. */
+/**
+ * The published value of a tag; empty if there is none. Throws Malformed if the tag can't have it.
+ * @type {(name: string, text: string) => string}
+ */
 export function valueOf(name, text) {
   const value = cleaned(text);
   if (!isSeen(value)) throw new Malformed(message('tag.unseen_character'));
@@ -52,6 +69,7 @@ export function valueOf(name, text) {
   return check ? check[1](value) : value;
 }
 
+/** @type {(text: string) => string} */
 function rating(text) {
   if (NONE.includes(text)) return '';
   if (!/^[0-9]{1,4}$/.test(text) || Number(text) < 1 || Number(text) > HIGHEST_RATING) {
@@ -60,6 +78,7 @@ function rating(text) {
   return String(Number(text));
 }
 
+/** @type {(text: string) => string} */
 function title(text) {
   if (NONE.includes(text)) return '';
   if (!TITLES.includes(text.toUpperCase())) {
@@ -68,17 +87,22 @@ function title(text) {
   return text.toUpperCase();
 }
 
+/** @type {(text: string) => string} */
 function fideId(text) {
   if (/^[0-]*$/.test(text)) return '';
   if (!/^[0-9]{3,10}$/.test(text)) throw new Malformed(message('tag.no_fide_id', { text: quoted(text) }));
   return text;
 }
 
-/** In seconds, as PGN has it; `40/90+30` is 40 moves in 90 minutes, and 30 seconds for each move. */
+/**
+ * In seconds, as PGN has it; `40/90+30` is 40 moves in 90 minutes, and 30 seconds for each move.
+ * @type {(text: string) => string}
+ */
 function timeControl(text) {
   if (TIME_CONTROL.test(text)) return text;
-  const periods = text.split(/[:,]/).map(periodOf);
-  if (!periods.every(Boolean) || !periods.slice(0, -1).every(({ moves }) => moves)) {
+  const parts = text.split(/[:,]/);
+  const periods = parts.flatMap((part) => periodOf(part) || []);
+  if (periods.length < parts.length || !periods.slice(0, -1).every(({ moves }) => moves)) {
     throw new Malformed(message('tag.no_time_control', { text: quoted(text), how: message('tag.time_control_how') }));
   }
   const known = withUnits(periods);
@@ -96,26 +120,38 @@ function timeControl(text) {
   return known.map((period) => typed({ ...period, base: period.base * (period.unit === MINUTES ? 60 : 1), unit: '' }, '')).join(':');
 }
 
-/** A period of a time control as it is written: no moves are 0, and an unknown unit is empty. Null if it is something else. */
+/**
+ * A period of a time control as it is written: no moves are 0, and an unknown unit is empty. Null if it is something else.
+ * @type {(text: string) => Period | null}
+ */
 function periodOf(text) {
   const found = PERIOD.exec(text.trim());
   if (!found) return null;
-  const { moves = '0', base, minutes, seconds, increment } = found.groups;
+  const { moves = '0', base, minutes, seconds, increment } = /** @type {{ [part: string]: string }} */ (found.groups);
   if (minutes && Number(base) === 0) return null;
   const unit = minutes ? MINUTES : seconds ? SECONDS : '';
   return { moves: Number(moves), base: Number(base), increment: increment ? `+${Number(increment)}` : '', unit };
 }
 
-/** Whether a base time without a unit is in seconds. */
+/**
+ * Whether a base time without a unit is in seconds.
+ * @type {(period: Period) => boolean}
+ */
 const isLong = ({ base }) => base === 0 || base >= LEAST_SECONDS;
 
-/** A period as it may be typed, in this unit if its own isn't known. */
+/**
+ * A period as it may be typed, in this unit if its own isn't known.
+ * @type {(period: Period, unit: string) => string}
+ */
 function typed(period, unit) {
   const shown = isLong(period) && period.unit !== MINUTES ? '' : period.unit || unit;
   return `${period.moves ? `${period.moves}/` : ''}${period.base}${shown}${period.increment}`;
 }
 
-/** The periods with their units. A number alone has none, nor has a small one beside large ones. */
+/**
+ * The periods with their units. A number alone has none, nor has a small one beside large ones.
+ * @type {(periods: Period[]) => Period[]}
+ */
 function withUnits(periods) {
   const most = periods[0].moves ? MOST_MINUTES_FOR_MOVES : MOST_MINUTES;
   const areShort = periods.every(({ unit, base }) => unit || (base > 0 && base <= most));
@@ -124,14 +160,21 @@ function withUnits(periods) {
   return periods.map((period) => ({ ...period, unit: period.unit || (isLong(period) ? SECONDS : rest) }));
 }
 
+/** @type {[string, (text: string) => string][]} */
 const CHECKS = [['Elo', rating], ['USCF', rating], ['Title', title], ['FideId', fideId], ['TimeControl', timeControl]];
 
-/** The text between the quotes of a tag pair. */
+/**
+ * The text between the quotes of a tag pair.
+ * @type {(value: string) => string}
+ */
 function escaped(value) {
   return value.replaceAll('\\', '\\\\').replaceAll('"', '\\"');
 }
 
-/** The tags of a text that `record` made. */
+/**
+ * The tags of a text that `record` made.
+ * @type {(head: string) => Map<string, string>}
+ */
 function pairsOf(head) {
   return new Map([...head.matchAll(PAIR)].map(([, name, value]) => [name, value.replace(/\\(.)/g, '$1')]));
 }
@@ -139,6 +182,7 @@ function pairsOf(head) {
 /**
  * The text of a game with these tags, { name: value }, as it is published: the roster first, the others in order of
  * their names. What the game itself says, also its result, comes from the recorded text; `says` is what else is known of it.
+ * @type {(recorded: string, tags: Tags, says?: Tags) => string}
  */
 export function published(recorded, tags, says = {}) {
   if (!recorded) return '';
@@ -150,6 +194,6 @@ export function published(recorded, tags, says = {}) {
   }
   for (const [name, value] of Object.entries(says)) values.set(name, value);
   const others = [...values.keys()].filter((name) => !ROSTER.includes(name)).sort();
-  const lines = [...ROSTER, ...others].map((name) => `[${name} "${escaped(values.has(name) ? values.get(name) : '?')}"]`);
+  const lines = [...ROSTER, ...others].map((name) => `[${name} "${escaped(values.get(name) ?? '?')}"]`);
   return lines.join('\n') + recorded.slice(head.length);
 }

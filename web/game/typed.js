@@ -4,6 +4,18 @@
 import { BOTH, typedForfeit } from './forfeits.js';
 import { Complaint, message } from '../../live/web/page/message.js';
 
+/** @typedef {import('../../live/web/page/message.js').Words} Words */
+
+/**
+ * What is asked for: the program is to go back to a ply, or to read a line; the game isn't played; or a word alone, where `reopened` says that
+ * a result is to be taken off.
+ * @typedef {{ kind: 'back', to: string }} BackTyped
+ * @typedef {{ kind: 'added', line: string }} LineTyped
+ * @typedef {{ kind: 'forfeit', forfeit: string }} ForfeitTyped
+ * @typedef {BackTyped | LineTyped | ForfeitTyped | { kind: 'reopened' }} ChangeTyped
+ * @typedef {ChangeTyped | { kind: 'nothing' } | { kind: 'quit' } | { kind: 'acknowledged' } | { kind: 'helped' }} Typed
+ */
+
 const NOUGHTS = '0-0'; // a result, or castling typed with noughts
 export const WAYS = message('typed.ways');
 export const ABSENT = message('typed.absent'); // what can be typed too if the game has no move
@@ -21,9 +33,8 @@ export class Refused extends Complaint {}
 export class Asked extends Refused {}
 
 /**
- * What is asked for: { kind: 'back', to } with the ply that the program is to go back to, { kind: 'added', line } with a
- * line for the program, { kind: 'forfeit', forfeit } if the game isn't played, or the kind 'nothing', 'quit', 'acknowledged',
- * 'helped' or 'reopened': a result is to be taken off.
+ * What is asked for in a line.
+ * @type {(text: string) => Typed}
  */
 export function readWords(text) {
   const words = text.split(/\s+/u).filter((word) => word);
@@ -42,10 +53,16 @@ export function readWords(text) {
   return { kind: 'added', line: text.trim() };
 }
 
-/** A score with one kind of dash. */
+/**
+ * A score with one kind of dash.
+ * @type {(word: string) => string}
+ */
 const withAHyphen = (word) => word.replace(/[–—−:]/g, '-');
 
-/** A ply as the program takes it: `14.Bxf6` is `14. Bxf6`. A number alone would be taken for a number of plies. */
+/**
+ * A ply as the program takes it: `14.Bxf6` is `14. Bxf6`. A number alone would be taken for a number of plies.
+ * @type {(text: string) => string}
+ */
 function plyOf(text) {
   if (/^[0-9]+$/.test(text) && text !== '0') throw new Refused(WHICH_PLY);
   const [, number, stops, san] = /^0*([0-9]+)((?: ?[.…])+) ?(.*)$/u.exec(text) || [];
@@ -54,18 +71,27 @@ function plyOf(text) {
   return `${number}${isWhite ? '.' : '...'} ${san}`.trim();
 }
 
-/** The text with `?` for each character that can't be printed. */
+/**
+ * The text with `?` for each character that can't be printed.
+ * @type {(text: string) => string}
+ */
 export function printable(text) {
   return [...text].map((letter) => (/^(?:[\p{L}\p{M}\p{N}\p{P}\p{S}]| )$/u.test(letter) ? letter : '?')).join('');
 }
 
-/** The beginning of a text, with only what can be printed. */
+/**
+ * The beginning of a text, with only what can be printed.
+ * @type {(text: string) => string}
+ */
 export function shortened(text) {
   const shown = [...printable(text.trim())];
   return shown.length <= SHORT ? shown.join('') : `${shown.slice(0, SHORT).join('')}..`;
 }
 
-/** The answer to what was typed, if that isn't done, or not yet. */
+/**
+ * The answer to what was typed, if that isn't done, or not yet.
+ * @type {(text: string, error: Error) => Words}
+ */
 export function refusal(text, error) {
   const why = error.message;
   if (error instanceof Asked) return why;

@@ -6,6 +6,20 @@ import { shortOf } from './report.js';
 import { Refused, WHICH_PLY } from './typed.js';
 import { linked, message } from '../../live/web/page/message.js';
 
+/**
+ * @typedef {import('../../live/web/page/message.js').Message} Message
+ * @typedef {import('../../live/web/page/message.js').Words} Words
+ * @typedef {import('./program.js').Outcome} Outcome
+ * @typedef {import('./report.js').Move} Move
+ */
+
+/**
+ * What `back` has answered: with the result that goes, and the new capture; or why it can't be, where `stays` is how many plies were to stay.
+ * @typedef {{ kind: 'back', stays: number, result: string, put: Uint8Array, rest?: undefined }} Gone
+ * @typedef {{ kind: string, stays: number, rest: string, result?: undefined, put?: undefined }} Stopped
+ * @typedef {Gone | Stopped} Back
+ */
+
 const NO_RESULT = '*';
 const WITHOUT_A_QUESTION = 2; // plies that may go without a question
 const DONE = /^plies ([0-9]+), gone ([0-9]+), result (\S+)$/;
@@ -13,8 +27,8 @@ const STILL_SHOWN = ['moved', 'signed', 'board', 'unseen']; // why it can't be a
 export const [AS_IT_IS, ANEW, CUT, REFUSED] = ['as it is', 'anew', 'cut', 'refused']; // how a game that is over goes on with `*`
 
 /**
- * What `back` has answered: { kind: 'back', stays, result, put } with the result that goes, and the new capture; or
- * { kind, stays, rest }, where `stays` is how many plies were to stay. Throws ProgramError if it gave no answer.
+ * What `back` has answered. Throws ProgramError if it gave no answer.
+ * @type {(outcome: Outcome) => Back}
  */
 export function readBack({ status, errors, output }) {
   const said = new TextDecoder().decode(errors).trim();
@@ -28,14 +42,21 @@ export function readBack({ status, errors, output }) {
   return { kind, stays: Number(words[0]), rest: words.slice(1).join(' ') };
 }
 
-/** Whether the game could go back if the board stood otherwise. */
+/**
+ * Whether the game could go back if the board stood otherwise.
+ * @type {(said: Back) => boolean}
+ */
 export const isStillShown = ({ kind }) => STILL_SHOWN.includes(kind);
 
-/** Why a game with these plies doesn't go back as far as `to` says. */
+/**
+ * Why a game with these plies doesn't go back as far as `to` says.
+ * @type {(said: { kind: string, stays?: number, rest?: Words }, to: string, plies: Move[]) => Refused}
+ */
 export function refuseBack({ kind, stays, rest }, to, plies) {
   return new Refused(whyNotBack(kind, plies.slice(0, stays), rest, to, plies));
 }
 
+/** @type {(kind: string, kept: Move[], rest: Words | undefined, to: string, plies: Move[]) => Words} */
 function whyNotBack(kind, kept, rest, to, plies) {
   switch (kind) {
     case 'nearest':
@@ -58,35 +79,53 @@ function whyNotBack(kind, kept, rest, to, plies) {
   }
 }
 
-/** What to do so that it can go back to these plies. */
+/**
+ * What to do so that it can go back to these plies.
+ * @type {(kept: Move[]) => Message}
+ */
 function hint(kept) {
   return kept.length === 0 ? message('back.hint_at_the_start') : message('back.hint', { ply: reached(kept) });
 }
 
-/** Refused if a game that goes on has nothing to take off: so many of its plies stay. */
+/**
+ * Refused if a game that goes on has nothing to take off: so many of its plies stay.
+ * @type {(plies: Move[], stays: number, result: string, to: string) => void}
+ */
 export function refuseNothing(plies, stays, result, to) {
   if (stays < plies.length || result !== '*') return;
   if (to === '*') throw new Refused(message('result.none'));
   throw new Refused(stays > 0 ? message('back.already', { ply: reached(plies) }) : message('moves.no_move'));
 }
 
-/** The question before so many plies go; empty if they may go at once. */
+/**
+ * The question before so many plies go; empty if they may go at once.
+ * @type {(gone: Move[]) => Words}
+ */
 export function question(gone) {
   const many = gone.length > WITHOUT_A_QUESTION;
   return many ? message('back.asks', { count: gone.length, ply: shortOf(gone[0]) }) : '';
 }
 
-/** `14... Qd7 15. Rd1 Rae8`. */
+/**
+ * `14... Qd7 15. Rd1 Rae8`.
+ * @type {(plies: Move[]) => string}
+ */
 function movesOf(plies) {
   return plies.map((ply, at) => (at > 0 && ply.number.endsWith('...') ? ply.san : shortOf(ply))).join(' ');
 }
 
-/** The ply with which a game ends, or its start. */
+/**
+ * The ply with which a game ends, or its start.
+ * @type {(plies: Move[]) => Words}
+ */
 export function reached(plies) {
   return plies.length > 0 ? shortOf(plies[plies.length - 1]) : message('ply.the_start');
 }
 
-/** What was done: `back to 14. Bxf6; taken off: 14... Qd7 15. Rd1`. The result is the earlier one. */
+/**
+ * What was done: `back to 14. Bxf6; taken off: 14... Qd7 15. Rd1`. The result is the earlier one.
+ * @type {(plies: Move[], stays: number, result: string) => Words}
+ */
 export function wordsOfBack(plies, stays, result) {
   const gone = plies.slice(stays);
   const parts = [message('back.done', { ply: reached(plies.slice(0, stays)) })];
@@ -98,6 +137,7 @@ export function wordsOfBack(plies, stays, result) {
 /**
  * How far the program is asked to go back, given all that the board has sent, if a game with this result and so many plies is over
  * and goes on. What was played since stays, but behind no result: then that may be a set-up, or what was taken off.
+ * @type {(had: string, plies: number) => string}
  */
 export const askedOf = (had, plies) => (had === NO_RESULT ? String(plies) : NO_RESULT);
 
@@ -105,13 +145,17 @@ export const askedOf = (had, plies) => (had === NO_RESULT ? String(plies) : NO_R
  * How that game goes on, by what the program says then: `as it is`, since the board has taken the result off itself; with a
  * capture that is made `anew`; `cut` behind its last ply; or `refused`. What a board shows forbids it only as long as the board's
  * device is there: nobody can set pieces right on another one.
+ * @type {(had: string, said: Back, isThere: boolean) => string}
  */
 export function takenUp(had, said, isThere) {
   if (said.kind === 'back') return said.result === NO_RESULT && had !== NO_RESULT ? AS_IT_IS : ANEW;
   return isStillShown(said) && !isThere ? CUT : REFUSED;
 }
 
-/** More of the message that a game goes on: how its last ply was corrected after its result, and the plies that were made since. */
+/**
+ * More of the message that a game goes on: how its last ply was corrected after its result, and the plies that were made since.
+ * @type {(before: Move[], now: Move[]) => Words}
+ */
 export function playedSince(before, now) {
   const last = before.length - 1;
   const isOther = last >= 0 && last < now.length && before[last].san !== now[last].san;
@@ -123,6 +167,7 @@ export function playedSince(before, now) {
 /**
  * The alarms that end if only so many plies stay: those about plies that are gone, and about moves since the last one
  * that stays.
+ * @type {(plies: Move[], stays: number) => Message[]}
  */
 export function settled(plies, stays) {
   const gone = plies.slice(stays).map(shortOf);

@@ -5,6 +5,19 @@ import { zipped } from '../kept/zip.js';
 import { message } from '../../live/web/page/message.js';
 import { stamped } from './log.js';
 
+/**
+ * @typedef {import('../board/recorder.js').Finished} Finished
+ * @typedef {import('../kept/database.js').Before} Before
+ * @typedef {import('../../live/web/page/message.js').Words} Words
+ * @typedef {import('./hall.js').Hall} Hall
+ * @typedef {import('./seat.js').Seat} Seat
+ */
+
+/**
+ * @typedef {{ name: string, content: string | Uint8Array, has: Words }} File with what it has, for whoever opens the archive
+ * @typedef {[name: string, content: string | Uint8Array, has: Words]} Part
+ */
+
 const CAPTURE = message('packed.capture');
 const TIMES = message('packed.times');
 const PGN = message('packed.pgn');
@@ -13,25 +26,36 @@ const BEFORE = message('packed.before_back');
 const OTHER = message('packed.other_times');
 const LOG = message('packed.page');
 
-/** The files of a game, in a folder of its name: [{ name, content, has }]. Those without content aren't there. */
+/**
+ * The files of a game, in a folder of its name. Those without content aren't there.
+ * @type {(game: Finished, before: Before[], others: string[]) => File[]}
+ */
 function filesOf({ pgn, bytes, times, texts, ...record }, before, others) {
   const { name } = record;
+  /** @type {Part[]} */
+  const kept = before.flatMap((old, at) => [
+    [`${name}.before-${at + 1}.dgt`, old.bytes, BEFORE],
+    [`${name}.before-${at + 1}.times`, old.times, TIMES],
+  ]);
+  /** @type {Part[]} */
+  const beside = others.map((text, at) => [otherName(`${name}.times`, at + 1), text, OTHER]);
+  /** @type {Part[]} */
   const files = [
     [`${name}.dgt`, bytes, CAPTURE],
     [`${name}.times`, times, TIMES],
     [`${name}.pgn`, pgn, PGN],
     [`${name}.json`, `${JSON.stringify(record, null, 1)}\n`, RECORD],
-    ...before.flatMap((old, at) => [
-      [`${name}.before-${at + 1}.dgt`, old.bytes, BEFORE],
-      [`${name}.before-${at + 1}.times`, old.times, TIMES],
-    ]),
-    ...others.map((text, at) => [otherName(`${name}.times`, at + 1), text, OTHER]),
+    ...kept,
+    ...beside,
   ];
   const there = files.filter(([, content]) => content && content.length > 0);
   return there.map(([file, content, has]) => ({ name: `${name}/${file}`, content, has }));
 }
 
-/** What is in the archive, for whoever opens it. */
+/**
+ * What is in the archive, for whoever opens it.
+ * @type {(id: number, files: File[], now: Date) => string}
+ */
 function readMe(id, files, now) {
   const width = Math.max(...files.map(({ name }) => name.length));
   const lines = files.map(({ name, content, has }) => `${name.padEnd(width)}  ${String(content.length).padStart(9)}  ${has}`);
@@ -47,7 +71,10 @@ function readMe(id, files, now) {
   ].join('\n');
 }
 
-/** The games of a board, what is kept beside them, and what the page has said, in an archive. */
+/**
+ * The games of a board, what is kept beside them, and what the page has said, in an archive.
+ * @type {(hall: Hall, seat: Seat) => Promise<Uint8Array>}
+ */
 export async function allOf({ database, log }, seat) {
   const now = new Date();
   const pgn = await seat.text();

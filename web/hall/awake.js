@@ -3,10 +3,12 @@
 export class Awake {
   constructor() {
     this.isWanted = false;
+    /** @type {WakeLockSentinel | null} */
     this.lock = null;
     document.addEventListener('visibilitychange', () => this.hold());
   }
 
+  /** @type {(isWanted: boolean) => void} */
   wanted(isWanted) {
     if (isWanted === this.isWanted) return;
     this.isWanted = isWanted;

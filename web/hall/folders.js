@@ -4,19 +4,37 @@ import { Folder } from '../kept/folder.js';
 import { ROUND, freeName } from '../kept/file_names.js';
 import { linked, message } from '../../live/web/page/message.js';
 
+/**
+ * @typedef {import('../board/recorder.js').Finished} Finished
+ * @typedef {import('../kept/database.js').Before} Before
+ * @typedef {import('../loop.js').Timer} Timer
+ * @typedef {import('../../live/web/page/message.js').Words} Words
+ * @typedef {import('./hall.js').Hall} Hall
+ * @typedef {import('./seat.js').Recorded} Recorded
+ * @typedef {import('./seat.js').Seat} Seat
+ * @typedef {import('./shown.js').Shown} Shown
+ */
+
 const MODE = { mode: 'readwrite' };
 const AWAITED = 1.0; // seconds that a file waits until its text is kept in the browser
 const GATHERED = 0.2; // seconds in which changes are gathered into one text of all games
 
 export class Folders {
+  /** @param {Hall} hall */
   constructor(hall) {
     this.hall = hall;
+    /** @type {Folder | null} */
     this.folder = null;
+    /** @type {FileSystemDirectoryHandle | null} */
     this.kept = null; // the earlier folder, if the browser wants to ask about it
+    /** @type {Words} */
     this.failed = ''; // what can't be written in it
     this.isPersistent = false;
+    /** @type {Timer | null} */
     this.timer = null;
+    /** @type {Promise<unknown>} */
     this.lastRound = Promise.resolve(); // ends when the last text of all games is waiting to be written
+    /** @type {Promise<unknown>} */
     this.lastBefore = Promise.resolve(); // ends when the last capture as it was before is waiting to be written
   }
 
@@ -35,12 +53,17 @@ export class Folders {
   }
 
   async goOn() {
-    if ((await this.kept.requestPermission(MODE)) === 'granted') await this.use(this.kept);
-    else this.asks(message('filed.not_let', { folder: this.kept.name }));
+    const kept = /** @type {FileSystemDirectoryHandle} */ (this.kept);
+    if ((await kept.requestPermission(MODE)) === 'granted') await this.use(kept);
+    else this.asks(message('filed.not_let', { folder: kept.name }));
   }
 
-  /** A notice with the button that lets somebody choose a folder. */
+  /**
+   * A notice with the button that lets somebody choose a folder.
+   * @type {(text: Words, name?: string, isAlarm?: boolean) => void}
+   */
   asks(text, name = 'folder', isAlarm = false) {
+    /** @type {(error: Error) => void} */
     const fails = (error) => this.asks(message('filed.unusable', { why: error.message || error.name }));
     const choose = () => this.choose().catch(fails);
     this.hall.notice(name, text, text ? [[message('label.choose_folder'), choose]] : [], isAlarm);
@@ -69,13 +92,15 @@ export class Folders {
     }
   }
 
+  /** @type {(handle: FileSystemDirectoryHandle) => Promise<void>} */
   async use(handle) {
     const before = await this.hall.database.setting('round').catch(() => null); // the disk is full
+    /** @type {Folder} */
     const folder = new Folder(this.hall.loop, handle, {
       trouble: (text) => this.trouble(folder, text),
       says: (text) => this.hall.says(text),
     });
-    folder.before.set(`${ROUND}.pgn`, [].concat(before || []));
+    folder.before.set(`${ROUND}.pgn`, [before || []].flat());
     for (const { filed, texts } of this.hall.recorded().flatMap((seat) => [seat.game, ...seat.finished])) {
       if (filed && filed.folder === folder.name) folder.before.set(`${filed.name}.pgn`, texts || []);
     }
@@ -95,7 +120,10 @@ export class Folders {
     this.hall.changed();
   }
 
-  /** The folder's capture of a game has more than the browser had kept of it, if its disk was full: the game gets that. */
+  /**
+   * The folder's capture of a game has more than the browser had kept of it, if its disk was full: the game gets that.
+   * @type {(seat: Recorded, folder: Folder) => Promise<void>}
+   */
   async takeUp({ recorder }, folder) {
     const { filed } = recorder.game;
     if (!filed || filed.folder !== folder.name) return;
@@ -106,7 +134,10 @@ export class Folders {
     if (bytes) await recorder.takeUp(bytes, times || '', `${filed.name}.dgt`);
   }
 
-  /** Something can't be written in a folder, or all is written again. One that was left alarms nobody. */
+  /**
+   * Something can't be written in a folder, or all is written again. One that was left alarms nobody.
+   * @type {(folder: Folder | null, text: Words) => void}
+   */
   trouble(folder, text) {
     if (folder !== this.folder) return;
     this.failed = text;
@@ -115,7 +146,10 @@ export class Folders {
     this.hall.changed();
   }
 
-  /** What the page does, with where the files are. */
+  /**
+   * What the page does, with where the files are.
+   * @type {(words: Words) => Words}
+   */
   standing(words) {
     if (this.failed) return linked('semicolon', [words, message('standing.not_written')]);
     const where = this.folder ? message('standing.in_folder', { folder: this.folder.name }) : message('standing.in_browser');
@@ -126,27 +160,36 @@ export class Folders {
     return Boolean(this.failed);
   }
 
-  /** The text of a board's game has changed. */
+  /**
+   * The text of a board's game has changed.
+   * @type {(seat: Seat | Shown) => void}
+   */
   placed(seat) {
     if (seat.isCapture || !seat.isWritten || !this.folder || !seat.pgn) return;
     seat.wantsFiles = true;
-    if (!seat.isFiling) this.orTrouble(this.file(seat));
+    if (!seat.isFiling) this.orTrouble(this.file(/** @type {Recorded} */ (seat)));
     this.round();
   }
 
-  /** What goes wrong before a file can wait for the folder is the folder's trouble too. */
+  /**
+   * What goes wrong before a file can wait for the folder is the folder's trouble too.
+   * @type {(filing: Promise<unknown>) => Promise<unknown>}
+   */
   orTrouble(filing) {
     const { folder } = this;
     return filing.catch((error) => this.trouble(folder, error.message || error.name));
   }
 
-  /** Writes a game, and again if its text has changed meanwhile, or another folder was chosen. */
+  /**
+   * Writes a game, and again if its text has changed meanwhile, or another folder was chosen.
+   * @type {(seat: Recorded) => Promise<void>}
+   */
   async file(seat) {
     seat.isFiling = true;
     try {
       while (seat.wantsFiles) {
         seat.wantsFiles = false;
-        const { folder } = this;
+        const folder = /** @type {Folder} */ (this.folder);
         const earlier = await this.nameFiles(seat, folder);
         await this.lastBefore;
         const [name, text, times] = [`${seat.name}.pgn`, seat.pgn, seat.times()];
@@ -162,7 +205,10 @@ export class Folders {
     }
   }
 
-  /** Files that aren't its own are left alone: the game gets another name. Returns the name that its files have had, if it is another. */
+  /**
+   * Files that aren't its own are left alone: the game gets another name. Returns the name that its files have had, if it is another.
+   * @type {(seat: Recorded, folder: Folder) => Promise<string>}
+   */
   async nameFiles(seat, folder) {
     const { recorder } = seat;
     const { filed } = recorder.game;
@@ -173,16 +219,23 @@ export class Folders {
     return earlier;
   }
 
-  /** Writes the times of a capture beside the file of this name, if there are any. */
+  /**
+   * Writes the times of a capture beside the file of this name, if there are any.
+   * @type {(folder: Folder, name: string, times: string) => void}
+   */
   putTimes(folder, name, times) {
     if (times) folder.put(name.replace(/(?:pgn|dgt)$/, 'times'), times);
   }
 
+  /** @type {(game: Finished) => void} */
   finishes(game) {
     this.orTrouble(this.finished(game));
   }
 
-  /** Writes a game that is over and no longer recorded. */
+  /**
+   * Writes a game that is over and no longer recorded.
+   * @type {(game: Finished) => Promise<void>}
+   */
   async finished(game) {
     const { folder } = this;
     if (!folder || !game.pgn) return;
@@ -198,7 +251,10 @@ export class Folders {
     this.putTimes(folder, `${game.name}.pgn`, game.times);
   }
 
-  /** The name, or another one if the folder has files of this name: they aren't this game's, and are left alone. */
+  /**
+   * The name, or another one if the folder has files of this name: they aren't this game's, and are left alone.
+   * @type {(wanted: string, folder: Folder) => Promise<string>}
+   */
   async free(wanted, folder) {
     let name = wanted;
     const taken = this.hall.names().filter((other) => other !== wanted);
@@ -210,13 +266,17 @@ export class Folders {
     return name;
   }
 
-  /** Keeps a capture as it was before plies were taken off, with its times, before the new one is written. */
+  /**
+   * Keeps a capture as it was before plies were taken off, with its times, before the new one is written.
+   * @type {(given: Before) => Promise<void>}
+   */
   before(given) {
     const keeping = this.keepBefore(given);
     this.lastBefore = Promise.allSettled([this.lastBefore, keeping]);
     return keeping;
   }
 
+  /** @type {(given: Before) => Promise<void>} */
   async keepBefore({ name, bytes, times }) {
     const { folder } = this;
     if (!folder) return;
@@ -230,12 +290,15 @@ export class Folders {
     if (!this.folder || this.timer) return;
     this.timer = this.hall.loop.after(GATHERED, () => {
       this.timer = null;
-      const put = () => this.orTrouble(this.putRound(this.folder));
+      const put = () => this.orTrouble(this.putRound(/** @type {Folder} */ (this.folder)));
       this.lastRound = this.lastRound.then(put);
     });
   }
 
-  /** Writes the text of all games. First it is kept: so the page knows it again, whenever its tab is killed. */
+  /**
+   * Writes the text of all games. First it is kept: so the page knows it again, whenever its tab is killed.
+   * @type {(folder: Folder) => Promise<void>}
+   */
   async putRound(folder) {
     const name = `${ROUND}.pgn`;
     const text = this.hall.round();
@@ -243,9 +306,12 @@ export class Folders {
     folder.put(name, text);
   }
 
-  /** Waits until this is kept, but not for long: the folder is written whatever the browser can keep. */
+  /**
+   * Waits until this is kept, but not for long: the folder is written whatever the browser can keep.
+   * @type {(keeping: Promise<unknown>) => Promise<unknown>}
+   */
   soonKept(keeping) {
-    return Promise.race([keeping.catch(() => {}), new Promise((done) => this.hall.loop.after(AWAITED, done))]);
+    return Promise.race([keeping.catch(() => {}), new Promise((done) => this.hall.loop.after(AWAITED, () => done(null)))]);
   }
 
   /** Asks the browser to keep what is stored. If it doesn't promise that, says what that means. */

@@ -19,17 +19,41 @@ import { Seat } from './seat.js';
 import { Shown } from './shown.js';
 import { Awake } from './awake.js';
 
+/**
+ * @typedef {import('../game/options.js').Tags} Tags
+ * @typedef {import('../kept/database.js').Board} Board
+ * @typedef {import('../kept/database.js').Remembered} Remembered
+ * @typedef {import('../../live/web/page/message.js').Words} Words
+ * @typedef {import('../../live/web/page/tile.js').Board} View
+ * @typedef {import('./seat.js').Recorded} Recorded
+ */
+
+/** @typedef {[label: Words, pressed: () => unknown]} Button */
+
+/**
+ * @typedef {object} Hears
+ * @property {(isNews: boolean, number: number | null) => void} changed of a board if there is a number
+ * @property {(text: Words, number: number | null) => void} says
+ * @property {(name: string, text: Words, buttons?: Button[], isAlarm?: boolean) => void} notice
+ * @property {() => void} newRound somebody wants one
+ * @property {(number: number) => void} names somebody wants to change the names of a board
+ */
+
 const AGAIN = 5.0; // seconds until a database that can't be opened is tried again
 
-/** The texts one after the other, with an empty line between them. */
+/**
+ * The texts one after the other, with an empty line between them.
+ * @type {(games: string[]) => string}
+ */
 export function roundText(games) {
   return games.filter((pgn) => pgn).map((pgn) => `${pgn.trimEnd()}\n\n`).join('');
 }
 
 export class Hall {
   /**
-   * `hears` gets changed(isNews, number), of a board if there is a number; says(text, number), notice(name, text, buttons, isAlarm);
-   * newRound() when somebody wants one, and names(number) when somebody wants to change the names of a board.
+   * @param {string} code
+   * @param {string} module
+   * @param {Hears} hears
    */
   constructor(code, module, hears) {
     this.hears = hears;
@@ -37,10 +61,15 @@ export class Hall {
     this.loop = new Loop();
     this.program = new Program(code, module); // attends the boards
     this.calls = new Program(code, module); // answers calls that end, in a worker of its own, so that they hold up no board
-    this.database = null;
+    /** @type {Database} */
+    this.database; // once it is open
+    /** @type {Map<number, Seat | Shown>} */
     this.seats = new Map(); // by their numbers
+    /** @type {Map<string, (nothing?: unknown) => void>} */
     this.locks = new Map(); // what releases each board's lock
+    /** @type {Set<number>} */
     this.elsewhere = new Set(); // boards that another tab records
+    /** @type {Tags} */
     this.given = {}; // the options of new games
     this.isReady = false;
     this.wasUnsaved = false; // what the boards send couldn't be kept
@@ -79,31 +108,40 @@ export class Hall {
     this.changed();
   }
 
-  /** What the database must have when it was lost and is opened again, besides what is being recorded. */
+  /**
+   * What the database must have when it was lost and is opened again, besides what is being recorded.
+   * @type {() => Remembered}
+   */
   remembered() {
     const recorders = this.recorded().map(({ recorder }) => recorder);
     const finished = this.recorded().flatMap((seat) => seat.finished);
-    const { handle } = this.folders.folder || {};
+    /** @type {Remembered['settings']} */
+    const folder = this.folders.folder ? [{ name: 'folder', value: this.folders.folder.handle }] : [];
     return {
       boards: recorders.map(({ board }) => board),
       games: [...recorders.map(({ game }) => game), ...finished.map(({ pgn, bytes, times, ...game }) => game)],
       captures: finished.map(({ id, bytes }) => ({ game: id, number: 0, at: this.loop.now(), bytes: bytes.slice() })),
       times: finished.map(({ id, times }) => ({ game: id, number: 0, at: Date.now(), text: times })),
-      settings: [{ name: 'given', value: this.given }, ...(handle ? [{ name: 'folder', value: handle }] : [])],
+      settings: [{ name: 'given', value: this.given }, ...folder],
     };
   }
 
-  says(text, number = null, isMove = false) {
+  /** @type {(text: Words, number?: number | null) => void} */
+  says(text, number = null) {
     this.log.add(text, number);
-    this.hears.says(text, number, isMove);
+    this.hears.says(text, number);
   }
 
+  /** @type {(name: string, text: Words, buttons?: Button[], isAlarm?: boolean) => void} */
   notice(name, text, ...given) {
     if (text) this.log.add(text, null);
     this.hears.notice(name, text, ...given);
   }
 
-  /** Something has changed, which may be news, as a move: of this board if its number is given. */
+  /**
+   * Something has changed, which may be news, as a move: of this board if its number is given.
+   * @type {(isNews?: boolean, number?: number | null) => void}
+   */
   changed(isNews = true, number = null) {
     if (this.isUnsaved !== this.wasUnsaved) this.tellUnsaved();
     this.awake.wanted(this.recorded().some((seat) => seat.recorder.cable.isOpen));
@@ -113,41 +151,52 @@ export class Hall {
   /** What the boards send can't be kept, or again. */
   tellUnsaved() {
     this.wasUnsaved = this.isUnsaved;
+    /** @type {Button[]} */
     const buttons = [[message('label.save_all'), () => this.saveRound()]];
     this.notice('unsaved', this.wasUnsaved ? message('keep.boards_unkept') : '', buttons, true);
   }
 
   // Its boards.
 
+  /** @type {() => Recorded[]} */
   recorded() {
-    return [...this.seats.values()].filter((seat) => seat.recorder);
+    return /** @type {Recorded[]} */ ([...this.seats.values()].filter((seat) => seat instanceof Seat && seat.recorder));
   }
 
-  /** All seats but captures that are shown. */
+  /**
+   * All seats but captures that are shown.
+   * @type {() => Seat[]}
+   */
   seated() {
-    return [...this.seats.values()].filter((seat) => !seat.isCapture);
+    return [...this.seats.values()].flatMap((seat) => (seat.isCapture ? [] : seat));
   }
 
+  /** @type {(number: number) => Seat | Shown | undefined} */
   seat(number) {
     return this.seats.get(number);
   }
 
-  /** What the card of a board shows; null if it isn't there, or shows nothing yet. */
+  /**
+   * What the card of a board shows; null if it isn't there, or shows nothing yet.
+   * @type {(number: number) => View | null}
+   */
   view(number) {
     const seat = this.seats.get(number);
     return seat ? seat.show(this.loop.now()) : null;
   }
 
+  /** @type {() => View[]} */
   views() {
     const now = this.loop.now();
     const seats = [...this.seats.values()].sort((one, other) => one.id - other.id);
-    return seats.map((seat) => seat.show(now)).filter((view) => view);
+    return seats.flatMap((seat) => seat.show(now) || []);
   }
 
   get event() {
     return this.given.Event || '';
   }
 
+  /** @type {() => { words: Words, isAlarm: boolean, isLive: boolean }} */
   standing() {
     if (!this.isReady) return { words: message('standing.starting'), isAlarm: false, isLive: false };
     const open = this.recorded().filter((seat) => seat.recorder.cable.isOpen).length;
@@ -169,7 +218,10 @@ export class Hall {
     return [...this.seats.values()].flatMap((seat) => [seat.name, ...seat.finished.map(({ name }) => name)]);
   }
 
-  /** A new board, with a new game. `info` is about its device. Null if another tab records it. */
+  /**
+   * A new board, with a new game. `info` is about its device. Null if another tab records it.
+   * @type {(info: SerialPortInfo) => Promise<Seat | null>}
+   */
   async addSeat(info) {
     const id = this.freeNumber();
     let options = optionsOf({ began: dayOf(new Date()) });
@@ -195,12 +247,18 @@ export class Hall {
     this.changed();
   }
 
-  /** Records a board. If another tab does, it is recorded as soon as that tab lets it go. */
+  /**
+   * Records a board. If another tab does, it is recorded as soon as that tab lets it go.
+   * @type {(board: Board) => Promise<Seat | null>}
+   */
   async seatBoard(board) {
     return (await this.takes(board)) ? this.begins(board) : null;
   }
 
-  /** Whether this tab may record a board. If not, it does as soon as the tab that records it lets it go. */
+  /**
+   * Whether this tab may record a board. If not, it does as soon as the tab that records it lets it go.
+   * @type {(board: Board) => Promise<boolean>}
+   */
   async takes(board) {
     const name = `dgt_recorder board ${board.id}`;
     const isOurs = await this.lock(name, { ifAvailable: true });
@@ -220,6 +278,7 @@ export class Hall {
     return isOurs;
   }
 
+  /** @type {(board: Board) => Promise<Seat>} */
   async begins(board) {
     const seat = this.seatOn(board);
     await seat.begin().catch((error) => seat.broke(error));
@@ -227,7 +286,10 @@ export class Hall {
     return seat;
   }
 
-  /** The seat of a board, which hasn't begun. */
+  /**
+   * The seat of a board, which hasn't begun.
+   * @type {(board: Board) => Seat}
+   */
   seatOn(board) {
     const seat = new Seat(this, board, {
       changed: (one, isNews) => this.changed(isNews, one.id),
@@ -235,7 +297,7 @@ export class Hall {
         this.folders.placed(one);
         this.rounds.look();
       },
-      says: (one, text, isMove) => this.says(text, one.id, isMove),
+      says: (one, text) => this.says(text, one.id),
       begun: (one, before) => {
         if (one.finished.includes(before) || before.filed) this.folders.finishes(before);
         this.changed();
@@ -252,7 +314,10 @@ export class Hall {
     return seat;
   }
 
-  /** Asks for a lock. Returns whether this tab has it from now on. */
+  /**
+   * Asks for a lock. Returns whether this tab has it from now on.
+   * @type {(name: string, options: LockOptions) => Promise<boolean>}
+   */
   lock(name, options) {
     return new Promise((done, failed) => {
       navigator.locks
@@ -264,9 +329,10 @@ export class Hall {
     });
   }
 
+  /** @type {(seat: Seat) => Promise<void>} */
   async stopOrGoOn(seat) {
     if (!seat.isStopped) {
-      seat.recorder.stop();
+      seat.recording.stop();
       return;
     }
     if (seat.port) {
@@ -276,20 +342,26 @@ export class Hall {
     await this.devices.choose(seat);
   }
 
-  /** Removes a board, with its games, or a capture. If the browser can't, the board is recorded as before. */
+  /**
+   * Removes a board, with its games, or a capture. If the browser can't, the board is recorded as before.
+   * @type {(seat: Seat | Shown) => Promise<void>}
+   */
   async remove(seat) {
     if (!seat.isCapture) await seat.remove();
     this.seats.delete(seat.id);
     if (!seat.isCapture) {
       const name = `dgt_recorder board ${seat.id}`;
-      if (this.locks.has(name)) this.locks.get(name)();
+      this.locks.get(name)?.();
       this.locks.delete(name);
       this.folders.round();
     }
     this.changed();
   }
 
-  /** Shows a capture as a board. */
+  /**
+   * Shows a capture as a board.
+   * @type {(fileName: string, content: Uint8Array) => Promise<Shown>}
+   */
   async showCapture(fileName, content) {
     const shown = new Shown(this.calls, this.freeNumber(), fileName, content);
     await shown.read();
@@ -300,7 +372,10 @@ export class Hall {
 
   // What is edited.
 
-  /** Takes what was typed for a tag. A tag that all boards share is set where nothing is there yet, too. */
+  /**
+   * Takes what was typed for a tag. A tag that all boards share is set where nothing is there yet, too.
+   * @type {(seat: Seat | Shown, name: string, typed: string) => Promise<void>}
+   */
   async edit(seat, name, typed) {
     const players = () => nameOfPlayers(written(seat.options, 'White'), written(seat.options, 'Black'));
     const before = players();
@@ -313,14 +388,20 @@ export class Hall {
     this.changed();
   }
 
-  /** Its files have this name from now on. */
+  /**
+   * Its files have this name from now on.
+   * @type {(seat: Seat | Shown, typed: string) => Promise<void>}
+   */
   async rename(seat, typed) {
     const name = freeName(typed, this.names().filter((other) => other !== seat.name));
     if (name !== seat.name) await seat.edit({ name });
     this.changed();
   }
 
-  /** This name, or one like it that no game has. */
+  /**
+   * This name, or one like it that no game has.
+   * @type {(typed: string) => string}
+   */
   freeName(typed) {
     return freeName(typed, this.names());
   }
@@ -346,11 +427,13 @@ export class Hall {
 
   // What a seat reports and asks.
 
+  /** @type {(name: string) => string} */
   nextName(name) {
     const match = /^(.*)-([0-9]{1,4})$/.exec(name);
     return freeName(match ? `${match[1]}-${Number(match[2]) + 1}` : `${name}-2`, this.names());
   }
 
+  /** @type {(number: string, asks: Seat) => Recorded | null} */
   seatOf(number, asks) {
     return this.recorded().find((seat) => seat !== asks && seat.serial === number) || null;
   }

@@ -9,19 +9,30 @@ import { withAdded } from '../game/times.js';
 import { spread } from '../kept/spread.js';
 import { message } from '../../live/web/page/message.js';
 
-/** The last game of a board before the one that is on, if it has no result; else null. */
+/**
+ * @typedef {import('../board/recorder.js').Finished} Finished
+ * @typedef {import('./hall.js').Hall} Hall
+ */
+
+/**
+ * The last game of a board before the one that is on, if it has no result; else null.
+ * @type {(finished: Finished[]) => Finished | null}
+ */
 export function unended(finished) {
   const last = finished[finished.length - 1];
   return last && /^\[Result "\*"\]$/m.test(last.pgn) && !forfeitOf(last.forfeit, last.pgn) ? last : null;
 }
 
-/** Gives a result to a game that is over. Throws Refused if the game can't have it. */
+/**
+ * Gives a result to a game that is over. Throws Refused if the game can't have it.
+ * @type {(hall: Hall, game: Finished, outcome: string) => Promise<void>}
+ */
 export async function giveResult(hall, game, outcome) {
-  const sent = game.bytes.subarray(0, game.end);
+  const sent = game.bytes.subarray(0, Number(game.end));
   const said = readAnswer('add', await hall.calls.add(game.options, sent, outcome));
   const { put } = said;
   if (!put) throw refuse(said, outcome, '');
-  const bytes = joined(sent, put, game.bytes.subarray(game.end));
+  const bytes = joined(sent, put, game.bytes.subarray(Number(game.end)));
   const end = sent.length + put.length;
   const text = await textOf(hall.calls, game.options, bytes.subarray(0, end));
   const { pgn, bytes: before, times, ...kept } = game;

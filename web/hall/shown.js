@@ -5,7 +5,19 @@ import { optionsOf } from '../game/options.js';
 import { gameOf, textOf } from '../game/reading.js';
 import { Complaint, message } from '../../live/web/page/message.js';
 
+/**
+ * @typedef {import('../game/course.js').Course} Course
+ * @typedef {import('../game/options.js').Options} Options
+ * @typedef {import('../game/program.js').Program} Program
+ */
+
 export class Shown {
+  /**
+   * @param {Program} program
+   * @param {number} id
+   * @param {string} fileName
+   * @param {Uint8Array} content
+   */
   constructor(program, id, fileName, content) {
     this.program = program;
     this.id = id;
@@ -15,6 +27,7 @@ export class Shown {
     this.name = fileName.replace(/\.dgt$/i, '');
     this.pgn = '';
     this.course = null;
+    /** @type {true} */
     this.isCapture = true;
     this.isReady = true;
     this.hasBefore = false;
@@ -45,9 +58,10 @@ export class Shown {
   }
 
   show() {
-    return viewOf(this.id, this, this.course, resting(message('state.capture', { file: this.fileName })));
+    return viewOf(this.id, this, /** @type {Course} */ (this.course), resting(message('state.capture', { file: this.fileName })));
   }
 
+  /** @type {(changes: { options?: Partial<Options>, name?: string }) => Promise<void>} */
   async edit({ options, name }) {
     const before = this.options;
     if (name) this.name = name;

@@ -5,51 +5,86 @@
 import { DISK_FULL, NOT_WRITTEN } from '../board/state.js';
 import { LARGEST } from './limit.js';
 
-/** What keeps something from being written, as the state names it. */
+/**
+ * @typedef {import('../../live/web/page/message.js').Words} Words
+ * @typedef {import('./database.js').Chunk} Chunk
+ * @typedef {import('./database.js').Database} Database
+ */
+
+/** @typedef {{ kept: (count: number) => void, changed: () => void }} Hears */
+
+/**
+ * What keeps something from being written, as the state names it.
+ * @type {(error: Error) => Words}
+ */
 export function troubleOf(error) {
   return error && error.name === 'QuotaExceededError' ? DISK_FULL : NOT_WRITTEN;
 }
 
+const NOBODY = { kept: () => {}, changed: () => {} }; // hears before it is said who does
+
+/** @type {(chunks: Chunk[]) => number} */
 const lengthOf = (chunks) => chunks.reduce((sum, { bytes }) => sum + bytes.length, 0);
 
 /** What a capture has by now. It only grows, so these bytes stay what they are. */
 export class Front {
+  /** @param {Capture} capture */
   constructor(capture) {
     this.capture = capture;
     this.length = capture.size;
   }
 
-  /** Its bytes from one offset to another, to be read. */
+  /**
+   * Its bytes from one offset to another, to be read.
+   * @type {(from: number, to: number) => Uint8Array}
+   */
   subarray(from, to) {
     return this.capture.view(Math.min(to, this.length)).subarray(from);
   }
 
-  /** Whether it begins with this. */
+  /**
+   * Whether it begins with this.
+   * @param {unknown} before
+   * @returns {before is Front}
+   */
   goesOn(before) {
     return before instanceof Front && before.capture === this.capture && before.length <= this.length;
   }
 }
 
 export class Capture {
-  /** It begins with these chunks, which are kept. */
+  /**
+   * It begins with these chunks, which are kept.
+   * @param {Database} database
+   * @param {number} game
+   * @param {Chunk[]} [chunks]
+   */
   constructor(database, game, chunks = []) {
     this.database = database;
     this.game = game;
-    this.hears = null;
+    /** @type {Hears} */
+    this.hears = NOBODY;
     this.content = new Uint8Array(0); // with room behind it
     this.size = 0;
     this.number = 0; // of the next chunk
+    /** @type {[offset: number, at: number][]} */
     this.marks = []; // [offset, at]: from this byte on all came then
     chunks.forEach((chunk) => this.take(chunk));
     this.epoch = database.epoch; // of the database in which all is kept but what waits
+    /** @type {Chunk[]} */
     this.waiting = []; // chunks that aren't kept yet
     this.told = 0; // how many of them were reported all the same
+    /** @type {Promise<void> | null} */
     this.writing = null;
+    /** @type {Words} */
     this.trouble = ''; // why nothing can be kept
     this.why = '';
   }
 
-  /** What the database has of a game. */
+  /**
+   * What the database has of a game.
+   * @type {(database: Database, game: number) => Promise<Capture>}
+   */
   static async read(database, game) {
     const capture = new Capture(database, game);
     for await (const chunks of database.chunks(game)) chunks.forEach((chunk) => capture.take(chunk));
@@ -59,13 +94,17 @@ export class Capture {
   /**
    * `kept(count)` gets how many bytes more are kept, from now on; `changed()` is called when nothing can be kept any more, or
    * again. All that has come by now is known.
+   * @type {(hears: Hears) => void}
    */
   hearBy(hears) {
     this.hears = hears;
     this.told = this.waiting.length;
   }
 
-  /** It goes on with this chunk. */
+  /**
+   * It goes on with this chunk.
+   * @type {(chunk: Chunk) => void}
+   */
   take({ number, at, bytes }) {
     const size = this.size + bytes.length;
     if (size > this.content.length) {
@@ -79,17 +118,26 @@ export class Capture {
     this.number = number + 1;
   }
 
-  /** All that came, or this many bytes. */
+  /**
+   * All that came, or this many bytes.
+   * @type {(end?: number) => Uint8Array}
+   */
   bytes(end = this.size) {
     return this.view(end).slice();
   }
 
-  /** The same, to be read, and neither changed nor handed on: it is no copy. */
+  /**
+   * The same, to be read, and neither changed nor handed on: it is no copy.
+   * @type {(end?: number) => Uint8Array}
+   */
   view(end = this.size) {
     return this.content.subarray(0, Math.min(end, this.size));
   }
 
-  /** The board has sent this, or somebody has added it. */
+  /**
+   * The board has sent this, or somebody has added it.
+   * @type {(bytes: Uint8Array, at: number) => void}
+   */
   append(bytes, at) {
     const chunk = { number: this.number, at, bytes };
     this.take(chunk);
@@ -151,7 +199,10 @@ export class Capture {
     this.epoch = epoch;
   }
 
-  /** All that came, as the database keeps it. */
+  /**
+   * All that came, as the database keeps it.
+   * @type {() => Chunk[]}
+   */
   chunks() {
     const { marks } = this;
     return marks.map(([offset, at], number) => {
@@ -160,7 +211,10 @@ export class Capture {
     });
   }
 
-  /** It can't be kept: it stays in memory, and is reported. */
+  /**
+   * It can't be kept: it stays in memory, and is reported.
+   * @type {(error: Error) => void}
+   */
   fails(error) {
     const news = this.waiting.slice(this.told);
     this.told = this.waiting.length;

@@ -1,6 +1,9 @@
 // Whether somebody has edited the PGN of a game by hand. Pure.
 
-/** The tag pairs but the result's, the result that they give, the words of the moves, and the result after them. */
+/**
+ * The tag pairs but the result's, the result that they give, the words of the moves, and the result after them.
+ * @type {(pgn: string) => { tags: string, named: string, words: string[], result: string }}
+ */
 function partsOf(pgn) {
   const end = pgn.indexOf('\n\n');
   const lines = pgn.slice(0, Math.max(0, end)).split('\n');
@@ -13,6 +16,7 @@ function partsOf(pgn) {
 /**
  * Whether a text found instead of this one is an earlier text of the same game, with fewer moves and no result: replacing it
  * loses nobody's work.
+ * @type {(found: string, now: string) => boolean}
  */
 export function isEarlier(found, now) {
   if (!found) return true;
@@ -22,7 +26,10 @@ export function isEarlier(found, now) {
   return before.words.length < after.words.length ? before.result === '*' : before.result === after.result;
 }
 
-/** The name of the file that keeps an edited text: `game.edited.pgn`, `game.edited-2.pgn`. */
+/**
+ * The name of the file that keeps an edited text: `game.edited.pgn`, `game.edited-2.pgn`.
+ * @type {(name: string, number: number) => string}
+ */
 export function editedName(name, number) {
   return name.replace(/\.pgn$/, number === 1 ? '.edited.pgn' : `.edited-${number}.pgn`);
 }

@@ -7,26 +7,53 @@ import { editedName, isEarlier } from './edited.js';
 import { otherName } from './file_names.js';
 import { nextFile, renamedAgain } from './order.js';
 
+/**
+ * @typedef {import('../loop.js').Loop} Loop
+ * @typedef {import('../loop.js').Timer} Timer
+ * @typedef {import('../../live/web/page/message.js').Words} Words
+ */
+
+/**
+ * What a file is to have; null if it is to go.
+ * @typedef {string | Uint8Array | Front | null} Content
+ */
+
 const PART = 1 << 20; // bytes that are written at a time, since the browser copies them
 const AGAIN = 5.0; // seconds until a file that couldn't be written is tried again
 
-/** How a file was left: whoever writes it changes that. */
+/**
+ * How a file was left: whoever writes it changes that.
+ * @type {(file: File) => string}
+ */
 const stampOf = ({ size, lastModified }) => `${size} ${lastModified}`;
 
 export class Folder {
-  /** `hears` gets trouble(text) with what can't be written, empty once all is, until it is left; and says(text). */
+  /**
+   * `hears` gets trouble(text) with what can't be written, empty once all is, until it is left; and says(text).
+   * @param {Loop} loop
+   * @param {FileSystemDirectoryHandle} handle
+   * @param {{ trouble: (text: Words) => void, says: (text: Words) => void }} hears
+   */
   constructor(loop, handle, hears) {
     this.loop = loop;
     this.handle = handle;
     this.hears = hears;
+    /** @type {Map<string, Content>} */
     this.written = new Map(); // the last content of each file
+    /** @type {Map<string, string>} */
     this.left = new Map(); // how this page has left each file that may be gone on with
+    /** @type {Map<string, Content>} */
     this.waiting = new Map(); // the newest content of each file
-    this.writing = null; // { name, content } of the file that is being written
+    /** @type {{ name: string, content: Content } | null} */
+    this.writing = null; // the file that is being written
+    /** @type {Map<string, string>} */
     this.renamed = new Map(); // the new names of games whose files under an earlier one are to be removed
+    /** @type {Map<string, string[]>} */
     this.before = new Map(); // texts of this page that a file may have had when the page was closed
     this.isWriting = false;
+    /** @type {Words} */
     this.failed = '';
+    /** @type {Timer | null} */
     this.timer = null; // until what couldn't be written is tried again
     this.isLeft = false;
   }
@@ -42,7 +69,10 @@ export class Folder {
     return this.handle.name;
   }
 
-  /** Whether a file of this name is there. */
+  /**
+   * Whether a file of this name is there.
+   * @type {(name: string) => Promise<boolean>}
+   */
   async has(name) {
     try {
       await this.handle.getFileHandle(name);
@@ -52,22 +82,31 @@ export class Folder {
     }
   }
 
-  /** Writes this to the file, now or soon: a text, bytes, or a `Front`; null removes the file. */
+  /**
+   * Writes this to the file, now or soon: a text, bytes, or a `Front`; null removes the file.
+   * @type {(name: string, content: Content) => void}
+   */
   put(name, content) {
     if (this.isLeft) return;
     this.waiting.set(name, content);
     this.write();
   }
 
-  /** The texts of this page that the file may have by now, or soon. */
+  /**
+   * The texts of this page that the file may have by now, or soon.
+   * @type {(name: string) => string[]}
+   */
   textsOf(name) {
     const { written, writing, waiting } = this;
     const now = written.has(name) ? [written.get(name)] : this.before.get(name) || [];
     const soon = [writing && writing.name === name ? writing.content : null, waiting.get(name)];
-    return [...now, ...soon.filter((text) => text)];
+    return /** @type {string[]} */ ([...now, ...soon.filter((text) => text)]);
   }
 
-  /** Removes a game's files under an earlier name, once all are written that were put under its new one. */
+  /**
+   * Removes a game's files under an earlier name, once all are written that were put under its new one.
+   * @type {(earlier: string, name: string) => void}
+   */
   rename(earlier, name) {
     this.renamed = renamedAgain(this.renamed, earlier, name);
     for (const ending of ['pgn', 'dgt', 'times']) this.put(`${earlier}.${ending}`, null);
@@ -76,10 +115,11 @@ export class Folder {
   async write() {
     if (this.isWriting) return;
     this.isWriting = true;
+    /** @type {Map<string, Words>} */
     const tried = new Map(); // what can't be written, and why
     const next = () => nextFile(this.waiting, tried, this.renamed);
     for (let name = next(); name; name = next()) {
-      const content = this.waiting.get(name);
+      const content = /** @type {Content} */ (this.waiting.get(name));
       this.waiting.delete(name);
       this.writing = { name, content };
       try {
@@ -107,6 +147,7 @@ export class Folder {
     });
   }
 
+  /** @type {(name: string, content: Content) => Promise<void>} */
   async writeOne(name, content) {
     if (content === null) {
       await this.handle.removeEntry(name).catch((error) => {
@@ -114,9 +155,9 @@ export class Folder {
       });
       return;
     }
-    if (name.endsWith('.pgn')) await this.keepEdited(name, content);
-    if (name.endsWith('.dgt')) await this.keepLonger(name, content);
-    if (name.endsWith('.times')) await this.keepOther(name, content);
+    if (name.endsWith('.pgn')) await this.keepEdited(name, /** @type {string} */ (content));
+    if (name.endsWith('.dgt')) await this.keepLonger(name, /** @type {Uint8Array | Front} */ (content));
+    if (name.endsWith('.times')) await this.keepOther(name, /** @type {string} */ (content));
     const file = await this.handle.getFileHandle(name, { create: true });
     const from = await this.hasFront(name, content, file);
     const stream = await file.createWritable({ keepExistingData: from > 0 }); // another file, which replaces this one when it is closed
@@ -136,14 +177,20 @@ export class Folder {
     if (left && left.size === content.length) this.left.set(name, stampOf(left));
   }
 
-  /** How many bytes a file has already of what it is to have: those that this page has left there. */
+  /**
+   * How many bytes a file has already of what it is to have: those that this page has left there.
+   * @type {(name: string, content: Content, file: FileSystemFileHandle) => Promise<number>}
+   */
   async hasFront(name, content, file) {
     const before = this.written.get(name);
     if (!(content instanceof Front) || !content.goesOn(before)) return 0;
     return this.left.get(name) === stampOf(await file.getFile()) ? before.length : 0;
   }
 
-  /** Keeps a text that somebody has edited by hand under another name, before a new one replaces it. */
+  /**
+   * Keeps a text that somebody has edited by hand under another name, before a new one replaces it.
+   * @type {(name: string, content: string) => Promise<void>}
+   */
   async keepEdited(name, content) {
     const found = await this.textOf(name);
     if (found === null || found === this.written.get(name)) return;
@@ -156,7 +203,10 @@ export class Folder {
     this.hears.says(message('filed.kept_edited', { file: name, kept }));
   }
 
-  /** Keeps a capture that this page hasn't written under another name, before one that has less replaces it. */
+  /**
+   * Keeps a capture that this page hasn't written under another name, before one that has less replaces it.
+   * @type {(name: string, content: Uint8Array | Front) => Promise<void>}
+   */
   async keepLonger(name, content) {
     if (this.written.has(name)) return;
     if ((await this.sizeOf(name)) <= content.length) return;
@@ -166,7 +216,10 @@ export class Folder {
     this.hears.says(message('filed.kept_longer', { file: name, kept }));
   }
 
-  /** Keeps times that this page hasn't written under another name, before others replace them. */
+  /**
+   * Keeps times that this page hasn't written under another name, before others replace them.
+   * @type {(name: string, content: string) => Promise<void>}
+   */
   async keepOther(name, content) {
     if (this.written.has(name)) return;
     const found = await this.bytesOf(name);
@@ -178,30 +231,41 @@ export class Folder {
     this.hears.says(message('filed.kept_times', { file: name, kept, nothing: NOTHING }));
   }
 
-  /** A free name for a capture as it was before. */
+  /**
+   * A free name for a capture as it was before.
+   * @type {(name: string) => Promise<string>}
+   */
   async freeBefore(name) {
     let number = 1;
     while (await this.has(`${name}.before-${number}.dgt`)) number += 1;
     return `${name}.before-${number}.dgt`;
   }
 
+  /** @type {(name: string) => Promise<string | null>} */
   async textOf(name) {
     const file = await this.fileOf(name);
     return file && file.text();
   }
 
+  /** @type {(name: string) => Promise<Uint8Array | null>} */
   async bytesOf(name) {
     const file = await this.fileOf(name);
     return file && new Uint8Array(await file.arrayBuffer());
   }
 
-  /** How many bytes a file has; 0 if it isn't there. */
+  /**
+   * How many bytes a file has; 0 if it isn't there.
+   * @type {(name: string) => Promise<number>}
+   */
   async sizeOf(name) {
     const file = await this.fileOf(name);
     return file ? file.size : 0;
   }
 
-  /** A file; null if it isn't there. */
+  /**
+   * A file; null if it isn't there.
+   * @type {(name: string) => Promise<File | null>}
+   */
   async fileOf(name) {
     try {
       return await (await this.handle.getFileHandle(name)).getFile();

@@ -8,21 +8,46 @@ import { Complaint, isSame, message } from '../../live/web/page/message.js';
 import { otherName } from './file_names.js';
 import { LARGEST } from './limit.js';
 
+/**
+ * @typedef {import('../game/times.js').Counted} Counted
+ * @typedef {import('../game/times.js').Found} Found
+ * @typedef {import('../game/times.js').Noted} Noted
+ * @typedef {import('../guard.js').Guard} Guard
+ * @typedef {import('../loop.js').Timer} Timer
+ * @typedef {import('../../live/web/page/message.js').Words} Words
+ * @typedef {import('./capture.js').Capture} Capture
+ * @typedef {import('./database.js').Database} Database
+ * @typedef {import('./database.js').Game} Game
+ * @typedef {import('./database.js').Row} Row
+ */
+
+/** @typedef {{ name: string, keeping: Promise<void> | null, isUnkept: boolean, says: (text: Words) => void }} Hears */
+
 const GATHERED = 0.2; // seconds in which events are gathered; the line of a move is on the screen by then
 const OFTEN = 1.0; // the same of those that come again and again
 const AGAIN = 1.0; // seconds until what couldn't be kept is tried again
 const MOST_WAIT = 1000; // events that wait for the first bytes of a capture
 const DUMP = 67; // bytes of a capture that the heading waits for
 
-/** What the database has of a game's times, in one text. */
+/** @type {(what: string) => [what: string, count: null]} */
+const alone = (what) => [what, null];
+
+/**
+ * What the database has of a game's times, in one text.
+ * @type {(rows: Row[]) => string}
+ */
 export function textOf(rows) {
   return rows.map(({ text }) => text).join('');
 }
 
 export class Times {
   /**
-   * Those of a game's capture. `hears` has name, the game's; keeping, a promise that ends when the game's record is kept, and
-   * isUnkept if it isn't; and gets says(text). Nothing is kept before goOn().
+   * Those of a game's capture. Nothing is kept before goOn().
+   * @param {Database} database
+   * @param {Guard} guard
+   * @param {Game} game
+   * @param {Capture} capture
+   * @param {Hears} hears
    */
   constructor(database, guard, game, capture, hears) {
     this.database = database;
@@ -37,16 +62,22 @@ export class Times {
     this.edition = 0; // how often lines that may be kept were changed
     this.other = ''; // what isn't of this capture, until it is kept beside
     this.epoch = database.epoch; // of the database that has the rows
+    /** @type {Noted[]} */
     this.events = []; // without lines yet, by the clock's own time
     this.from = 0; // when the call began to which the first of them belongs, by that clock
     this.began = 0; // when this call began
+    /** @type {[what: string, count: number | null][]} */
     this.begun = []; // what was noted then, [what, how much]
     this.before = ''; // all lines from before that
     this.last = 0; // when something was noted last
+    /** @type {string[]} */
     this.line = []; // what was last noted of the cable
+    /** @type {Timer | null} */
     this.timer = null;
+    /** @type {Promise<void> | null} */
     this.writing = null;
     this.isHeld = true; // whether nothing is kept now
+    /** @type {Words} */
     this.trouble = ''; // why it can't be kept
   }
 
@@ -57,8 +88,8 @@ export class Times {
   // What is there when a game is opened.
 
   /**
-   * A call begins, behind these rows of the database, [{ number, at, text }]; null if they can't be read. Or behind rows of which the
-   * database may lack some.
+   * A call begins, behind these rows of the database, of which it may lack some; null if they can't be read.
+   * @type {(rows: Row[] | null, mayLack: boolean) => void}
    */
   open(rows, mayLack) {
     try {
@@ -71,7 +102,10 @@ export class Times {
     }
   }
 
-  /** Takes over what is there, and returns for how many milliseconds nobody was; null if that isn't known. */
+  /**
+   * Takes over what is there, and returns for how many milliseconds nobody was; null if that isn't known.
+   * @type {(rows: Row[] | null) => number | null}
+   */
   look(rows) {
     if (rows === null) throw new Complaint(message('keep.unreadable'));
     const text = textOf(rows);
@@ -102,6 +136,7 @@ export class Times {
   /**
    * A call begins, or the game goes on from another capture. It has so many bytes, and then so many more that are added; and then these
    * words are noted. The program that attends the board is told the same.
+   * @type {(away?: number | null, size?: number, added?: number, words?: string[]) => void}
    */
   begin(away = null, size = this.capture.size, added = 0, words = []) {
     this.gather(true);
@@ -110,10 +145,10 @@ export class Times {
     this.last = this.began;
     this.begun = [[BEGIN, size]];
     if (away !== null) this.begun.push([AWAY, away]);
-    this.begun.push(...this.line.map((what) => [what, null]));
+    this.begun.push(...this.line.map(alone));
     if (added > 0) this.begun.push([ADDED, added]);
-    this.begun.push(...words.map((what) => [what, null]));
-    this.events.push(...this.begun.map(([what, count]) => [this.began, what, count]));
+    this.begun.push(...words.map(alone));
+    for (const [what, count] of this.begun) this.events.push([this.began, what, count]);
     this.writeSoon();
   }
 
@@ -122,7 +157,10 @@ export class Times {
     this.begin(Math.max(0, this.guard.counted() - this.last));
   }
 
-  /** This has happened then, by the clock that counts on. */
+  /**
+   * This has happened then, by the clock that counts on.
+   * @type {(what: string, count?: number | null, at?: number) => void}
+   */
   note(what, count = null, at = this.guard.counted()) {
     this.last = Math.max(at, this.last);
     if (count === null) this.line = lineAfter(this.line, what);
@@ -134,7 +172,7 @@ export class Times {
   isNotOver() {
     this.gather();
     if (!this.text) return;
-    this.text = cut(this.text, kept(this.text), this.capture.size, this.capture.bytes(HEADED));
+    this.text = cut(this.text, /** @type {Found} */ (kept(this.text)), this.capture.size, this.capture.bytes(HEADED));
     this.isAnew = true;
     this.edition += 1;
     this.writeSoon();
@@ -142,7 +180,10 @@ export class Times {
 
   // When the capture becomes another one.
 
-  /** Those of a new game; or of this game's new capture: then nobody was away. The board has shown what it has. */
+  /**
+   * Those of a new game; or of this game's new capture: then nobody was away. The board has shown what it has.
+   * @type {(game: Game, capture: Capture, away?: number | null, words?: string[]) => Times}
+   */
   next(game, capture, away = null, words = []) {
     const times = this.of(game, capture);
     times.begin(away, 0, capture.size, words);
@@ -152,12 +193,16 @@ export class Times {
   /**
    * Those of a new capture that begins with so many bytes of this one, or of the one with these lines; then come those that somebody
    * has added, if any.
+   * @type {(size: number, game: Game, capture: Capture, added?: number, text?: string) => Times}
    */
   upTo(size, game, capture, added = 0, text = this.all) {
     const times = this.of(game, capture);
-    if (text) times.text = cut(text, kept(text), size, capture.bytes(Math.min(HEADED, size)));
+    if (text) times.text = cut(text, /** @type {Found} */ (kept(text)), size, capture.bytes(Math.min(HEADED, size)));
+    /** @type {Counted[]} */
     const over = game.end === null ? [] : [[OVER, game.end]];
-    const [[, begins], ...events] = added > 0 ? adding(size, added, capture.size) : [[BEGIN, capture.size], ...over];
+    /** @type {Counted} */
+    const begin = [BEGIN, capture.size];
+    const [[, begins], ...events] = added > 0 ? adding(size, added, capture.size) : [begin, ...over];
     times.begin(0, begins);
     if (events.length === 0) return times;
     events.forEach(([what, count]) => times.note(what, count));
@@ -165,6 +210,7 @@ export class Times {
     return times;
   }
 
+  /** @type {(game: Game, capture: Capture) => Times} */
   of(game, capture) {
     const times = new Times(this.database, this.guard, game, capture, this.hears);
     times.line = this.line;
@@ -180,7 +226,10 @@ export class Times {
     return this.text;
   }
 
-  /** Makes lines of what has happened; before the capture has a dump only if they are wanted. */
+  /**
+   * Makes lines of what has happened; before the capture has a dump only if they are wanted.
+   * @type {(areWanted?: boolean) => void}
+   */
   gather(areWanted = false) {
     const isTooEarly = !this.text && this.capture.size < (areWanted ? 1 : DUMP) && this.events.length < MOST_WAIT;
     if (this.events.length === 0 || isTooEarly) return;
@@ -202,7 +251,10 @@ export class Times {
     return { number: 0, at: Date.now(), text: this.all };
   }
 
-  /** That row is kept. What was noted meanwhile with those before is noted here too. */
+  /**
+   * That row is kept. What was noted meanwhile with those before is noted here too.
+   * @type {(row: Row, before: Times) => void}
+   */
   goOnFrom(row, before) {
     this.size = row.text.length;
     this.number = 1;
@@ -224,6 +276,7 @@ export class Times {
     this.writeSoon();
   }
 
+  /** @type {(seconds?: number) => void} */
   writeSoon(seconds = GATHERED) {
     if (this.isHeld || (this.timer && this.timer.when <= this.guard.now() + seconds)) return;
     if (this.timer) this.timer.cancel();
@@ -270,7 +323,10 @@ export class Times {
     if (this.events.length > 0 || this.isAnew) this.writeSoon();
   }
 
-  /** It can't be kept: it waits in memory. */
+  /**
+   * It can't be kept: it waits in memory.
+   * @type {(error: Error) => void}
+   */
   fails(error) {
     const why = error.message || String(error);
     if (!isSame(why, this.trouble)) this.hears.says(toldOfTrouble(this.name, why));

@@ -16,33 +16,51 @@ const TABLE = Uint32Array.from({ length: 256 }, (_, byte) => {
   return rest;
 });
 
-/** CRC-32. */
+/**
+ * CRC-32.
+ * @type {(content: Uint8Array) => number}
+ */
 export function checksum(content) {
   let state = 0xffffffff;
   for (const byte of content) state = (state >>> 8) ^ TABLE[(state ^ byte) & 0xff];
   return (state ^ 0xffffffff) >>> 0;
 }
 
-/** Numbers of two bytes or four, the lowest byte first: [[size, number], ..]. */
+/**
+ * Numbers of two bytes or four, the lowest byte first: [[size, number], ..].
+ * @typedef {[size: number, number: number]} Field
+ * @type {(...fields: Field[]) => Uint8Array}
+ */
 function numbers(...fields) {
   return Uint8Array.from(fields.flatMap(([size, number]) => Array.from({ length: size }, (_, at) => (number >>> (8 * at)) & 0xff)));
 }
 
-/** A time of day and a date as MS-DOS has them: to two seconds, by the clock on the wall. */
+/**
+ * A time of day and a date as MS-DOS has them: to two seconds, by the clock on the wall.
+ * @type {(date: Date) => [time: number, day: number]}
+ */
 function stamp(date) {
   const time = (date.getHours() << 11) | (date.getMinutes() << 5) | (date.getSeconds() >> 1);
   return [time, (Math.max(0, date.getFullYear() - 1980) << 9) | ((date.getMonth() + 1) << 5) | date.getDate()];
 }
 
-/** The archive of these files, [{ name, content }] with bytes or texts, written at this time. */
+/**
+ * The archive of these files, written at this time.
+ * @type {(files: { name: string, content: string | Uint8Array }[], date: Date) => Uint8Array}
+ */
 export function zipped(files, date) {
   const [time, day] = stamp(date);
-  const [parts, entries] = [[], []];
+  /** @type {Uint8Array[]} */
+  const parts = [];
+  /** @type {Uint8Array[]} */
+  const entries = [];
   let at = 0;
   for (const { name, content } of files) {
     const bytes = typeof content === 'string' ? new TextEncoder().encode(content) : content;
     const letters = new TextEncoder().encode(name);
+    /** @type {Field[]} */
     const sizes = [[4, checksum(bytes)], [4, bytes.length], [4, bytes.length], [2, letters.length], [2, 0]];
+    /** @type {Field[]} */
     const both = [[2, VERSION], [2, UTF_8], [2, STORED], [2, time], [2, day], ...sizes];
     parts.push(numbers([4, FILE], ...both), letters, bytes);
     entries.push(numbers([4, ENTRY], [2, VERSION], ...both, [2, 0], [2, 0], [2, 0], [4, 0], [4, at]), letters);

@@ -4,11 +4,16 @@
 import { element } from '../../live/web/page/diagram.js';
 import { at } from './elements.js';
 
+/** @typedef {import('../../live/web/page/message.js').Words} Words */
+
 const KEPT = 8; // lines
 
-/** Reads it out; an alarm at once, and anything else after what is being read. */
+/**
+ * Reads it out; an alarm at once, and anything else after what is being read.
+ * @type {(text: Words, isAlarm?: boolean) => void}
+ */
 export function announce(text, isAlarm = false) {
   const place = at(isAlarm ? 'called' : 'said');
   place.append(element('p', '', text));
-  while (place.children.length > KEPT) place.firstElementChild.remove();
+  while (place.children.length > KEPT) place.firstElementChild?.remove();
 }

@@ -7,7 +7,13 @@ import { Large } from '../../live/web/page/large.js';
 import { Tile } from '../../live/web/page/tile.js';
 import { linked, message, plural } from '../../live/web/page/message.js';
 import { announce } from './announcer.js';
-import { at } from './elements.js';
+import { all, at } from './elements.js';
+
+/**
+ * @typedef {import('../hall/hall.js').Hall} Hall
+ * @typedef {import('../../live/web/page/tile.js').Board} View
+ * @typedef {import('./panel.js').Panel} Panel
+ */
 
 const SURELY = 0.1; // seconds until news are drawn at the latest
 const MOST_LINKS = 12; // boards that the line of alarms names
@@ -15,14 +21,22 @@ const SOON = 0.25; // the same of all else, which is drawn together
 
 export class Cards {
   constructor() {
-    this.hall = null;
-    this.panel = null;
+    // What main.js sets.
+    /** @type {Hall} */
+    this.hall;
+    /** @type {Panel} */
+    this.panel;
+    /** @type {Map<number, Tile>} */
     this.tiles = new Map();
+    /** @type {Map<number, { view: View, text: string }>} */
     this.shown = new Map(); // the last view of each board, and its text
+    /** @type {number | null} */
     this.open = null; // the number of the board that is large
+    this.count = 0; // boards that were drawn last
     this.columns = 1;
     this.scrolled = 0;
     this.isAsked = false;
+    /** @type {Set<number>} */
     this.news = new Set(); // the boards that the next frame draws; `isNext`: whether one was asked for
     this.isNext = false;
     this.areAll = false; // whether the next frame draws all; `isLater`: whether all are drawn soon
@@ -36,7 +50,7 @@ export class Cards {
     });
     window.addEventListener('resize', () => this.size());
     const above = new ResizeObserver(() => this.size());
-    [document.querySelector('header'), at('notices')].forEach((one) => above.observe(one));
+    [...all('header'), at('notices')].forEach((one) => above.observe(one));
     document.addEventListener('keydown', (event) => this.press(event));
     window.setInterval(() => this.showTimes(), 1000);
   }
@@ -44,6 +58,7 @@ export class Cards {
   /**
    * What is shown may have changed, of a board if it has a number. News are drawn with the next frame, those of a board on its card alone;
    * all else soon.
+   * @type {(hall: Hall, isNews?: boolean, number?: number | null) => void}
    */
   show(hall, isNews = true, number = null) {
     this.hall = hall;
@@ -74,7 +89,7 @@ export class Cards {
     this.news.clear();
     if (this.areAll) this.draw();
     else news.filter((number) => this.tiles.has(number)).forEach((number) => this.drawOne(this.hall.view(number)));
-    if (!this.areAll && news.includes(this.open)) this.panel.show(this.hall.seat(this.open));
+    if (!this.areAll && this.open !== null && news.includes(this.open)) this.panel.show(this.hall.seat(this.open));
     this.areAll = false;
   }
 
@@ -102,17 +117,22 @@ export class Cards {
     if (this.open !== null) this.panel.show(this.hall.seat(this.open));
   }
 
-  /** The card of a board, which may be new, has this place. */
+  /**
+   * The card of a board, which may be new, has this place.
+   * @type {(number: number, index: number) => void}
+   */
   place(number, index) {
-    if (!this.tiles.has(number)) this.tiles.set(number, new Tile(number, this.now));
-    const { root } = this.tiles.get(number);
+    const tile = this.tiles.get(number) || new Tile(number, this.now);
+    this.tiles.set(number, tile);
+    const { root } = tile;
     const place = at('boards').children[index] || null;
     if (place !== root) at('boards').insertBefore(root, place);
   }
 
+  /** @type {(view: View | null) => void} */
   drawOne(view) {
-    if (!view) return; // it is just being removed
-    const tile = this.tiles.get(view.number);
+    const tile = view && this.tiles.get(view.number);
+    if (!tile) return; // it is just being removed
     const text = JSON.stringify(view);
     const before = this.shown.get(view.number);
     if (before && before.text === text) return;
@@ -130,7 +150,10 @@ export class Cards {
     document.body.classList.toggle('live', isLive);
   }
 
-  /** The boards to which somebody must go, each as a link. */
+  /**
+   * The boards to which somebody must go, each as a link.
+   * @type {(views: View[]) => void}
+   */
   showAlarms(views) {
     const numbers = views.filter(({ alarm }) => alarm).map(({ number }) => number);
     const place = at('alarms');
@@ -139,16 +162,19 @@ export class Cards {
     if (place.dataset.numbers === numbers.join()) return;
     place.dataset.numbers = numbers.join();
     place.hidden = numbers.length === 0;
-    place.replaceChildren(plural('label.look_at', numbers.length));
+    place.replaceChildren(String(plural('label.look_at', numbers.length)));
     for (const number of numbers.slice(0, MOST_LINKS)) {
       const link = element('a', '', String(number));
       link.href = `#${number}`;
       place.append(' ', link);
     }
-    if (numbers.length > MOST_LINKS) place.append(' ', message('ask.and_more', { count: numbers.length - MOST_LINKS }));
+    if (numbers.length > MOST_LINKS) place.append(' ', String(message('ask.and_more', { count: numbers.length - MOST_LINKS })));
   }
 
-  /** What a screen reader reads out: the alarms of all boards, and the moves and the result of the large one. */
+  /**
+   * What a screen reader reads out: the alarms of all boards, and the moves and the result of the large one.
+   * @type {(board: View, before: View) => void}
+   */
   announce(board, before) {
     const name = message('label.board', { board: board.number });
     if (board.alarm && (!before.alarm || board.state !== before.state)) announce(linked('colon', [name, board.state]), true);
@@ -175,22 +201,23 @@ export class Cards {
       this.open = wanted;
       at('boards').hidden = true;
       this.large.open(found.view);
-      this.panel.open(this.hall.seat(wanted));
+      const seat = this.hall.seat(wanted);
+      if (seat) this.panel.open(seat);
       document.body.classList.add('one');
       if (this.isAsked) {
         window.scrollTo(0, 0);
         this.large.root.focus({ preventScroll: true });
       }
     } else if (!found && (this.open !== null || at('boards').hidden)) {
-      const before = this.open;
+      const before = this.open === null ? undefined : this.tiles.get(this.open);
       this.open = null;
       this.large.close();
       this.panel.close();
       document.body.classList.remove('one');
       at('boards').hidden = this.tiles.size === 0;
       this.size();
-      if (this.isAsked && this.tiles.has(before)) {
-        this.tiles.get(before).link.focus({ preventScroll: true });
+      if (this.isAsked && before) {
+        before.link.focus({ preventScroll: true });
         window.scrollTo(0, this.scrolled);
       }
     }
@@ -204,17 +231,18 @@ export class Cards {
   /** Shows how long states have lasted. */
   showTimes() {
     for (const [number, tile] of this.tiles) {
-      const { view } = this.shown.get(number);
-      if (view.alarm) tile.showState(view);
+      const shown = this.shown.get(number);
+      if (shown && shown.view.alarm) tile.showState(shown.view);
     }
     if (this.open !== null && this.large.board) this.large.showState();
   }
 
   // Keys.
 
+  /** @type {(event: KeyboardEvent) => void} */
   press(event) {
     if (event.ctrlKey || event.altKey || event.metaKey || event.defaultPrevented) return;
-    const { target } = event;
+    const target = /** @type {HTMLInputElement} */ (event.target);
     if (target.closest('dialog')) return;
     if (event.key === 'Escape' && target.matches('input:not([type="checkbox"])') && target.value) {
       this.panel.leave(target);
@@ -228,9 +256,10 @@ export class Cards {
     }
   }
 
+  /** @type {(key: string) => boolean} */
   pressOnGrid(key) {
     const links = [...this.tiles.values()].map((tile) => tile.link);
-    const next = placeAfter(key, links.indexOf(document.activeElement), [links.length], this.columns);
+    const next = placeAfter(key, links.indexOf(/** @type {HTMLAnchorElement} */ (document.activeElement)), [links.length], this.columns);
     if (next === undefined) return false;
     if (links[next]) links[next].focus();
     return true;

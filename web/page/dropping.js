@@ -4,12 +4,21 @@ import { LARGEST } from '../kept/limit.js';
 import { Complaint, message } from '../../live/web/page/message.js';
 import { at } from './elements.js';
 
+/**
+ * @typedef {import('../hall/hall.js').Hall} Hall
+ * @typedef {import('./messages.js').Messages} Messages
+ */
+
 export class Dropping {
+  /**
+   * @param {Hall} hall
+   * @param {Messages} messages
+   */
   constructor(hall, messages) {
     this.hall = hall;
     this.messages = messages;
     at('open').addEventListener('change', () => {
-      this.take([...at('open').files]);
+      this.take([...(at('open').files || [])]);
       at('open').value = '';
     });
     const root = document.documentElement;
@@ -23,10 +32,11 @@ export class Dropping {
     document.addEventListener('drop', (event) => {
       event.preventDefault();
       root.classList.remove('dropping');
-      this.take([...event.dataTransfer.files]);
+      this.take([...(event.dataTransfer?.files || [])]);
     });
   }
 
+  /** @type {(files: File[]) => Promise<void>} */
   async take(files) {
     for (const file of files) {
       try {
@@ -38,6 +48,7 @@ export class Dropping {
     }
   }
 
+  /** @type {(name: string, bytes: Uint8Array) => Promise<void>} */
   async show(name, bytes) {
     const seat = await this.hall.showCapture(name, bytes);
     window.location.hash = `#${seat.id}`;

@@ -1,6 +1,6 @@
 // The page that records: it opens what is kept, seats its boards, and connects buttons with what they do.
 
-import { drawPieces } from '../../live/web/page/diagram.js';
+import { drawPieces, say } from '../../live/web/page/diagram.js';
 import { Hall } from '../hall/hall.js';
 import { missingDevice, systemOf, whichDevice } from '../device/systems.js';
 import { lacking } from '../game/program.js';
@@ -13,17 +13,20 @@ import { Panel } from './panel.js';
 import { RoundDialog } from './round_dialog.js';
 import { at, bytesIn, failed } from './elements.js';
 
+/** @type {(name: string) => string} */
+const textIn = (name) => at(name).textContent || '';
 
 async function begin() {
   drawPieces();
   const messages = new Messages();
   const cards = new Cards();
-  const hall = new Hall(at('worker').textContent, at('module').textContent.trim(), {
+  /** @type {Hall} */
+  const hall = new Hall(textIn('worker'), textIn('module').trim(), {
     changed: (isNews, number) => {
       cards.show(hall, isNews, number);
       at('add').disabled = !navigator.serial || !hall.database || !hall.isReady;
     },
-    says: (text, number, isMove) => messages.say(text, number, isMove),
+    says: (text, number) => messages.say(text, number),
     notice: (...given) => messages.notice(...given),
     newRound: () => dialog.open(),
     names: (number) => {
@@ -31,6 +34,7 @@ async function begin() {
       at('details').open = true;
     },
   });
+  /** @type {RoundDialog} */
   const dialog = new RoundDialog(hall);
   cards.hall = hall;
   cards.panel = new Panel(hall, messages);
@@ -40,9 +44,9 @@ async function begin() {
   at('folder').addEventListener('click', () => hall.folders.choose().catch(failed(messages, message('failed.folder'))));
   at('save-round').addEventListener('click', () => hall.saveRound().catch(failed(messages, message('failed.save_games'))));
   at('new-round').addEventListener('click', () => dialog.open());
-  at('sample').addEventListener('click', () => dropping.show('short-game.dgt', bytesIn(at('short-game').textContent)));
+  at('sample').addEventListener('click', () => dropping.show('short-game.dgt', bytesIn(textIn('short-game'))));
 
-  at('which').textContent = linked('space', [whichDevice(systemOf(navigator)), missingDevice(systemOf(navigator))]);
+  say(at('which'), linked('space', [whichDevice(systemOf(navigator)), missingDevice(systemOf(navigator))]));
 
   if (!navigator.serial) messages.notice('serial', message('browser.no_serial'), [], true);
   const lacks = lacking();
@@ -55,7 +59,7 @@ async function begin() {
   hall.program.ready().catch((error) => messages.notice('module', message('failed.recorder', { why: error.message }), [], true));
   await hall.begin();
   hall.changed();
-  for (const id of ['folder', 'save-round', 'sample', 'open']) at(id).disabled = false;
+  for (const name of /** @type {const} */ (['folder', 'save-round', 'sample', 'open'])) at(name).disabled = false;
   window.addEventListener('beforeunload', (event) => {
     if (hall.isUnsaved) event.preventDefault();
   });
@@ -63,6 +67,7 @@ async function begin() {
 
 begin().catch((error) => {
   console.error(error);
-  at('line').textContent = message('failed.page', { why: error.message || error });
-  announce(at('line').textContent, true);
+  const text = message('failed.page', { why: error.message || error });
+  say(at('line'), text);
+  announce(text, true);
 });

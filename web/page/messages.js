@@ -3,11 +3,19 @@
 import { element } from '../../live/web/page/diagram.js';
 import { isSame, message } from '../../live/web/page/message.js';
 import { announce } from './announcer.js';
-import { at, button } from './elements.js';
+import { all, at, button } from './elements.js';
+
+/**
+ * @typedef {import('../hall/hall.js').Button} Button
+ * @typedef {import('../../live/web/page/message.js').Words} Words
+ */
 
 const KEPT = 300; // lines
 
-/** The large board is so much smaller as these elements above it are high. */
+/**
+ * The large board is so much smaller as these elements above it are high.
+ * @type {(elements: HTMLElement[]) => void}
+ */
 function leaveRoom(elements) {
   const { style } = document.documentElement;
   const observer = new ResizeObserver(() => {
@@ -19,21 +27,28 @@ function leaveRoom(elements) {
 
 export class Messages {
   constructor() {
+    /** @type {Map<string, { text: Words, root: HTMLElement }>} */
     this.notices = new Map();
-    leaveRoom([document.querySelector('header'), at('notices')]);
+    leaveRoom([...all('header'), at('notices')]);
   }
 
-  /** A line, about a board if it has a number. */
+  /**
+   * A line, about a board if it has a number.
+   * @type {(text: Words, number?: number | null) => void}
+   */
   say(text, number = null) {
     const time = new Date().toTimeString().slice(0, 8);
     const line = element('li', '', `${time}  ${number === null ? '' : `${number}: `}${text}`);
     const list = at('messages');
     list.prepend(line);
     at('log').hidden = false;
-    while (list.children.length > KEPT) list.lastElementChild.remove();
+    while (list.children.length > KEPT) list.lastElementChild?.remove();
   }
 
-  /** A notice with this name and buttons: [text, action]; without a text it is removed. */
+  /**
+   * A notice with this name and buttons: [text, action]; without a text it is removed.
+   * @type {(name: string, text: Words, buttons?: Button[], isAlarm?: boolean) => void}
+   */
   notice(name, text, buttons = [], isAlarm = false) {
     const before = this.notices.get(name);
     if (before && isSame(before.text, text)) return;

@@ -8,34 +8,53 @@ import { OF_ALL } from '../game/rounds.js';
 import { allOf } from '../hall/all_of.js';
 import { giveResult } from '../hall/results.js';
 import { linked, message, plural } from '../../live/web/page/message.js';
-import { at, failed } from './elements.js';
+import { all, at, failed } from './elements.js';
 import { save } from './saving.js';
 
+/**
+ * @typedef {import('../game/options.js').Options} Options
+ * @typedef {import('../hall/hall.js').Hall} Hall
+ * @typedef {import('../hall/seat.js').Seat} Seat
+ * @typedef {import('../hall/shown.js').Shown} Shown
+ * @typedef {import('../../live/web/page/message.js').Words} Words
+ * @typedef {import('./messages.js').Messages} Messages
+ */
+
+/** @type {[name: 'rotated' | 'black-first' | 'recover', option: 'rotated' | 'first' | 'recover', on: unknown, off: unknown][]} */
 const CHECKS = [['rotated', 'rotated', true, false], ['black-first', 'first', 'black', null], ['recover', 'recover', true, null]];
 
+const fields = () => /** @type {NodeListOf<HTMLInputElement>} */ (all('[data-tag]'));
+
+/** @type {(why: Words) => Words} */
 const refused = (why) => message('refused.why', { why });
 
 export class Panel {
+  /**
+   * @param {Hall} hall
+   * @param {Messages} messages
+   */
   constructor(hall, messages) {
     this.hall = hall;
     this.messages = messages;
+    /** @type {Seat | Shown | null} */
     this.seat = null;
     this.removes = false; // whether the next press on Remove does it
     this.ends = false; // whether the next press on Next game ends a game that goes on
+    /** @type {WeakMap<Seat | Shown, string>} */
     this.drafts = new WeakMap(); // lines that were typed and not entered, by the seats
     at('say').addEventListener('submit', (event) => {
       event.preventDefault();
       this.type(at('typed').value);
     });
-    for (const pressed of document.querySelectorAll('[data-says]')) {
-      pressed.addEventListener('click', () => this.type(pressed.dataset.says));
+    for (const pressed of all('[data-says]')) {
+      pressed.addEventListener('click', () => this.type(String(pressed.dataset.says)));
     }
-    for (const pressed of document.querySelectorAll('[data-before]')) {
-      pressed.addEventListener('click', () => this.giveResult(pressed.dataset.before));
+    for (const pressed of all('[data-before]')) {
+      pressed.addEventListener('click', () => this.giveResult(String(pressed.dataset.before)));
     }
     at('ok').addEventListener('click', () => this.type('ok'));
     at('turned').addEventListener('click', () => this.turnRound());
-    for (const input of document.querySelectorAll('[data-tag]')) {
+    for (const input of fields()) {
       input.addEventListener('change', () => this.edit(input));
     }
     at('name').addEventListener('change', () => this.rename());
@@ -44,20 +63,22 @@ export class Panel {
       at(id).addEventListener('change', () => this.change({ [option]: at(id).checked ? on : off }, at(id)));
     }
     at('save-game').addEventListener('click', () => this.does(this.saveGame(), message('failed.save_game')));
-    at('save-capture').addEventListener('click', () => save(`${this.seat.name}.dgt`, this.seat.bytes(), 'application/octet-stream'));
+    at('save-capture').addEventListener('click', () => this.saveCapture());
     at('save-before').addEventListener('click', () => this.does(this.saveBefore(), message('failed.save_before')));
     at('save-all').addEventListener('click', () => this.does(this.saveAll(), message('failed.save_all')));
     at('next-game').addEventListener('click', () => this.nextGame());
     at('connect').addEventListener('click', () => this.chooseDevice());
     at('choose').addEventListener('click', () => this.chooseDevice());
-    at('stop').addEventListener('click', () => this.does(this.hall.stopOrGoOn(this.seat), message('failed.that')));
+    at('stop').addEventListener('click', () => this.does(this.hall.stopOrGoOn(this.recorded), message('failed.that')));
     at('remove').addEventListener('click', () => this.remove());
   }
 
+  /** @type {(promise: Promise<unknown>, what: Words) => void} */
   does(promise, what) {
     promise.catch(failed(this.messages, what));
   }
 
+  /** @type {(seat: Seat | Shown) => void} */
   open(seat) {
     this.keepDraft();
     this.seat = seat;
@@ -73,24 +94,42 @@ export class Panel {
     this.seat = null;
   }
 
+  /** The board that is open, for what nobody does without one. */
+  get opened() {
+    return /** @type {Seat | Shown} */ (this.seat);
+  }
+
+  /** The same, for what is hidden while a capture is open. */
+  get recorded() {
+    return /** @type {Seat} */ (this.seat);
+  }
+
   keepDraft() {
     if (this.seat) this.drafts.set(this.seat, at('typed').value);
   }
 
-  /** Somebody leaves a field in which something stands: a line stays as it is typed; a name is again what it was. */
+  /**
+   * Somebody leaves a field in which something stands: a line stays as it is typed; a name is again what it was.
+   * @type {(input: HTMLInputElement) => void}
+   */
   leave(input) {
-    if (input !== at('typed')) input.value = input.id === 'name' ? this.seat.name : this.valueOf(input.dataset.tag, this.seat.options);
+    if (input !== at('typed')) {
+      const { name, options } = this.opened;
+      input.value = input.id === 'name' ? name : this.valueOf(String(input.dataset.tag), options);
+    }
     input.blur();
   }
 
+  /** @type {(text: Words, isDone: boolean) => void} */
   answer(text, isDone) {
     say(at('answer'), text);
     at('answer').classList.toggle('refused', !isDone);
     at('for-all').hidden = true;
   }
 
+  /** @type {(text: string) => Promise<void>} */
   async type(text) {
-    const { seat } = this;
+    const seat = this.recorded;
     if (!text.trim()) return;
     const { done, said } = await seat.typed(text);
     if (done && this.drafts.get(seat) === text) this.drafts.delete(seat);
@@ -99,9 +138,12 @@ export class Panel {
     if (done && at('typed').value === text) at('typed').value = ''; // else somebody types the next line already
   }
 
-  /** Gives the game before a result. */
+  /**
+   * Gives the game before a result.
+   * @type {(outcome: string) => Promise<void>}
+   */
   async giveResult(outcome) {
-    const { seat } = this;
+    const seat = this.opened;
     const game = seat.unended;
     if (!game) return;
     try {
@@ -113,7 +155,10 @@ export class Panel {
     this.hall.changed();
   }
 
-  /** Shows a seat's options; fields in which somebody types stay as they are. */
+  /**
+   * Shows a seat's options; fields in which somebody types stay as they are.
+   * @type {(seat: Seat | Shown | undefined, isNew?: boolean) => void}
+   */
   show(seat, isNew = false) {
     if (!seat) return;
     at('panel').classList.toggle('unready', !seat.isReady);
@@ -124,8 +169,8 @@ export class Panel {
     const { options } = seat;
     at('say').hidden = isShown;
     at('recording').hidden = isShown;
-    for (const input of document.querySelectorAll('[data-tag]')) {
-      if (isNew || document.activeElement !== input) input.value = this.valueOf(input.dataset.tag, options);
+    for (const input of fields()) {
+      if (isNew || document.activeElement !== input) input.value = this.valueOf(String(input.dataset.tag), options);
     }
     if (isNew || document.activeElement !== at('name')) at('name').value = seat.name;
     for (const [id, option, on] of CHECKS) at(id).checked = options[option] === on;
@@ -139,21 +184,27 @@ export class Panel {
     this.showAsked(seat);
   }
 
+  /** @type {(name: string, options: Options) => string} */
   valueOf(name, options) {
     return name === 'Date' ? options.date || options.began || UNKNOWN : written(options, name);
   }
 
+  /** @type {(seat: Seat | Shown) => Words} */
   nextWords(seat) {
     if (this.ends) return message('label.ends_here');
     return !seat.isCapture && seat.awaitsStart ? message('label.begin_with_move') : message('label.next_game');
   }
 
+  /** @type {(seat: Seat | Shown) => Words} */
   removeWords(seat) {
     if (seat.isCapture) return message('label.close_capture');
     return this.removes ? message('label.removes') : message('label.remove');
   }
 
-  /** What somebody must do, with the button for it. */
+  /**
+   * What somebody must do, with the button for it.
+   * @type {(seat: Seat | Shown) => void}
+   */
   showAsked(seat) {
     const { looks, otherwise, hint } = seat.asks;
     const isTurned = hint === TURNED_ROUND;
@@ -165,16 +216,18 @@ export class Panel {
   }
 
   chooseDevice() {
-    this.does(this.hall.devices.choose(this.seat), message('failed.device'));
+    this.does(this.hall.devices.choose(this.recorded), message('failed.device'));
   }
 
   turnRound() {
-    this.does(this.seat.edit({ options: { rotated: !this.seat.options.rotated } }), message('failed.turn'));
+    const seat = this.opened;
+    this.does(seat.edit({ options: { rotated: !seat.options.rotated } }), message('failed.turn'));
   }
 
+  /** @type {(options: Partial<Options>, input: HTMLInputElement) => Promise<void>} */
   async change(options, input) {
     try {
-      await this.seat.edit({ options });
+      await this.opened.edit({ options });
       this.answer('', true);
     } catch (error) {
       this.answer(refused(error.message), false);
@@ -182,14 +235,17 @@ export class Panel {
     }
   }
 
-  /** A name, a date or a rating was typed. */
+  /**
+   * A name, a date or a rating was typed.
+   * @type {(input: HTMLInputElement) => Promise<void>}
+   */
   async edit(input) {
-    const { tag } = input.dataset;
+    const tag = String(input.dataset.tag);
     const typed = input.value.trim();
     try {
-      if (tag === 'Date') await this.seat.edit({ options: { date: typed ? pgnDate(typed) : null } });
-      else await this.hall.edit(this.seat, tag, typed);
-      input.value = this.valueOf(tag, this.seat.options);
+      if (tag === 'Date') await this.opened.edit({ options: { date: typed ? pgnDate(typed) : null } });
+      else await this.hall.edit(this.opened, tag, typed);
+      input.value = this.valueOf(tag, this.opened.options);
       this.answer(typed && input.value !== typed ? message('options.written_as', { typed, value: input.value }) : '', true);
       if (OF_ALL.includes(tag) && typed) this.offerForAll(tag);
     } catch (error) {
@@ -197,24 +253,28 @@ export class Panel {
     }
   }
 
-  /** Other boards have another event, say: do they get this one too? */
+  /**
+   * Other boards have another event, say: do they get this one too?
+   * @type {(tag: string) => void}
+   */
   offerForAll(tag) {
-    const numbers = this.seat.isCapture ? [] : this.hall.rounds.differing(this.seat, tag).map(({ id }) => id);
+    const seat = this.opened;
+    const numbers = seat.isCapture ? [] : this.hall.rounds.differing(seat, tag).map(({ id }) => id);
     if (numbers.length === 0) return;
     this.answer(plural('ask.another_value', numbers.length, { boards: numbers.join(', '), tag: tag.toLowerCase() }), true);
     at('for-all').hidden = false;
     at('for-all').dataset.tag = tag;
-    say(at('for-all'), message('label.for_all', { tag, value: written(this.seat.options, tag) }));
+    say(at('for-all'), message('label.for_all', { tag, value: written(seat.options, tag) }));
   }
 
   shareWithAll() {
-    this.does(this.hall.rounds.shareWithAll(this.seat, at('for-all').dataset.tag), message('failed.that'));
+    this.does(this.hall.rounds.shareWithAll(this.recorded, String(at('for-all').dataset.tag)), message('failed.that'));
     this.answer('', true);
   }
 
   /** A game in play ends only if the button is pressed twice. */
   nextGame() {
-    const { seat } = this;
+    const seat = this.recorded;
     if (seat.isInPlay && !this.ends) {
       this.ends = true;
       this.show(seat);
@@ -225,13 +285,18 @@ export class Panel {
   }
 
   async saveGame() {
-    const { seat } = this;
+    const seat = this.opened;
     save(`${seat.name}.pgn`, await seat.text(), 'application/vnd.chess-pgn');
+  }
+
+  saveCapture() {
+    const seat = this.opened;
+    save(`${seat.name}.dgt`, seat.bytes(), 'application/octet-stream');
   }
 
   /** What the board had sent before moves were taken off. */
   async saveBefore() {
-    const kept = await this.seat.before();
+    const kept = await this.recorded.before();
     kept.forEach(({ name, bytes, times }, number) => {
       save(`${name}.before-${number + 1}.dgt`, bytes, 'application/octet-stream');
       if (times) save(`${name}.before-${number + 1}.times`, times, 'text/plain');
@@ -240,12 +305,12 @@ export class Panel {
 
   /** All that is kept of this board. */
   async saveAll() {
-    const { seat } = this;
+    const seat = this.recorded;
     save(`${seat.name}.zip`, await allOf(this.hall, seat), 'application/zip');
   }
 
   async rename() {
-    const { seat } = this;
+    const seat = this.opened;
     try {
       await this.hall.rename(seat, at('name').value);
       at('name').value = seat.name;

@@ -4,15 +4,29 @@ import { element, say } from '../../live/web/page/diagram.js';
 import { linked, message, plural } from '../../live/web/page/message.js';
 import { at } from './elements.js';
 
+/**
+ * @typedef {import('../hall/hall.js').Hall} Hall
+ * @typedef {import('../hall/rounds.js').Round} Round
+ * @typedef {import('../hall/seat.js').Recorded} Recorded
+ * @typedef {import('../../live/web/page/message.js').Words} Words
+ */
+
+/** @type {{ [name: string]: import('./elements.js').RoundName | 'round-pairs' }} */
 const FIELDS = { Event: 'round-event', Site: 'round-site', Round: 'round-number', Date: 'round-date', pairs: 'round-pairs' };
 
-/** What is said of these boards, if there are any: [message]. */
+/**
+ * What is said of these boards, if there are any: [message].
+ * @type {(seats: Recorded[], what: Words) => Words[]}
+ */
 function toldOf(seats, what) {
   const boards = plural('round.boards', seats.length, { boards: seats.map(({ id }) => id).join(', ') });
   return seats.length > 0 ? [linked('colon', [boards, what])] : [];
 }
 
-/** A row of a table with these cells. */
+/**
+ * A row of a table with these cells.
+ * @type {(kind: 'td' | 'th', cells: Words[]) => HTMLTableRowElement}
+ */
 function rowOf(kind, cells) {
   const row = element('tr');
   cells.forEach((cell) => row.append(element(kind, '', cell)));
@@ -20,6 +34,7 @@ function rowOf(kind, cells) {
 }
 
 export class RoundDialog {
+  /** @param {Hall} hall */
   constructor(hall) {
     this.hall = hall;
     this.root = at('round-dialog');
@@ -78,7 +93,8 @@ export class RoundDialog {
   }
 
   async begin() {
-    const typed = Object.fromEntries(Object.entries(FIELDS).map(([name, id]) => [name, at(id).value]));
+    const values = Object.entries(FIELDS).map(([name, id]) => [name, at(id).value]);
+    const typed = /** @type {Round & { pairs: string }} */ (Object.fromEntries(values));
     at('round-begin').disabled = true;
     try {
       const failed = await this.hall.rounds.beginRound(typed);

@@ -4,19 +4,24 @@
 const APART = 125; // milliseconds between two files: ten take more than a second
 const KEPT = 60000; // milliseconds in which a file is read
 
-const waiting = []; // { name, blob }
+/** @type {{ name: string, blob: Blob }[]} */
+const waiting = [];
 let isGiving = false;
 
-/** Has the browser save this as a file. */
+/**
+ * Has the browser save this as a file.
+ * @type {(name: string, content: string | Uint8Array, kind: string) => void}
+ */
 export function save(name, content, kind) {
   waiting.push({ name, blob: new Blob([content], { type: kind }) });
   if (!isGiving) giveNext();
 }
 
 function giveNext() {
-  isGiving = waiting.length > 0;
-  if (!isGiving) return;
-  const { name, blob } = waiting.shift();
+  const next = waiting.shift();
+  isGiving = next !== undefined;
+  if (!next) return;
+  const { name, blob } = next;
   const link = document.createElement('a');
   link.href = URL.createObjectURL(blob);
   link.download = name;

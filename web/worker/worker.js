@@ -5,17 +5,33 @@ import { start } from '../../hosts/process.mjs';
 import { joined, run } from '../../hosts/wasm.mjs';
 import { Answers } from '../game/attended.js';
 
+/**
+ * @typedef {import('../game/attended.js').Answer} Answer
+ * @typedef {import('../game/program.js').Outcome} Outcome
+ * @typedef {import('../../hosts/process.mjs').Process} Process
+ */
+
+/** @typedef {{ key: string, places: { [name: string]: unknown } }} Said what the page makes a message of, since it has the catalogue */
+
 // A browser has room for some 62 instances of the program; the rest is for those that ask boards who they are, and for short calls.
 const MOST = 48;
 
-let program = null;
+/** @type {WebAssembly.Module} */
+let program; // once it is compiled
 let ready = Promise.resolve(); // ends when it is compiled
+/** @type {Map<number, Attended>} */
 const attended = new Map(); // by their keys
 
-/** What the page makes a message of, since it has the catalogue. */
+/**
+ * What the page makes a message of, since it has the catalogue.
+ * @type {(key: string, places?: { [name: string]: unknown }) => Said}
+ */
 const message = (key, places = {}) => ({ key, places });
 
-/** Compiles the module, which came under gzip in base64. */
+/**
+ * Compiles the module, which came under gzip in base64.
+ * @type {(given: { module: string }) => Promise<void>}
+ */
 async function begin({ module }) {
   const packed = Uint8Array.from(atob(module), (letter) => letter.charCodeAt(0));
   const stream = new Blob([packed]).stream().pipeThrough(new DecompressionStream('gzip'));
@@ -24,14 +40,19 @@ async function begin({ module }) {
 
 /** A board that is attended: its process, and those who wait for its answers, in order. */
 class Attended {
+  /** @param {boolean} asks */
   constructor(asks) {
     this.asks = asks; // whether it only asks a board who it is
     this.answers = new Answers();
+    /** @type {{ done: (answer: Answer) => void, failed: (why: Said) => void }[]} */
     this.waiting = [];
+    /** @type {Process | null} */
     this.process = null;
+    /** @type {Said | null} */
     this.why = null; // a message why there is no process, or none any more
   }
 
+  /** @type {(words: string[]) => void} */
   begin(words) {
     try {
       this.process = start(program, ['live', ...words], (bytes) => this.wrote(bytes));
@@ -45,19 +66,27 @@ class Attended {
     );
   }
 
-  /** Tells it something. The promise has the answer. */
+  /**
+   * Tells it something. The promise has the answer.
+   * @type {(entry: Uint8Array) => Promise<Answer>}
+   */
   tell(entry) {
     if (this.why) throw this.why;
     return new Promise((done, failed) => {
       this.waiting.push({ done, failed });
-      this.process.push(entry);
+      /** @type {Process} */ (this.process).push(entry);
     });
   }
 
+  /** @type {(bytes: Uint8Array) => void} */
   wrote(bytes) {
-    for (const answer of this.answers.take(bytes)) this.waiting.shift().done(answer);
+    for (const answer of this.answers.take(bytes)) {
+      const [{ done }] = this.waiting.splice(0, 1);
+      done(answer);
+    }
   }
 
+  /** @type {(why: Said) => void} */
   ended(why) {
     this.process = null;
     this.why = why;
@@ -66,6 +95,7 @@ class Attended {
   }
 }
 
+/** @type {(given: { key: number, words: string[], asks: boolean }) => void} */
 function attend({ key, words, asks }) {
   const one = new Attended(asks);
   const count = [...attended.values()].filter((other) => other.process && !other.asks).length;
@@ -74,45 +104,58 @@ function attend({ key, words, asks }) {
   else one.ended(message('worker.too_many', { most: MOST }));
 }
 
-/** Tells a process something. A board that has none fails so. */
+/**
+ * Tells a process something. A board that has none fails so.
+ * @type {(given: { key: number, entry: Uint8Array }) => Promise<Answer>}
+ */
 function tell({ key, entry }) {
-  if (!attended.has(key)) throw message('worker.recorder_ended');
-  return attended.get(key).tell(entry);
+  const one = attended.get(key);
+  if (!one) throw message('worker.recorder_ended');
+  return one.tell(entry);
 }
 
+/** @type {(given: { key: number }) => void} */
 function leave({ key }) {
-  const { process } = attended.get(key) || {};
-  if (process) process.kill();
+  const one = attended.get(key);
+  if (one && one.process) one.process.kill();
   attended.delete(key);
 }
 
 // A call whose input comes in parts: no more of it than one part is here at a time.
 
+/** @type {Process | null} */
 let inParts = null; // its process
 
+/** @type {(given: { words: string[] }) => Promise<Outcome>} */
 async function runInParts({ words }) {
+  /** @type {Uint8Array[]} */
   const parts = [];
   inParts = start(program, words, (bytes) => parts.push(bytes.slice()));
   const { status, errors } = await inParts.ended;
   return { status, output: joined(parts), errors: new TextEncoder().encode(errors) };
 }
 
-/** The next part of its input; none is left if that is null. The part's memory goes back when it is read, or when the process has ended. */
+/**
+ * The next part of its input; none is left if that is null. The part's memory goes back when it is read, or when the process has ended.
+ * @type {(given: { part: Uint8Array | null }) => Promise<Uint8Array | null>}
+ */
 async function give({ part }) {
-  await Promise.race([part ? inParts.push(part) : inParts.end(), inParts.ended]);
+  const process = /** @type {Process} */ (inParts);
+  await Promise.race([part ? process.push(part) : process.end(), process.ended]);
   return part && new Uint8Array(part.buffer);
 }
 
-const CALLS = {
-  attend,
-  tell,
-  leave,
-  run: ({ words, input }) => run(program, words, input),
-  runInParts,
-  give,
-};
+/** @type {(given: { words: string[], input: Uint8Array }) => Outcome} */
+const runOnce = ({ words, input }) => run(program, words, input);
 
-/** The memory that goes to the page with an answer, without a copy. */
+const CALLS = { attend, tell, leave, run: runOnce, runInParts, give };
+
+/** @typedef {typeof CALLS & { begin: typeof begin }} Calls what the page calls here, by the name that it sends */
+
+/**
+ * The memory that goes to the page with an answer, without a copy.
+ * @type {(answer: any) => ArrayBuffer[]}
+ */
 function memoryOf(answer) {
   const given = answer ? [answer, answer.output, answer.kept, answer.game] : [];
   return given.filter((bytes) => bytes instanceof Uint8Array).map(({ buffer }) => buffer);
@@ -122,8 +165,8 @@ onmessage = async ({ data: { number, name, given } }) => {
   try {
     if (name === 'begin') ready = begin(given);
     await ready;
-    const answer = name === 'begin' ? null : await CALLS[name](given);
-    postMessage({ number, answer }, memoryOf(answer));
+    const answer = name === 'begin' ? null : await CALLS[/** @type {keyof typeof CALLS} */ (name)](given);
+    postMessage({ number, answer }, { transfer: memoryOf(answer) });
   } catch (error) {
     postMessage({ number, error: error.key ? error : String(error.message || error) });
   }

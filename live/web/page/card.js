@@ -6,7 +6,40 @@ import { Picture, element, positionOf, say } from './diagram.js';
 import { linked, message } from './message.js';
 import { aboutOf, nameOf, teamOf } from './names.js';
 
+/** @typedef {import('./message.js').Words} Words */
+
+/**
+ * A board as a page is told of it; the pairs are White's and Black's.
+ * @typedef {object} Board
+ * @property {number} number
+ * @property {string} white
+ * @property {string} black
+ * @property {string[]} [titles]
+ * @property {string[]} [ratings]
+ * @property {string[]} [federations]
+ * @property {string[]} [teams]
+ * @property {string} [date]
+ * @property {string} [place]
+ * @property {string} [control]
+ * @property {string} result
+ * @property {string} forfeit
+ * @property {string[]} clocks
+ * @property {string} runs whose clock runs: `w`, `b` or empty
+ * @property {number | null} at when the clocks showed that
+ * @property {Move[]} moves
+ * @property {string[]} positions FENs, that of the start first
+ * @property {string} pgn
+ * @property {string[]} differing squares
+ * @typedef {{ san: string, clock: string, kind: string }} Move
+ */
+
+/** @typedef {{ root: HTMLElement, player: HTMLElement, about: HTMLElement, clock: HTMLElement, team: HTMLElement }} Seat */
+
 export class Card {
+  /**
+   * @param {number} number
+   * @param {() => number} now
+   */
   constructor(number, now) {
     this.now = now; // in seconds since 1970
     this.root = element('li');
@@ -24,6 +57,7 @@ export class Card {
     this.result = foot.appendChild(element('span', 'result'));
   }
 
+  /** @type {(side: string, name: Words) => Seat} */
   seat(side, name) {
     const root = this.link.appendChild(element('span', 'seat'));
     root.appendChild(element('span', 'unseen', `, ${name}: `));
@@ -34,12 +68,13 @@ export class Card {
     return { root, player, about, clock, team };
   }
 
+  /** @param {Board} board */
   show(board) {
     const ply = board.moves.length;
     const position = positionOf(board, ply, true);
     const outcome = outcomeOf(board);
     const mover = outcome ? '' : toMove(position.fen);
-    for (const [seat, side, index] of [[this.white, 'w', 0], [this.black, 'b', 1]]) {
+    for (const [seat, side, index] of /** @type {[Seat, string, number][]} */ ([[this.white, 'w', 0], [this.black, 'b', 1]])) {
       say(seat.player, nameOf(board, index));
       say(seat.about, aboutOf(board, index));
       say(seat.team, teamOf(board, index));
@@ -56,6 +91,7 @@ export class Card {
     this.root.classList.toggle('over', outcome !== '');
   }
 
+  /** @type {(board: Board) => void} */
   showClocks(board) {
     const now = this.now();
     say(this.white.clock, clockAt(board, 0, now));

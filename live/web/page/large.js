@@ -5,16 +5,24 @@ import { say } from './diagram.js';
 import { GameView } from './game.js';
 import { message } from './message.js';
 
-const at = (name) => document.getElementById(name);
+/**
+ * @typedef {import('./card.js').Move} Move
+ * @typedef {import('./message.js').Words} Words
+ * @typedef {import('./tile.js').Board} Board
+ */
+
+/** @type {(name: string) => HTMLElement} */
+const at = (name) => /** @type {HTMLElement} */ (document.getElementById(name));
 
 export class Large extends GameView {
+  /** @type {(board: Board) => void} */
   show(board) {
     super.show(board);
     this.showState();
   }
 
   showState() {
-    const { state, since, alarm, mend } = this.board;
+    const { state, since, alarm, mend } = /** @type {Board} */ (this.opened);
     const time = since === null || !state ? '' : `, ${lasting(this.now() - since)}`;
     say(at('state'), state + time);
     say(at('mend'), mend);
@@ -23,10 +31,11 @@ export class Large extends GameView {
     at('play').classList.toggle('alarm', alarm);
   }
 
+  /** @type {(move: Move, place: HTMLElement, words: Words[]) => void} */
   mark(move, place, words) {
     if (move.kind !== 'correction') return;
     place.className = 'corrected';
     words.push(message('show.corrected'));
-    place.title = message('show.was_corrected');
+    place.title = String(message('show.was_corrected'));
   }
 }
