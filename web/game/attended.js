@@ -3,6 +3,7 @@
 
 const NEWLINE = 0x0a;
 const ALARMED = ['TURNED-ROUND', 'OTHER-BOARD'];
+const CLOCK_LINES = new Map([['clock stopped', true], ['clock runs', false]]);
 export const [KEEP, HOLD, OTHER] = ['keep', 'hold', 'other'];
 export const [KEPT, NUMBER, LENT, WAKE, TEXT] = ['kept', 'number', 'lent', 'wake', 'text'];
 export const [AT, AFTER, SINCE, SUSPECT] = ['at', 'after', 'since', 'SUSPECT']; // where somebody must look
@@ -26,9 +27,12 @@ export function entryOf(at, word, given = null) {
   return entry;
 }
 
-/** The answer before any line of it is read. `game` is the PGN, as bytes, if it was asked for. */
+/**
+ * The answer before any line of it is read. `game` is the PGN, as bytes, if it was asked for; `clockStopped` says whether both sides have
+ * stopped a clock that ran, null if that isn't news.
+ */
 function noAnswer() {
-  const none = { handling: '', other: '', number: '', asks: '', end: null, state: null, due: null };
+  const none = { handling: '', other: '', number: '', asks: '', end: null, clockStopped: null, state: null, due: null };
   return { kept: new Uint8Array(0), game: null, report: [], looks: [], ...none };
 }
 
@@ -121,6 +125,8 @@ export class Answers {
       [answer.asks] = rest;
     } else if (word === 'look') {
       answer.looks.push(readLook(rest.join(' ')));
+    } else if (CLOCK_LINES.has(line)) {
+      answer.clockStopped = CLOCK_LINES.get(line);
     } else if (word === 'state') {
       answer.state = stateOf(rest);
     } else if (word === 'over') {
