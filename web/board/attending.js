@@ -24,8 +24,8 @@ export class Attending {
    * opened. It gets keeps(bytes, at, now, number) with what the capture gets;
    * asks(words, at) with what the board is sent; handled(handling, other), whose board is on the cable; lends(number, bytes), which
    * says whether another game has taken them; and, as soon as all is kept, hear(line) for each line, heardAll() after them,
-   * ends(end) with what is said of the game's end, raises(looks) with what somebody must look at, and stands(state, entry) with what
-   * the board's state is said to be.
+   * ends(end) with what is said of the game's end, raises(looks) with what somebody must look at, clockIs(stopped) when that is said,
+   * and as a call begins, and stands(state, entry) with what the board's state is said to be.
    */
   constructor(hall, guard, hears) {
     this.program = hall.program;
@@ -97,7 +97,7 @@ export class Attending {
       this.attend();
       return;
     }
-    this.pending.push({ number: 0, mark: 0, entry: null, answer: { report: [], end: null, looks: [], state: null } });
+    this.pending.push({ number: 0, mark: 0, entry: null, answer: { report: [], end: null, looks: [], clockStopped: null, state: null } });
     this.guard.call(() => Promise.resolve().then(() => this.show())); // whoever wants them again goes on first
   }
 
@@ -260,6 +260,7 @@ export class Attending {
       if ((answer.report.length > 0 && isRead) || !entry || entry.word === BEGIN) this.hear();
       if (answer.end) this.hears.ends(answer.end);
       if (answer.looks.length > 0) this.hears.raises(answer.looks);
+      if (answer.clockStopped !== null || (entry && entry.word === BEGIN)) this.hears.clockIs(Boolean(answer.clockStopped));
       if (answer.state) this.hears.stands(answer.state, entry);
       if (answer.game) this.texts.shift()(answer.game);
       this.shown = Math.max(this.shown, number);
