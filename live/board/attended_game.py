@@ -151,13 +151,20 @@ class AttendedGame:
                 self._says(told, answer)
         if self._is_closed:
             return
-        if answer.stood and self.standing and not self._is_ending:
-            self._is_news = True
-            self.standing.stands(told.at, answer.stood)
+        if self.standing and not self._is_ending:
+            self._stands_as(self.standing, told, answer)
         self._is_through()
         if self._is_news and self.standing and self.attending.is_settled:
             self._is_news = False
             self.standing.show()
+
+    def _stands_as(self, standing: Standing, told: Told, answer: Answer) -> None:
+        """What is said of its clock, and of how the board stands. As a call begins, nothing is said of a clock that isn't stopped."""
+        if told.what == BEGIN or answer.clock_stopped is not None:
+            self._is_news = standing.clock(bool(answer.clock_stopped)) or self._is_news
+        if answer.stood:
+            self._is_news = True
+            standing.stands(told.at, answer.stood)
 
     def _keep(self, at: float, sent: bytes, what: str = HEARD) -> None:
         """The board has sent this, and it is the game's."""

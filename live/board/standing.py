@@ -59,6 +59,12 @@ class Standing:
         self._is_unknown = False
         self.board.stands(at, stood)
 
+    def clock(self, stopped: bool) -> bool:
+        """The program says that both sides have `stopped` the clock, or that it isn't stopped. Returns whether that is news, which is shown
+        with the rest of its answer."""
+        before, self.board.clock_stopped = self.board.clock_stopped, stopped
+        return stopped != before
+
     def plugged(self) -> None:
         """The board is there."""
         if self.board.unplugged_since is not None:

@@ -6,6 +6,7 @@ it knows.
 - `setting up`: more squares differ than hands change in a move, and pieces are still moved or no move has been played. When few
   are left, they are `WRONG` once nothing has moved for so long. A game that hasn't agreed for a time is `WRONG`, whatever moves.
 - `NO START`: pieces are moved, but the board has never shown the start, and hasn't come nearer to it for a time.
+- `agrees; clock stopped`, and so with a hand and with `WRONG`: both sides have stopped a clock that ran.
 - `LOOK at 4... Qg4+`, before or after any other: somebody must look at that and acknowledge it.
 - `waits for the board`: it has shown nothing yet. If a game goes on, what the board showed before this call doesn't count.
 - `SILENT`, `UNPLUGGED`: the board no longer answers, or its line is gone, whatever it showed before.
@@ -25,6 +26,7 @@ from live.words.message import Message, has, linked
 MOST_LISTED = 8
 TURNED_ROUND = Message("state.turned_round")
 OTHER_BOARD = Message("state.other_board")
+CLOCK_STOPPED = Message("state.clock_stopped")
 DISK_FULL, NOT_WRITTEN = Message("state.disk_full"), Message("state.not_written")  # there is no room, or another reason
 
 
@@ -58,6 +60,7 @@ class Kind(enum.Enum):
 
 
 ALARMS = (Kind.WRONG, Kind.NO_START, Kind.SILENT, Kind.UNPLUGGED)
+WITH_CLOCK = (Kind.AGREES, Kind.IN_HAND, Kind.WRONG)  # states in which a stopped clock is news
 
 
 class State(NamedTuple):
@@ -71,6 +74,7 @@ class State(NamedTuple):
     disk: str = ""  # what keeps something from being written
     look: str = ""  # what somebody must look at
     line: str = ""  # what to do so that its line is there again
+    clock_stopped: bool = False  # whether both sides have stopped a clock that ran
 
     @property
     def is_alarm(self) -> bool:
@@ -83,9 +87,19 @@ class State(NamedTuple):
         return self.squares if self.kind in (Kind.WRONG, Kind.NO_START, Kind.IN_HAND) else ()
 
     @property
+    def clock(self) -> str:
+        """What is said of its clock; empty if nothing is."""
+        return CLOCK_STOPPED if self.clock_stopped and self.kind in WITH_CLOCK and not self._is_turned else ""
+
+    @property
+    def _is_turned(self) -> bool:
+        """Whether its hint leaves no room for more."""
+        return has(self.hint, "state.turned_round")
+
+    @property
     def news(self) -> Tuple[object, ...]:
         """The part of a state whose change is reported by a line. A state that only lasts isn't reported again."""
-        return (self.kind, self.result, self.hint, self.disk, self.look, self.squares if self.kind is Kind.WRONG else ())
+        return (self.kind, self.result, self.hint, self.disk, self.look, self.clock, self.squares if self.kind is Kind.WRONG else ())
 
     def parts(self, most_listed: int = MOST_LISTED) -> Tuple[str, str]:
         """The words of the state before and after its duration. More than `most_listed` squares are only counted."""
@@ -96,14 +110,16 @@ class State(NamedTuple):
             front = linked("space", (front, self.result))
         elif words:
             rest = linked("space" if self.kind is Kind.IN_HAND else "colon", ("", words))
-        if has(self.hint, "state.turned_round"):
-            front, rest = self.hint, ""  # it says why the board is being set up, and leaves no room for more
+        if self._is_turned:
+            front, rest = self.hint, ""  # it says why the board is being set up
         elif self.hint:
             rest = linked("semicolon", (rest, self.hint))
         if self.look and (self.kind in ALARMS or self.hint):
             rest = linked("semicolon", (rest, self.look))
         elif self.look:
             front, rest = self.look, linked("semicolon", ("", linked("nothing", (front, rest))))
+        if self.clock:
+            rest = linked("semicolon", (rest, self.clock))
         return (linked("comma", (self.disk, front)) if self.disk else front), rest
 
     def text(self, now: float, most_listed: int = MOST_LISTED) -> str:
@@ -135,6 +151,7 @@ class BoardState:
     differs: Tuple[str, ...] = ()  # the squares that the report has named last
     unplugged_since: Optional[float] = None  # a serial server may be there without a board
     line: str = ""  # what to do so that its line is there again
+    clock_stopped: bool = False  # whether both sides have stopped a clock that ran
     _stood: Stood = Stood("WAITS")
     _since: float = 0.0
 
@@ -155,4 +172,5 @@ class BoardState:
         stood, kind = self._stood, Kind.of(self._stood.kind)
         squares = self.differs if kind is Kind.IN_HAND else stood.squares
         hint = {"": "", "TURNED-ROUND": self.turned_hint, "OTHER-BOARD": OTHER_BOARD}[stood.hint]
-        return State(kind, self._since, squares, self.result if kind is Kind.RESULT else "", hint, self.disk, self.look, self.line)
+        result = self.result if kind is Kind.RESULT else ""
+        return State(kind, self._since, squares, result, hint, self.disk, self.look, self.line, self.clock_stopped)

@@ -16,6 +16,7 @@ DOUBT = re.compile(f"look (?:({SUSPECT}) ([0-9]+)|({AT}|{AFTER}|{SINCE}) ([0-9]+
 KEEP, HOLD, OTHER = "keep", "hold", "other"
 UNPLUGGED, SILENT, WAITS = UNSEEN = "UNPLUGGED", "SILENT", "WAITS"  # states in which the board may have shown nothing
 HINTS = ("TURNED-ROUND", "OTHER-BOARD")
+CLOCK_LINES = {"clock stopped": True, "clock runs": False}
 END = re.compile(r"over ([A-Z-]+) (\S+) ([0-9]+) (sure|unsure)|played ([0-9]+)|begins ([0-9]+)")
 KEPT_LINE, GAME_LINE = b"kept ", b"game "  # behind which come as many bytes as they say
 DIGITS = b"0123456789"  # one of these begins each line of the report
@@ -82,6 +83,7 @@ class Answer:
     number: str = ""  # that of the game's board, if it is said
     asked: bytes = b""  # the board is sent this
     is_full: bool = False  # whether the capture had no room
+    clock_stopped: Optional[bool] = None  # whether both sides have stopped a clock that ran, if that is news
     stood: Optional[Stood] = None  # if that is news
     doubts: List[Doubt] = field(default_factory=list)  # those that are new
     over: Optional[Over] = None  # if it is news that the game is over
@@ -193,6 +195,8 @@ class Answers:
             answer.doubts.append(_doubt_of(*doubt.groups()))
         elif word == "full":
             answer.is_full = True
+        elif line in CLOCK_LINES:
+            answer.clock_stopped = CLOCK_LINES[line]
         elif end := END.fullmatch(line):
             _take_end(answer, *end.groups())
         else:

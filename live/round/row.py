@@ -486,11 +486,12 @@ class Row:
         return look or over, linked("semicolon", ("", over)) if look else "", None, alarm or bool(look)
 
     def view(self) -> RowView:
-        """What its row shows. A hint was shown in full when it came, and is two words here."""
+        """What its row shows. A hint was shown in full when it came, and is two words here; that the clock is stopped stays."""
         state = self.board.state
         front, rest, since, alarm = self._standing(state)
         if state and state.hint and not (state.disk or self.board.trouble or self.board.forfeit):
-            front, rest = OTHER if state.hint == OTHER_BOARD else TURNED, ""
+            front = OTHER if state.hint == OTHER_BOARD else TURNED
+            rest = linked("semicolon", ("", state.clock)) if state.clock else ""
         plies = self.board.plies
         last = plies[-1].short if plies else ""
         white, black = (written_name(self, side) for side in SIDES)

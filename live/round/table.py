@@ -7,7 +7,7 @@ from dataclasses import dataclass
 from typing import List, Optional, Sequence, Tuple
 
 from live.terminal.columns import CUT, fitted, folded, seen, split_at, width_of
-from live.words.message import Message, linked, plural
+from live.words.message import Message, has, linked, plural
 
 WIDTH = 80  # columns of a usual terminal
 NARROW = 72  # columns below which there are no clocks
@@ -47,6 +47,11 @@ class RowView:
     def told_state(self, now: float) -> str:
         """Its state, with how long it has lasted."""
         return self.state + ("" if self.since is None else " " + since(now - self.since)) + self.rest
+
+    @property
+    def is_whole(self) -> bool:
+        """Whether its state is never cut."""
+        return self.alarm or has(self.rest, "state.clock_stopped")
 
     @property
     def replaces_game(self) -> bool:
@@ -120,7 +125,7 @@ def head(columns: Columns) -> str:
 
 
 def row(view: RowView, now: float, columns: Columns) -> List[str]:
-    """A board's line. An alarm that doesn't fit goes on in the lines below, and so does a trouble that replaces a game."""
+    """A board's line. What may not be cut goes on in the lines below, and so does a trouble that replaces a game."""
     number = "" if view.is_of_all else "?" if view.number is None else str(view.number)
     front = f"{'!' if view.alarm else ' '}{number:>3} "
     state = view.told_state(now)
@@ -130,7 +135,7 @@ def row(view: RowView, now: float, columns: Columns) -> List[str]:
     if columns.clocks:
         parts += [clock.rjust(CLOCK)[:CLOCK] for clock in view.clocks]
     line, room = front + " ".join(parts) + "  ", columns.whole - columns.front
-    states = wrapped(state, room, "", LONGEST_ROW) if view.alarm else [fitted(state, room)]
+    states = wrapped(state, room, "", LONGEST_ROW) if view.is_whole else [fitted(state, room)]
     return [(line + states[0]).rstrip(), *(" " * columns.front + more for more in states[1:])]
 
 

@@ -5,6 +5,7 @@ from typing import List, Optional, Tuple
 
 ALARMS = ("WRONG", "NO-START", "SILENT", "UNPLUGGED")
 HINTS = ("TURNED-ROUND", "OTHER-BOARD")
+CLOCK_LINES = {"clock stopped": True, "clock runs": False}
 HANDLINGS = ("keep", "hold", "other")
 ENDS = ("over", "played", "begins")
 
@@ -62,6 +63,7 @@ class Answer:
     number: str = ""  # that of the game's board, if it is news
     asked: str = ""  # the board is sent this
     is_full: bool = False
+    clock_stopped: Optional[bool] = None  # if that is news
     state: Optional[State] = None
     due: Optional[int] = None  # wake in so many milliseconds; None: never
 
@@ -95,6 +97,8 @@ def with_line(answer: Answer, line: str) -> Answer:
         return dataclasses.replace(answer, asked=rest[0])
     if word == "full":
         return dataclasses.replace(answer, is_full=True)
+    if line in CLOCK_LINES:
+        return dataclasses.replace(answer, clock_stopped=CLOCK_LINES[line])
     if word == "state":
         return dataclasses.replace(answer, state=state_of(rest))
     raise NoAnswer(line)

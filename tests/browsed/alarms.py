@@ -9,6 +9,8 @@ from browsed.hall import Hall, Port
 from browsed.losses import opened_again
 from browsed.page import Page
 from browsed.stage import with_chromium
+from play_board import INITIAL, field
+from played import words
 from played.stage import same
 
 KING = 5
@@ -213,3 +215,25 @@ def nobody_presses(folder: pathlib.Path) -> None:
         clock.play(["e1g1", "c8g4", "h2h3", "g4h5", "d2d3", "f7f6"], COUNTED, presses=False)
         stage.until_part(page, "#state", "LOOK at 7... f6")
         stage.until_part(page, "#ask", "six moves were made and nobody pressed the clock")
+
+
+@with_chromium
+def clock_is_stopped(folder: pathlib.Path) -> None:
+    """Both sides stop the clock: the page says so, and with a piece in a hand too, until the clock runs again; a page that is opened again
+    says it anew. Nobody need look."""
+    with Hall(folder) as stage:
+        page, port = begin(stage)
+        until_agrees(stage, page)
+        port.board.clock(600, 600, runs=True)
+        play(stage, page, port, RUY[:1], RUY_SANS[:1])
+        assert words.CLOCK_STOPPED not in page.text("#state"), page.describe()
+        port.board.clock(600, 590, runs=False)
+        stage.until_part(page, "#state", f"agrees{words.CLOCK_STOPPED}")
+        port.board.lift("g8")
+        stage.until_part(page, "#state", f"in hand g8{words.CLOCK_STOPPED}")
+        port.board.put("g8", INITIAL[field("g8")])
+        page = killed(stage, page, port, RUY_SANS[:1])
+        stage.until_part(page, "#state", f"agrees{words.CLOCK_STOPPED}")
+        nobody_need_look(page)
+        port.board.clock(600, 590, runs=True)
+        stage.until(lambda: page.text("#state").startswith("agrees") and words.CLOCK_STOPPED not in page.text("#state"), "a clock that runs")

@@ -45,6 +45,19 @@ WRITTEN = [
     ),
     (b"keep\nover STOOD 0-1 335 sure\nplayed 2\nbegins 201\ndone 5\n", [Answer(handling="keep", over=Over("STOOD", "0-1", 335), played=2, begins=201, due=5)]),
     (b"over UNFINISHED * 134 unsure\nkeep\ndone -\n", [Answer(handling="keep", over=Over("UNFINISHED", "*", 134, False))]),
+    (
+        b"keep\nclock stopped\nstate AGREES 0\ndone 85\nkeep\nclock runs\ndone 7\nkeep\ndone -\n",
+        [
+            Answer(handling="keep", clock_stopped=True, stood=Stood("AGREES", 0), due=85),
+            Answer(handling="keep", clock_stopped=False, due=7),
+            Answer(handling="keep"),
+        ],
+    ),
+    (
+        b"kept 7\nclock \n151 clock 0:10:00 0:09:50\nhold\nask B\nfull\nclock stopped\ndone 9\n",
+        [Answer(b"clock \n", None, ["151 clock 0:10:00 0:09:50"], "hold", asked=b"B", is_full=True, clock_stopped=True, due=9)],
+    ),
+    (b"74 agrees\nclock stopped\ndone -\n90 agrees\ndone -\n", [Answer(report=["74 agrees"], clock_stopped=True), Answer(report=["90 agrees"])]),
     (b"74 agrees\ndone -\nkeep\ndone -\n", [Answer(report=["74 agrees"]), Answer(handling="keep")]),
 ]
 HISTORY = b"0 position start\n74 picture one\n74 agrees\ndone -\n90 picture two\n90 differs e2\ndone -\n"
@@ -66,7 +79,7 @@ def answers() -> None:
     for written, expected in WRITTEN:
         same(f"{written!r}", [found for at in range(len(written) + 1) if (found := cut(written, at)) != expected], [])
         same("byte by byte", byte_by_byte(written), expected)
-    for line in (b"what\n", b"done\n", b"state\n", b"look\n", b"look at LATE\n", b"look before 5 LATE\n", b"\n", b"over\n", b"over STOOD 0-1 335\n", b"over STOOD 0-1 335 surely\n", b"played -\n"):
+    for line in (b"what\n", b"done\n", b"state\n", b"look\n", b"look at LATE\n", b"look before 5 LATE\n", b"\n", b"clock\n", b"clock stands\n", b"clock stopped 5\n", b"over\n", b"over STOOD 0-1 335\n", b"over STOOD 0-1 335 surely\n", b"played -\n"):
         refused(f"{line!r}", NoAnswer, Answers().take, line)
 
 
@@ -80,13 +93,17 @@ def byte_by_byte(written: bytes, known: int = 0) -> List[Answer]:
 def known() -> None:
     """So many lines of the report are left out, wherever what is written is cut."""
     lines = ["0 position start", "74 picture one", "74 agrees", "90 picture two", "90 differs e2"]
-    rest = [Answer(handling="keep", stood=Stood("WAITS")), Answer(kept=b"9 x\n9", handling="keep", due=3)]
-    for count in range(len(lines) + 1):
-        first, second = lines[count:3], lines[max(count, 3) :]
-        expected = [Answer(report=first), Answer(report=second), *rest]
-        text = HISTORY + LIVE
-        same(f"{count} lines", [at for at in range(len(text) + 1) if cut(text, at, count) != expected], [])
-        same(f"{count} lines, byte by byte", byte_by_byte(text, count), expected)
+    for live, stopped in ((LIVE, None), (LIVE.replace(b"state", b"clock stopped\nstate"), True)):
+        rest = [Answer(handling="keep", clock_stopped=stopped, stood=Stood("WAITS")), Answer(kept=b"9 x\n9", handling="keep", due=3)]
+        for count in range(len(lines) + 1):
+            first, second = lines[count:3], lines[max(count, 3) :]
+            expected = [Answer(report=first), Answer(report=second), *rest]
+            text = HISTORY + live
+            same(f"{count} lines, {stopped}", [at for at in range(len(text) + 1) if cut(text, at, count) != expected], [])
+            same(f"{count} lines, {stopped}, byte by byte", byte_by_byte(text, count), expected)
+    # A history that is all known, and a clock among it.
+    text = b"74 agrees\nclock stopped\ndone -\n90 agrees\ndone -\n"
+    same("a clock in it", [at for at in range(len(text) + 1) if cut(text, at, 2) != [Answer(clock_stopped=True), Answer()]], [])
     # Some of the known lines come only with bytes that wait for a full disk.
     later = b"keep\nstate AGREES 0\ndone 500\n95 move 1. e4\n95 agrees\nkeep\ndone -\n"
     expected = [Answer(), Answer(), Answer(handling="keep", stood=Stood("AGREES", 0), due=500), Answer(report=["95 agrees"], handling="keep")]

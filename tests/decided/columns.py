@@ -4,6 +4,7 @@ tables, worked by hand; ASCII is folded as Python's textwrap does it."""
 import random
 import textwrap
 
+from live.board.state import Kind, State
 from live.refused import printable
 from live.round.table import Columns, RowView, row
 from live.terminal.columns import cut, fitted, folded, seen, split_at, width_of
@@ -79,4 +80,17 @@ def rows() -> None:
             assert all(width_of(line) < width for line in lines), (width, lines)
 
 
-TABLES = [widths, cut_and_filled, what_a_terminal_gets, folds, rows]
+def stopped_clocks() -> None:
+    """That a clock is stopped isn't cut, though it is no alarm."""
+    _, rest = State(Kind.AGREES, 100.0, clock_stopped=True).parts()
+    view = RowView(3, "Bartholomew Zimmermann", "Benjamin Alexander", "38... Qxa1+", ("0:29:49", "0:09:44"), "agrees", rest, 100.0)
+    for width in range(40, 200):
+        columns = Columns.of([view], 820, width)
+        first, *more = row(view, 820, columns)
+        same(f"in {width}", " ".join([first[columns.front :], *(line.strip() for line in more)]), "agrees 12m; clock stopped")
+        assert all(width_of(line) < width for line in (first, *more)), (width, first, more)
+    short = RowView(3, "Anna", "Ben", "3. Bb5", ("1:12:07", "0:58:11"), "agrees", rest, 100.0)
+    same("short names", row(short, 140, Columns.of([short], 140)), ["   3 Anna  Ben   3. Bb5    1:12:07 0:58:11  agrees 40s; clock stopped"])
+
+
+TABLES = [widths, cut_and_filled, what_a_terminal_gets, folds, rows, stopped_clocks]

@@ -1,12 +1,15 @@
 """The state of a board, by the rules in Python that `live` is compared with: what happens when, and what an arbiter reads at which time."""
 
 import math
-from typing import Any, Dict, Optional
+from typing import Any, Dict, List, Optional
 
+from live.board.standing import Standing
 from live.device.protocol import picture_of_placement
+from live.game.attended import Stood
 from live.terminal.screen import PROMPT, Screen
 from live.game.report import Event, event_of
-from live.board.state import DISK_FULL, TURNED_ROUND, Kind, State, lasting
+from live.loop import Loop
+from live.board.state import DISK_FULL, OTHER_BOARD, TURNED_ROUND, Kind, State, lasting
 
 from attending.frames import picture_of_dump
 from attending.state_rules import BoardState, turned_round
@@ -15,6 +18,7 @@ from decided.table import same
 
 E4 = "rnbqkbnr/pppppppp/8/8/4P3/8/PPPP1PPP/RNBQKBNR"
 AFTER_E4 = picture_of_placement(E4)
+HINTS = {"": "", "state.turned_round": TURNED_ROUND, "state.other_board": OTHER_BOARD}
 
 
 def event_of_line(line: str) -> Optional[Event]:
@@ -103,4 +107,55 @@ def hints() -> None:
     same("kinds that are alarms", alarms, ["WRONG", "NO_START", "SILENT", "UNPLUGGED"])
 
 
-TABLES = [texts, times, hints]
+def clocks() -> None:
+    """What is said of a clock that both sides have stopped, in each state."""
+    for name, kind, known, front, rest, is_news in cases("state", "clocks"):
+        given: Dict[str, Any] = {**known, "squares": tuple(known.get("squares", ())), "hint": HINTS[known.get("hint", "")]}
+        runs = State(Kind[kind], 0, **given)
+        stands = runs._replace(clock_stopped=True)
+        same(name, stands.parts(), (front, rest))
+        same(f"{name}: what is news, and an alarm", (stands.news != runs.news, stands.is_alarm), (is_news, runs.is_alarm))
+    wrong = State(Kind.WRONG, 0, ("e2",), clock_stopped=True)
+    same("behind how long it has lasted", wrong.text(40), "WRONG since 40 s: e2; clock stopped")
+
+
+class Shown(Screen):
+    """Keeps the states that it is to show."""
+
+    def __init__(self) -> None:
+        super().__init__(None)
+        self.texts: List[str] = []
+
+    def state(self, text: str, news: object) -> None:
+        self.texts.append(text)
+
+
+def clock_of_a_board() -> None:
+    """A clock is news once, is shown with the state, and stays when that changes; but not in a state that says nothing of it."""
+    loop, screen = Loop(), Shown()
+    try:
+        standing = Standing(loop, screen, False)
+        same("what is news", [standing.clock(stopped) for stopped in (False, True, True, False, True)], [False, True, False, True, True])
+        for kind in ("AGREES", "IN-HAND", "SILENT", "AGREES"):
+            standing.stands(loop.now(), Stood(kind))
+            standing.show()
+        standing.clock(False)
+        standing.show()
+        same("what is shown", screen.texts, ["agrees; clock stopped", "in hand; clock stopped", "SILENT", "agrees; clock stopped", "agrees"])
+        standing.clock(True)
+        standing.stands(loop.now(), Stood("AGREES"))
+        standing.board.unplugged_since = loop.now()
+        same("unplugged", standing.board.state.parts(), ("UNPLUGGED", ""))
+        nobody_plays = Standing(loop, screen, False, played=False, before=standing)
+        standing.board.unplugged_since = None
+        nobody_plays.show()
+        same("while pieces are set up", screen.texts[-1], "setting up")
+        unknown = Standing(loop, screen, False, has_shown=True)
+        unknown.clock(True)
+        unknown.show()
+        same("before the state is known", (unknown.state, len(screen.texts)), (None, 6))
+    finally:
+        loop.close()
+
+
+TABLES = [texts, times, hints, clocks, clock_of_a_board]

@@ -8,7 +8,7 @@ const bytesOf = (text) => Uint8Array.from(text, (letter) => letter.charCodeAt(0)
 /** An answer with its bytes as letters. */
 const readable = ({ kept, game, ...rest }) => ({ kept: latin(kept), game: game && latin(game), ...rest });
 
-const NONE = { kept: "", game: null, report: [], looks: [], handling: "", other: "", number: "", asks: "", end: null, state: null, due: null };
+const NONE = { kept: "", game: null, report: [], looks: [], handling: "", other: "", number: "", asks: "", end: null, clockStopped: null, state: null, due: null };
 
 export function entries(counts, cases) {
   for (const [at, word, given, expected] of cases("entries")) {

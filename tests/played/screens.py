@@ -5,7 +5,7 @@ import pathlib
 import time
 from typing import List
 
-from play_board import EMPTY, field
+from play_board import EMPTY, INITIAL, field
 from played import words
 from played.recorder import Live, signal_to
 from played.stage import (
@@ -13,11 +13,13 @@ from played.stage import (
     begin_game,
     begun,
     ended,
+    go_on,
     movetext,
     rest,
     same,
     stop,
     until,
+    until_dumped,
     until_game,
     until_line,
 )
@@ -96,6 +98,45 @@ def wrong_over_a_restart(folder: pathlib.Path) -> None:
     board.play("g1f3")
     until_game(live.name, "1. e4 e5 2. Nf3 *")
     same(stop(live), 0)
+
+
+def clock_is_stopped(folder: pathlib.Path) -> None:
+    """Both sides stop the clock: the state says so, and with a piece in a hand too, until the clock runs again. It still says so when a
+    child is killed, without another line, and after a restart."""
+    board = a_board(folder)
+    live = Live(board.device, folder / "game")
+    begun(live)
+    stopped = f"  {words.AGREES}{words.CLOCK_STOPPED}\n"
+    board.clock(600, 600, runs=True)
+    board.play("e2e4")
+    until_game(live.name, "1. e4 {[%clk 0:10:00]} *")
+    assert words.CLOCK_STOPPED not in live.lines(), live.lines()
+    board.clock(600, 590, runs=False)
+    until(lambda: live.lines().endswith(stopped), "that the clock is stopped")
+    board.lift("g8")
+    until_line(live, f"{words.IN_HAND} g8{words.CLOCK_STOPPED}\n")
+    board.put("g8", INITIAL[field("g8")])
+    until(lambda: live.lines().endswith(stopped), "that it is stopped still")
+    board.clock(600, 590, runs=True)
+    until(lambda: live.lines().endswith(f"  {words.AGREES}\n"), "that it runs again")
+    board.play("g8f6")
+    until_line(live, "1... Nf6")
+    board.clock(600, 580, runs=False)
+    until(lambda: live.lines().endswith(stopped), "that it is stopped again")
+    said = live.lines().count(words.AGREES)
+    for child in live.children():
+        signal_to(child)
+    until_line(live, "live was killed; it is started again")
+    until_dumped(board, live.name)
+    same(live.lines().count(words.AGREES), said)
+    board.clock(600, 580, runs=True)
+    until(lambda: live.lines().endswith(f"  {words.AGREES}\n"), "that it runs once more")
+    board.clock(600, 570, runs=False)
+    until(lambda: live.lines().endswith(stopped), "that it is stopped once more")
+    same(stop(live), 0)
+    again = go_on(board, live)
+    until(lambda: again.lines().endswith(stopped), "that it is stopped, after a restart")
+    same(stop(again), 0)
 
 
 def setting_up(folder: pathlib.Path) -> None:

@@ -6,6 +6,7 @@ Each is as short as it can be and still tell; a case that looks for more says so
 import re
 
 AGREES = "agrees"
+CLOCK_STOPPED = "; clock stopped"
 IN_HAND = "in hand"
 WAITS = "waits for the board"
 WRONG = "WRONG"

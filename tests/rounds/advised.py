@@ -27,13 +27,17 @@ class Desk:
     def begin(self, *numbers: int) -> None:
         self.live = self.hall.record("--arbiter-page", str(self.port), typed=True)
         for number in numbers:
-            until(lambda: self.state(number).endswith("agrees"), f"that board {number} agrees", 0.05)
+            until(lambda: self.agrees(number), f"that board {number} agrees", 0.05)
 
     def state(self, number: int) -> str:
         try:
             return str(boards_of(self.port)[number - 1]["state"])
         except OSError:
             return ""
+
+    def agrees(self, number: int) -> bool:
+        """Whatever somebody is to look at there, and whether the clock runs."""
+        return "agrees" in self.state(number).split("; ")
 
     def advice(self, number: int, begins: str) -> str:
         """What the page advises about a board whose state begins so; the terminal says the same when the board's number is typed."""
@@ -66,7 +70,7 @@ class Desk:
     def has(self, number: int, text: str) -> None:
         """The game has exactly what was played, and the board shows it."""
         self.hall.until_text(number, text)
-        until(lambda: self.state(number).endswith("agrees"), f"that board {number} agrees, and not {self.state(number)}", 0.05)
+        until(lambda: self.agrees(number), f"that board {number} agrees, and not {self.state(number)}", 0.05)
         same((number, self.hall.text(number)), (number, text))
 
 
@@ -122,12 +126,12 @@ def advice_about_states(folder: pathlib.Path) -> None:
     advice = desk.advice(5, "SILENT")
     assert advice.startswith("Look at the cable, the board's power, "), advice
     boards[4].switch_on()
-    until(lambda: desk.state(5).endswith("agrees"), "that board 5 is heard", 0.05)
+    until(lambda: desk.agrees(5), "that board 5 is heard", 0.05)
     desk.plays(5, "b8c6")
     desk.has(5, "1. e4 e5 2. Nf3 Nc6 *")
     same(desk.advice(6, "UNPLUGGED"), "Plug it in again; the recording then goes on")
     boards[5].plug()
-    until(lambda: desk.state(6).endswith("agrees"), "that board 6 is there", 0.05)
+    until(lambda: desk.agrees(6), "that board 6 is there", 0.05)
     desk.plays(6, "b8c6")
     desk.has(6, "1. e4 e5 2. Nf3 Nc6 *")
     until(lambda: "another board may be on this cable" in desk.state(7), f"a hint at board 7, and not {desk.state(7)}", 0.05)

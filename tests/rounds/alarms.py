@@ -65,6 +65,31 @@ def looked_at(folder: pathlib.Path) -> None:
     same(stop(again), 0)
 
 
+def clock_is_stopped(folder: pathlib.Path) -> None:
+    """Both sides of a board stop its clock: its row, the answer to its number and the arbiter's page say so until it runs again. It is
+    no alarm."""
+    hall, port = Hall(folder, 2), free_port()
+    live = hall.record("--arbiter-page", str(port), typed=True)
+    hall.begun(live)
+    board = hall.boards[0]
+
+    def until_shown(state: str) -> None:
+        wanted = [(state, False), ("agrees", False)]
+        until(lambda: [(one["state"], one["alarm"]) for one in boards_of(port)] == wanted, f"{state} on the page", 0.05)
+
+    board.clock(600, 600, runs=True)
+    board.play("e2e4")
+    hall.until_text(1, "1. e4 *")
+    until_shown("agrees")
+    board.clock(600, 590, runs=False)
+    until_line(live, f"  1  agrees{words.CLOCK_STOPPED}")
+    until_shown(f"agrees{words.CLOCK_STOPPED}")
+    says(live, 1, f"agrees{words.CLOCK_STOPPED}")
+    board.clock(600, 590, runs=True)
+    until_shown("agrees")
+    same(stop(live), 0)
+
+
 def away_together(folder: pathlib.Path) -> None:
     """Two boards without a number are unplugged at the same time, and stand alike: their cables may be exchanged, and no square
     shows it. Somebody must look at both. A third one stands otherwise, a fourth is unplugged alone, before, and a fifth and a sixth have

@@ -50,7 +50,7 @@ except Exception as error:
 TOKEN = "lip_7Kx2vQ9rTz4WmB8n"
 # Words that stand nowhere in what spectators are served; and those that stand in no answer but the page's own files, in which
 # `device-width` is one and the name of a constant another.
-NOWHERE = [b"alarm", b"WRONG", b"UNPLUGGED", b"NO START", b"NOT RECORDED", b"NOT PUBLISHED", b"in hand", b"waits for", b"correct",
+NOWHERE = [b"alarm", b"WRONG", b"UNPLUGGED", b"NO START", b"NOT RECORDED", b"NOT PUBLISHED", b"in hand", b"waits for", b"clock stopped", b"correct",
            b"/dev", TOKEN.encode()]  # fmt: skip
 NOT_TOLD = [b"device", b"differing", b"SILENT", b"LOOK", b"agrees", b"state", b"since", b".dgt"]
 

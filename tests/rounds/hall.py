@@ -81,7 +81,7 @@ def games_of(round_text: bytes) -> List[bytes]:
 def agrees(live: Live, number: int) -> bool:
     """Whether it was said of a board that it agrees, whatever somebody is to look at there."""
     lines = [line[10:] for line in live.lines().splitlines()]
-    return any(line.startswith(f"{number:>3}  ") and line.endswith("agrees") for line in lines)
+    return any(line.startswith(f"{number:>3}  ") and "agrees" in line[5:].split("; ") for line in lines)
 
 
 def quits(live: Live, status: int = 0) -> None:

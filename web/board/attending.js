@@ -36,7 +36,7 @@ import { Attendant } from './attendant.js';
  * @property {number} number
  * @property {number} mark
  * @property {Entry | null} entry
- * @property {Pick<Answer, 'report' | 'end' | 'looks' | 'state'> & { game?: Uint8Array | null }} answer
+ * @property {Pick<Answer, 'report' | 'end' | 'looks' | 'state' | 'clockStopped'> & { game?: Uint8Array | null }} answer
  * @property {boolean} [isRead]
  */
 
@@ -55,6 +55,7 @@ import { Attendant } from './attendant.js';
  * @property {(end: End) => void} endsSoon before the lines with which the game ends
  * @property {(end: End) => void} ends
  * @property {(looks: Raised[]) => void} raises
+ * @property {(stopped: boolean) => void} clockIs as that is said, and as a call begins
  * @property {(state: Stands, entry: Entry) => void} stands
  */
 
@@ -165,7 +166,7 @@ export class Attending {
       this.attend();
       return;
     }
-    this.pending.push({ number: 0, mark: 0, entry: null, answer: { report: [], end: null, looks: [], state: null } });
+    this.pending.push({ number: 0, mark: 0, entry: null, answer: { report: [], end: null, looks: [], clockStopped: null, state: null } });
     this.guard.call(() => Promise.resolve().then(() => this.show())); // whoever wants them again goes on first
   }
 
@@ -360,6 +361,7 @@ export class Attending {
       if ((answer.report.length > 0 && isRead) || !entry || entry.word === BEGIN) this.hear();
       if (answer.end) this.hears.ends(answer.end);
       if (answer.looks.length > 0) this.hears.raises(answer.looks);
+      if (answer.clockStopped !== null || (entry && entry.word === BEGIN)) this.hears.clockIs(Boolean(answer.clockStopped));
       if (answer.state && entry) this.hears.stands(answer.state, entry);
       if (answer.game) {
         const [done] = this.texts.splice(0, 1);

@@ -149,6 +149,7 @@ export class Recorder {
     /** @type {Stands} */
     this.said = { kind: 'WAITS', lasted: null, squares: [], hint: '' }; // of the board's state; `saidAt` is when
     this.saidAt = guard.now();
+    this.clockStopped = false; // by both sides, and it ran before
     /** @type {string[]} */
     this.differs = []; // the squares that the report has named last
     this.newest = ''; // of the game, as it was shown last
@@ -392,9 +393,20 @@ export class Recorder {
     this.hears.changed(false);
   }
 
+  /**
+   * The clock is stopped from now on, or isn't.
+   * @param {boolean} stopped
+   */
+  clockIs(stopped) {
+    const isNews = stopped !== this.clockStopped;
+    this.clockStopped = stopped;
+    if (isNews) this.hears.changed(false);
+  }
+
   /** How the board stands. */
   get state() {
-    const beside = { result: this.course.result, disk: this.capture.trouble, look: this.alarms.looks.short };
+    const { clockStopped } = this;
+    const beside = { result: this.course.result, disk: this.capture.trouble, look: this.alarms.looks.short, clockStopped };
     return stateOf(this.said, this.saidAt, this.differs, beside);
   }
 

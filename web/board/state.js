@@ -9,11 +9,12 @@ import { linked, message } from '../../live/web/page/message.js';
  * @typedef {import('../../live/web/page/message.js').Words} Words
  */
 
-/** @typedef {{ squares?: string[], result?: string, hint?: Words, disk?: Words, look?: Words }} Beside */
+/** @typedef {{ squares?: string[], result?: string, hint?: Words, disk?: Words, look?: Words, clockStopped?: boolean }} Beside */
 
 const MOST_LISTED = 8;
 export const TURNED_ROUND = message('state.turned_round');
 const OTHER_BOARD = message('state.other_board');
+const CLOCK_STOPPED = message('state.clock_stopped');
 export const DISK_FULL = message('state.disk_full'); // the disk has no room
 export const NOT_WRITTEN = message('state.not_written'); // it can't be written for another reason
 
@@ -43,6 +44,7 @@ const KINDS = {
 /** @type {{ [hint: string]: Message }} */
 const HINTS = { 'TURNED-ROUND': TURNED_ROUND, 'OTHER-BOARD': OTHER_BOARD };
 const ALARMS = [Kind.WRONG, Kind.NO_START, Kind.SILENT, Kind.UNPLUGGED];
+const WITH_CLOCK = [Kind.AGREES, Kind.IN_HAND, Kind.WRONG]; // states in which a stopped clock is news
 
 /** The state at a moment. `since` is null if it isn't known for how long it has been so. */
 export class State {
@@ -51,7 +53,7 @@ export class State {
    * @param {number | null} since
    * @param {Beside} beside
    */
-  constructor(kind, since, { squares = [], result = '', hint = '', disk = '', look = '' } = {}) {
+  constructor(kind, since, { squares = [], result = '', hint = '', disk = '', look = '', clockStopped = false } = {}) {
     this.kind = kind;
     this.since = since;
     this.squares = squares;
@@ -59,6 +61,7 @@ export class State {
     this.hint = hint;
     this.disk = disk;
     this.look = look;
+    this.clockStopped = clockStopped;
   }
 
   /** Whether somebody must go to the board, or to the disk. */
@@ -71,10 +74,15 @@ export class State {
     return [Kind.WRONG, Kind.NO_START, Kind.IN_HAND].includes(this.kind) ? this.squares : [];
   }
 
+  /** What is said of its clock; empty if nothing is. The hint that it is turned round leaves no room for more. */
+  get clock() {
+    return this.clockStopped && WITH_CLOCK.includes(this.kind) && this.hint !== TURNED_ROUND ? CLOCK_STOPPED : '';
+  }
+
   /** What makes a state news: it is reported when this changes, not when only time passes. */
   get news() {
-    const { kind, result, hint, disk, look, squares } = this;
-    return [kind, result, hint, disk, look, kind === Kind.WRONG ? squares : []];
+    const { kind, result, hint, disk, look, clock, squares } = this;
+    return [kind, result, hint, disk, look, clock, kind === Kind.WRONG ? squares : []];
   }
 
   /**
@@ -102,6 +110,7 @@ export class State {
       rest = linked('semicolon', ['', linked('nothing', [front, rest])]);
       front = this.look;
     }
+    if (this.clock) rest = linked('semicolon', [rest, this.clock]);
     return [this.disk ? linked('comma', [this.disk, front]) : front, rest];
   }
 
@@ -120,11 +129,11 @@ export class State {
 
 /**
  * The state that the program has said at this time. `differs` are the squares that its report has named last; `beside` has the
- * game's result, and what the page itself says.
- * @type {(said: Stands, at: number, differs: string[], beside: { result: string, disk: Words, look: Words }) => State}
+ * game's result, and what else the page knows.
+ * @type {(said: Stands, at: number, differs: string[], beside: { result: string, disk: Words, look: Words, clockStopped: boolean }) => State}
  */
-export function stateOf({ kind, lasted, squares, hint }, at, differs, { result, disk, look }) {
+export function stateOf({ kind, lasted, squares, hint }, at, differs, { result, ...beside }) {
   const since = lasted === null ? null : at - lasted / 1000;
   const named = KINDS[kind] === Kind.IN_HAND ? differs : squares;
-  return new State(KINDS[kind], since, { squares: named, result: result.replace('*', ''), hint: HINTS[hint] || '', disk, look });
+  return new State(KINDS[kind], since, { ...beside, squares: named, result: result.replace('*', ''), hint: HINTS[hint] || '' });
 }

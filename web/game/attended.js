@@ -28,7 +28,8 @@
  */
 
 /**
- * An answer. `game` is the PGN, as bytes, if it was asked for.
+ * An answer. `game` is the PGN, as bytes, if it was asked for; `clockStopped` says whether both sides have stopped a clock that ran, null
+ * if that isn't news.
  * @typedef {object} Answer
  * @property {Uint8Array} kept
  * @property {Uint8Array | null} game
@@ -39,12 +40,14 @@
  * @property {string} number
  * @property {string} asks
  * @property {End | null} end
+ * @property {boolean | null} clockStopped
  * @property {Stands | null} state
  * @property {number | null} due
  */
 
 const NEWLINE = 0x0a;
 const ALARMED = ['TURNED-ROUND', 'OTHER-BOARD'];
+const [STOPPED, RUNS] = ['clock stopped', 'clock runs'];
 export const [KEEP, HOLD, OTHER] = ['keep', 'hold', 'other'];
 export const [KEPT, NUMBER, LENT, WAKE, TEXT] = ['kept', 'number', 'lent', 'wake', 'text'];
 export const [AT, AFTER, SINCE, SUSPECT] = ['at', 'after', 'since', 'SUSPECT']; // where somebody must look
@@ -76,7 +79,7 @@ export function entryOf(at, word, given = null) {
  * @type {() => Answer}
  */
 function noAnswer() {
-  const none = { handling: '', other: '', number: '', asks: '', end: null, state: null, due: null };
+  const none = { handling: '', other: '', number: '', asks: '', end: null, clockStopped: null, state: null, due: null };
   return { kept: new Uint8Array(0), game: null, report: [], looks: [], ...none };
 }
 
@@ -178,6 +181,8 @@ export class Answers {
       [answer.asks] = rest;
     } else if (word === 'look') {
       answer.looks.push(readLook(rest.join(' ')));
+    } else if (line === STOPPED || line === RUNS) {
+      answer.clockStopped = line === STOPPED;
     } else if (word === 'state') {
       answer.state = stateOf(rest);
     } else if (word === 'over') {
