@@ -42,8 +42,15 @@ state_for now (Some state) = Some (record state { since = lasting now state.sinc
 -- What is said: times are spans from now, so that a host needs no clock but its own.
 abbrev pub said_of : ℕ → Answer → Option ℕ → Said
 said_of now answer due =
-    record { handling = Some answer.handling; number = answer.number; request = answer.request; is_whole = answer.is_whole; is_clock_stopped = answer.is_clock_stopped;
-      state = state_for now answer.state; due = wake_in now due }
+    record {
+      handling = Some answer.handling;
+      number = answer.number;
+      request = answer.request;
+      is_whole = answer.is_whole;
+      is_clock_stopped = answer.is_clock_stopped;
+      state = state_for now answer.state;
+      due = wake_in now due;
+    }
 
 abbrev pub answer_text : ℕ → Answer → List ℕ → List ℕ → List ℕ → List Look → Option ℕ → List ℕ
 answer_text now answer kept lines game looks due = whole_text kept lines game answer.end looks (said_of now answer due)
