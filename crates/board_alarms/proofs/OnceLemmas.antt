@@ -19,7 +19,7 @@ use Rattle.board_doubts.specs.declared.heard.Heard.TheVariants.{Shows, Plays, Re
 use Rattle.board_doubts.specs.declared.heard.Seen.{Seen}
 use Rattle.board_doubts.specs.Elsewhere.{Sees}
 use Rattle.board_looks.specs.declared.look.Told.{Told}
-use Rattle.board_doubts.specs.Clock.{is_stopped}
+use Rattle.board_doubts.specs.Clock.{has_stopped}
 use Rattle.board_looks.specs.Looks.{alarms, heard}
 use Rattle.square_runs.specs.Squares.{Marks}
 use Rattle.board_alarms.specs.declared.chunk.Chunk.{Chunk}
@@ -188,7 +188,7 @@ pub opens_once : OpensOnce
 opens_once setting items a b valid g h = g.2 ∙ ap (λ (t : List Told). alarms t) (tells_once setting items g.0 h.0 valid g.1 h.1) ∙ sym h.2
 
 pub stops_once : StopsOnce
-stops_once setting items a b valid g h = g.2 ∙ ap (λ (t : List Told). is_stopped (heard t)) (tells_once setting items g.0 h.0 valid g.1 h.1) ∙ sym h.2
+stops_once setting items a b valid g h = g.2 ∙ ap (λ (t : List Told). has_stopped (heard t)) (tells_once setting items g.0 h.0 valid g.1 h.1) ∙ sym h.2
 
 pub looking_ends_all : LookingEndsAll
 looking_ends_all setting items at looks g = g.2 ∙ ap (λ (t : List Told). alarms t) (g.1).4

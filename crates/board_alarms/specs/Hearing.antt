@@ -21,7 +21,7 @@ use Rattle.board_doubts.specs.Elsewhere.{Sees}
 use Rattle.board_looks.specs.declared.look.Look.{Look}
 use Rattle.board_looks.specs.declared.look.Told.{Told}
 use Rattle.board_looks.specs.declared.look.Told.TheVariants.{Hears, Suspects as IsSuspected}
-use Rattle.board_doubts.specs.Clock.{is_stopped}
+use Rattle.board_doubts.specs.Clock.{has_stopped}
 use Rattle.board_looks.specs.Looks.{alarms, heard}
 use Rattle.board_alarms.specs.declared.chunk.Chunk.{Chunk}
 use Rattle.board_alarms.specs.declared.news.News.{News}
@@ -184,9 +184,9 @@ Tells setting (Noted at news ∷ items) told = (earlier : List Told) × (score :
     × Folds setting.start (deduplicated (entries_in setting (events_of items))) score
     × (told ≡ with_news at (length score.plies) (stands setting.start score.plies (last_picture (entries_in setting (events_of items)))) news earlier)
 
--- The clock has run, and stands now, or not.
+-- The clock has run, and stood when it spoke last, or not.
 abbrev pub ClockIsStopped : Setting → List Item → Bool → Type 0
-ClockIsStopped setting items stopped = (told : List Told) × Tells setting items told × (stopped ≡ is_stopped (heard told))
+ClockIsStopped setting items stopped = (told : List Told) × Tells setting items told × (stopped ≡ has_stopped (heard told))
 
 -- These alarms are open.
 abbrev pub AreOpen : Setting → List Item → List Look → Type 0

@@ -156,7 +156,7 @@ impl Alarms {
         Ok(())
     }
 
-    /// Whether the clock has run, and stands now.
+    /// Whether the clock has run, and stood when it spoke last.
     pub fn is_clock_stopped(&self) -> bool
         ensures { (setting : Setting) (items : List Item) → StandsFor self.now setting items → ClockIsStopped setting items result }
     {

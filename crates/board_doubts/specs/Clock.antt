@@ -41,6 +41,10 @@ abbrev pub stands_since : List Event → Option ℕ
 stands_since [] = None
 stands_since (event ∷ past) = stands_by event.what event.at (is_unheard past) (stands_since past)
 
+-- The clock has run, and stood when it spoke last.
+abbrev pub has_stopped : List Event → Bool
+has_stopped past = has_run past && is_some (stands_since past)
+
 -- The clock has run, and stands now.
 abbrev pub is_stopped : List Event → Bool
 is_stopped past = has_run past && (is_some (stands_since past) && not (is_unheard past))

@@ -3,7 +3,7 @@
 ghost use Rattle.std.specs.Prelude.{◌≡◌, ◌&&◌, ◌||◌, ◌∷◌, [], not, List};
 ghost use Rattle.square_runs.specs.Lasting.{has_lasted};
 ghost use Rattle.board_doubts.specs.declared.heard.Event.{Event as EventOf};
-ghost use Rattle.board_doubts.specs.Clock.{acknowledges as acknowledges_of, ago, ago_by, has_no_clock as has_no_clock_of, is_after as is_after_of, is_stopped as is_stopped_of, most, run_by, running, seen_late, stands_by, stands_since, tried as tried_in, tried_by, tries_of};
+ghost use Rattle.board_doubts.specs.Clock.{acknowledges as acknowledges_of, ago, ago_by, has_no_clock as has_no_clock_of, has_stopped as has_stopped_of, is_after as is_after_of, is_stopped as is_stopped_of, most, run_by, running, seen_late, stands_by, stands_since, tried as tried_in, tried_by, tries_of};
 ghost use Rattle.board_doubts.specs.Keeping.{ClockStandsFor};
 
 use crate::heard::{Event, Heard};
@@ -161,8 +161,16 @@ impl StoppedClock {
         }
     }
 
+    /// Whether the clock has run, and stood when it spoke last.
+    pub fn has_stopped(&self) -> bool
+        ensures { (past : List EventOf) → ClockStandsFor self.now past → result ≡ has_stopped_of past }
+    {
+        let stood = self.stands_since.is_some();
+        self.has_run && stood
+    }
+
     /// Whether the clock has run, and stands now.
-    pub fn is_stopped(&self) -> bool
+    fn is_stopped(&self) -> bool
         ensures { (past : List EventOf) → ClockStandsFor self.now past → result ≡ is_stopped_of past }
     {
         self.has_run && self.stands_since.is_some() && !self.is_unheard

@@ -38,7 +38,7 @@ alarm_items (Sent chunk x ∷ items) = Comes chunk x.event ∷ alarm_items items
 alarm_items (Pair chunk offset r ∷ items) = Notes chunk.when.at PutsIn ∷ alarm_items items
 alarm_items (Noted at note ∷ items) = with_news at (news_of note) (alarm_items items)
 
--- By what came the clock has run, and stands now, or not.
+-- By what came the clock has run, and stood when it spoke last, or not.
 abbrev pub ClockIsStopped : Setting → Bool → List Came → Bool → Type 0
 ClockIsStopped setting recovers past stopped = (items : List Item) × Makes setting recovers past items × IsStopped setting (alarm_items items) stopped
 

@@ -180,7 +180,7 @@ impl Game {
         self.following.teller().alarms().open()
     }
 
-    /// Whether the clock has run, and stands now.
+    /// Whether the clock has run, and stood when it spoke last.
     pub fn is_clock_stopped(&self) -> bool
         ensures { (setting : Setting) (recovers : Bool) (past : List Came) (text : List ℕ) → StandsFor self.now setting recovers past text
             → ClockIsStopped setting recovers past result }

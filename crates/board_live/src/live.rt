@@ -56,7 +56,8 @@ pub struct Answer {
     /// So many of the open alarms, the first ones, aren't to be said now: they were said, or this call hasn't begun. Those behind
     /// them are news; when a call begins all are.
     pub unsaid: usize,
-    /// Whether the clock has run and stands now, if that is to be said: when a call begins, if it does; and then whenever it is news.
+    /// Whether the clock has run and stood when it spoke last, if that is to be said: when a call begins, if it did; and then whenever it is
+    /// news.
     pub is_clock_stopped: Option<bool>,
     /// How the board stands, if that is to be said: first when a call begins, and then whenever it is news.
     pub state: Option<State>,

@@ -3,7 +3,7 @@ ghost use Rattle.std.specs.Prelude.{◌≡◌, ◌∷◌, ◌++◌, [], List, On
 ghost use Rattle.board_doubts.specs.declared.heard.Event.{Event as EventOf};
 ghost use Rattle.board_doubts.specs.declared.heard.Heard.TheVariants.{Agrees, Shows};
 ghost use Rattle.board_looks.specs.declared.look.Told.{Told as ToldOf};
-ghost use Rattle.board_doubts.specs.Clock.{is_stopped};
+ghost use Rattle.board_doubts.specs.Clock.{has_stopped};
 ghost use Rattle.board_doubts.specs.Unplayed.{unplayed as unplayed_of_past, unplayed_by};
 ghost use Rattle.board_looks.specs.Keeping.{StandsFor};
 ghost use Rattle.board_looks.specs.Looks.{alarms, doubtful, heard, is_looked, listed, stopped, unplayed as unplayed_look};
@@ -183,11 +183,11 @@ impl Looks {
         first_of(stopped, others)
     }
 
-    /// Whether the clock has run, and stands now.
+    /// Whether the clock has run, and stood when it spoke last.
     pub fn is_clock_stopped(&self) -> bool
-        ensures { (past : List ToldOf) → StandsFor self.now past → result ≡ is_stopped (heard past) }
+        ensures { (past : List ToldOf) → StandsFor self.now past → result ≡ has_stopped (heard past) }
     {
-        self.clock.is_stopped()
+        self.clock.has_stopped()
     }
 
     /// The alarms that are open, in the order in which they came.

@@ -4,7 +4,7 @@ ghost use Rattle.std.specs.Prelude.{OnOk};
 ghost use Rattle.board_live.specs.Live.{HasBegun};
 
 use crate::coded_frames::{expect_none, first_false};
-use board_cable::What::{Begins, Hears, Opens, Wakes};
+use board_cable::What::{Begins, Closes, Hears, Opens, Wakes};
 use board_captures::Method;
 use board_live::What::{Cable, Keeps, Tells};
 use board_live::{Happened, Live, What};
@@ -54,13 +54,29 @@ static NOT_RUN: [Row<'static>; 6] = [
 ];
 
 /// What was kept of the calls before says nothing. When a call begins it is said that the clock is stopped.
-static KEPT: [Row<'static>; 6] = [
+static KEPT: [Row<'static>; 9] = [
     (0, Tells(Heard::Begins), NONE, None),
     (120, Keeps, START, None),
     (1_000, Keeps, RUNS, None),
     (2_000, Keeps, STANDS, None),
     (3_000, Cable(Begins), NONE, Some(true)),
     (3_005, Cable(Opens), NONE, None),
+    (3_200, Cable(Hears), START, None),
+    (4_000, Cable(Hears), STANDS, None),
+    (5_000, Cable(Hears), RUNS, Some(false)),
+];
+
+/// While the line is gone nobody knows. It is said again only if it is news.
+static GONE: [Row<'static>; 9] = [
+    (0, Cable(Begins), NONE, None),
+    (5, Cable(Opens), NONE, None),
+    (120, Cable(Hears), START, None),
+    (1_000, Cable(Hears), RUNS, None),
+    (2_000, Cable(Hears), STANDS, Some(true)),
+    (2_500, Cable(Closes), NONE, None),
+    (60_000, Cable(Opens), NONE, None),
+    (60_200, Cable(Hears), START, None),
+    (61_000, Cable(Hears), STANDS, None),
 ];
 
 static KEPT_RUNNING: [Row<'static>; 4] = [
@@ -123,6 +139,7 @@ fn changes_of_the_clock_are_said(rt: HostRuntime) {
         are_said(alloc, &CALL),
         are_said(alloc, &NOT_RUN),
         are_said(alloc, &KEPT),
+        are_said(alloc, &GONE),
         are_said(alloc, &KEPT_RUNNING),
     ];
     expect_none(&rt, first_false(&holds));
