@@ -118,6 +118,7 @@ def filed_as_told(folder: pathlib.Path) -> None:
         stage.until(lambda: page.text("#state").startswith("UNPLUGGED"), "the alarm of an unplugged board")
         stage.plug(port)
         stage.until(lambda: port.holders, "the board to be opened again")
+        stage.until_dumped(page, port)
         port.board.play(*RUY[2:4])
         stage.until_part(page, "#state", "agrees")
         answered(stage, page, "ok", "acknowledged")
