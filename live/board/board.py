@@ -92,6 +92,7 @@ class Board:
         self._looks = Looks()  # alarms of a game that isn't recorded
         self._guard: Optional[Guard] = None  # of the game that is opened or recorded
         self._recorder: Optional[Recorder] = None
+        self._alike: Sequence[int] = ()  # boards with its serial number, told before it was recorded
         self.called = ""  # among the boards of a round
         self._number = ""  # the serial number of its board while it isn't recorded
         self._done: Optional[Callable[[], None]] = None  # called when it has ended
@@ -169,6 +170,7 @@ class Board:
         else:
             self._recorder = Recorder(guard, worker, self._screen, plan, opened, self, asked)
             self.course = self._recorder.course
+            self.shares_number(self._alike)
         self._hears.remade()
         self._hears.changed()
 
@@ -256,9 +258,7 @@ class Board:
     @property
     def returned(self) -> Optional[Returned]:
         """When it was away last, and what tells it from others; None if it wasn't, or its game is over."""
-        if self._back is None or self.is_over:
-            return None
-        return Returned(self._back, self.number, self._course.placement)
+        return None if self._back is None or self.is_over else Returned(self._back, self.number, self._course.placement)
 
     def suspect(self, others: Sequence[int]) -> None:
         """Its cable may have been exchanged with that of one of the boards with these numbers."""
@@ -272,7 +272,8 @@ class Board:
 
     def shares_number(self, others: Sequence[int]) -> None:
         """Its board has the same serial number as the boards with these numbers."""
-        if self._guard and self._recorder:
+        self._alike = () if self._recorder else others
+        if others and self._guard and self._recorder:
             self._guard.call(functools.partial(self._recorder.look_at, told_of_same_number(others)))
 
     def missing(self) -> None:
@@ -479,8 +480,7 @@ class Board:
     @property
     def state(self) -> Optional[State]:
         """The board's state; None if nothing is recorded."""
-        standing = self._recorder.standing if self._recorder else None
-        return standing.state if standing else None
+        return self._recorder.standing.state if self._recorder and self._recorder.standing else None
 
     @property
     def differing(self) -> Tuple[str, ...]:
