@@ -36,7 +36,7 @@ def entry(at: int, what: str, count: Optional[int] = None, sent: bytes = b"") ->
 
 
 def pieces(lines: bytes, start: int, end: int) -> List[Tuple[int, int]]:
-    """Cuts a capture, from one offset to another, into the parts that are told at once. With the lines of its times it is one part."""
+    """The parts in which the program is told a capture, from one offset to another; only one if it is told with the lines of its times."""
     size = end - start if lines else PIECE
     return [(at, min(at + size, end)) for at in range(start, end, size or PIECE)]
 

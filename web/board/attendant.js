@@ -13,7 +13,7 @@ import { STOPPED } from '../game/times.js';
  */
 
 /**
- * What is told: when, by the clock that counts on, and by the page's; and whether it is noted in the game's times already.
+ * What is told. `at` is its time by the clock that goes on in sleep, `now` by the page's; `isNoted` says whether the game's times have it.
  * @typedef {{ word: string, given: Given, at: number, now: number, isNoted: boolean }} Entry
  * @typedef {object} Hears
  * @property {(entry: Entry) => void} told
