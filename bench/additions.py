@@ -20,10 +20,10 @@ from typing import List, Tuple
 
 from hands import EMPTY, PROGRAM, Game, Way, hand, movetext, moves_of, program
 
-from live.device.protocol import picture_of_placement  # noqa: E402  (hands has put its folder on the path)
+from live.line.protocol import picture_of_placement  # noqa: E402  (hands has put its folder on the path)
+from live.child.program import Program  # noqa: E402
 from live.game.answers import BOARD, ENDED, Said, add  # noqa: E402
 from live.game.options import Options  # noqa: E402
-from live.game.program import Program  # noqa: E402
 from recovering.frames import dump  # noqa: E402
 
 INITIAL_FEN = "rnbqkbnr/pppppppp/8/8/8/8/PPPPPPPP/RNBQKBNR w KQkq - 0 1"

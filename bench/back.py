@@ -24,10 +24,10 @@ from typing import List, Tuple
 from additions import ENDS, INITIAL_FEN, STARTS, Played, end, game_at, legal
 from hands import PROGRAM, hand, movetext, program
 
-from live.device.protocol import picture_of_placement  # noqa: E402  (hands has put its folder on the path)
+from live.line.protocol import picture_of_placement  # noqa: E402  (hands has put its folder on the path)
+from live.child.program import Program  # noqa: E402
 from live.game.answers import go_back  # noqa: E402
 from live.game.options import Options  # noqa: E402
-from live.game.program import Program  # noqa: E402
 from live.game.way_back import STILL_SHOWN, stays_of  # noqa: E402
 from recovering.frames import dump  # noqa: E402
 

@@ -31,10 +31,10 @@ import streams
 from hands import EMPTY, PROGRAM, Game, lognormal
 
 from attending.frames import UPDATE_ID  # noqa: E402  (hands has put its folder on the path)
-from live.device.protocol import LETTERS, Picture  # noqa: E402
-from live.game.attended import Answers, Doubt, entry  # noqa: E402
-from live.game.report import Agrees, Differs, Move, line_of  # noqa: E402
+from live.child.attended import Answers, Doubt, entry  # noqa: E402
+from live.child.report import Agrees, Differs, Move, line_of  # noqa: E402
 from live.game.times import BEGIN, GONE, HEARD, OPENED  # noqa: E402
+from live.line.protocol import LETTERS, Picture  # noqa: E402
 from recovering.frames import dump  # noqa: E402
 
 PACES = (0.3, 1.0, 2.0, 5.0, 15.0, 60.0)  # seconds to think, the median

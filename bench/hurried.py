@@ -26,7 +26,7 @@ from typing import List, Sequence, Tuple
 from hands import EMPTY, INITIAL, KINGS, PROGRAM, lognormal, moves_of, program
 
 from attending.frames import UPDATE_ID  # noqa: E402  (hands has put its folder on the path)
-from live.device.protocol import picture_of_placement  # noqa: E402
+from live.line.protocol import picture_of_placement  # noqa: E402
 from recovering.frames import dump  # noqa: E402
 
 GAMES = pathlib.Path(__file__).with_name("hurried_games.txt")

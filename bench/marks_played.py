@@ -19,7 +19,7 @@ from attending.host import Call, Host  # noqa: E402
 from emulated.board import Board  # noqa: E402
 from emulated.clock import Clock  # noqa: E402
 from given.case import program  # noqa: E402
-from live.device.protocol import Picture  # noqa: E402
+from live.line.protocol import Picture  # noqa: E402
 
 GATHERED = 32  # milliseconds in which bytes are gathered
 TIME = 5400.0  # seconds on each clock

@@ -18,7 +18,7 @@ import streams
 from hands import EMPTY, INITIAL
 
 from emulated.hands import PACES, Habits, Hands, Touch  # noqa: E402  (hands has put its folder on the path)
-from live.device.protocol import Picture  # noqa: E402
+from live.line.protocol import Picture  # noqa: E402
 
 BEGINS = 4.0  # when the clock is started
 SPREAD = 0.6

@@ -1,20 +1,25 @@
 """The live recorder: the code of `dgt_live` and `dgt_round`. A byte's way from a board to `round.pgn`:
 
-`device/serial_line.py` reads it, and `device/connection.py` passes it on to `board/cable.py`, that to `board/recorder.py`, and that to
-`board/recording.py`. `game/attending.py` tells it to `dgt_replay live`, and `game/attended.py` reads the answer. What is kept goes into
+`line/serial_line.py` reads it, and `line/connection.py` passes it on to `board/cable.py`, that to `board/recorder.py`, and that to
+`board/recording.py`. `child/attending.py` tells it to `dgt_replay live`, and `child/attended.py` reads the answer. What is kept goes into
 the capture (`game/files.py`) before anything else is done. What the board is asked goes back through `board/cable.py`.
-`game/report.py` reads the lines of the report. `game/course.py` keeps the course of the game, `board/standing.py` shows
-the board's state, and `game/making_pgn.py` makes NAME.pgn anew. `board/board.py` guards all of that. `round/published.py`
+`child/report.py` reads the lines of the report. `game/course.py` keeps the course of the game, `board/standing.py` shows
+the board's state, and `game/making_pgn.py` makes NAME.pgn anew. `board/board.py` guards all of that. `out/published.py`
 writes `round.pgn`.
 
-`words/`: what people read, by keys of `shared/words.en.json`. It imports nothing of the folders below.
-`device/`: a board's line; a board that is unplugged and comes back.
-`game/`: a game: its files, its options, the calls of the proved program, what an arbiter adds or takes off, where it ended.
+In that order:
+
+`words/`: what people read, by keys of `shared/words.en.json`. It imports nothing of the other folders.
+`run/`: the loop, guards, refusals: what all of these use.
+`line/`: a board's line; a board that is unplugged and comes back.
+`child/`: the proved program: how it is called, what it is told, what it answers.
+`game/`: a game: its files, its options, what an arbiter adds or takes off, where it ended.
 `board/`: one board and its games, whatever goes wrong there; its state.
-`round/`: the table of a round, its boards with their rows, `round.pgn`.
-`web/`, `terminal/`: what a browser and a terminal show.
+`table/`: the table of a round, a tournament, the tables of pairing programs.
+`out/`: what goes out of games, and when; `round.pgn`, the site.
+`round/`: the boards of a round with their rows.
+`show/`: what a terminal and a browser show.
 `doors/`: the command lines of `dgt_live` and `dgt_round`, and how a call ends.
-`loop.py`, `guard.py`, `beside.py`, `refused.py`, `descriptors.py`, `lock.py`: what all of these use.
 """
 
 import sys

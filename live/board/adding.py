@@ -8,7 +8,7 @@ from typing import Tuple
 from live.board.obeying import JUST_ENDED, Obeying
 from live.board.recording import Recording
 from live.board.taking_off import take_result_off
-from live.called import DGT_LIVE
+from live.child.reply import Answer, Asked, Refused
 from live.game import answers
 from live.game.answers import BOARD, LONG, Said, meaning, place_of
 from live.game.changing import add_and_make, add_by_name, told_of_next
@@ -17,11 +17,11 @@ from live.game.files import Paths
 from live.game.forfeiting import is_unended
 from live.game.game import Game, forget_question
 from live.game.made_anew import course_of
-from live.game.reply import Answer, Asked, Refused
 from live.game.way_back import NO_RESULT
 from live.game.which_game import UNENDED, UNPLAYED, which_game
-from live.refused import DONE
-from live.steps import Steps
+from live.run.called import DGT_LIVE
+from live.run.refused import DONE
+from live.run.steps import Steps
 from live.words.message import Message, linked
 
 ADDED = Message("done.added")

@@ -8,11 +8,11 @@ from typing import Callable, Dict, List, Optional, Sequence
 
 from live.board.state import DISK_FULL, OTHER_BOARD, Kind, State, mend_of
 from live.board.whose import WHERE
+from live.child.reply import BACK, OK, REOPENS
 from live.game.afterwards import over
 from live.game.answers import NO_PLIES
 from live.game.doubted import ABOUT_CLOCK, ABOUT_RESULT, THE_START, WHY
 from live.game.looks import AFTER_RESULT, OVER, Look
-from live.game.reply import BACK, OK, REOPENS
 from live.game.way_back import NO_RESULT
 from live.words.message import Message, has, is_of, linked
 

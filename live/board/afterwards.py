@@ -6,16 +6,16 @@ from __future__ import annotations
 from typing import Callable, Optional
 
 from live.board.recording import Recording
+from live.child.attended import Answer
+from live.child.attending import Attending, HearsAnswers, Past, Told
+from live.child.reading import Reader
 from live.game.afterwards import went_on
-from live.game.attended import Answer
-from live.game.attending import Attending, HearsAnswers, Past, Told
 from live.game.course import Course
 from live.game.game import Game
 from live.game.looks import Look
-from live.game.reading import Reader
 from live.game.times import BEGIN, HEARD
 from live.game.way_back import reached
-from live.guard import Guard
+from live.run.guard import Guard
 
 Attends = Callable[[HearsAnswers], Attending]
 

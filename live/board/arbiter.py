@@ -10,18 +10,17 @@ from typing import Callable, Optional
 from live.board import adding, taking_off
 from live.board.obeying import JUST_ENDED, Obeying
 from live.board.recording import Recording
-from live.called import DGT_LIVE
+from live.child.reply import Answer, Refused, refusal
 from live.game.changing import put_names_right
 from live.game.files import Paths
 from live.game.forfeiting import drop_forfeit, keep_forfeit
 from live.game.forfeits import NO_RESULT, Forfeit, read_typed, refuse_played
 from live.game.naming import IN_A_TABLE, is_naming
 from live.game.opening import Chooses, named
-from live.game.reply import Answer, Refused, refusal
 from live.game.typed import ONE_BOARD, WAYS, Acknowledged, Added, Back, Nothing, Quit, Reopened, Typed, with_more
-from live.refused import DONE
-from live.refused import Refused as Failed
-from live.steps import Steps
+from live.run.called import DGT_LIVE
+from live.run.refused import DONE, Refused as Failed
+from live.run.steps import Steps
 from live.words.message import Message, linked
 
 RENAMED = Message("done.renamed")

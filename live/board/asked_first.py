@@ -4,13 +4,13 @@ from __future__ import annotations
 
 from typing import Callable, List, Optional, Tuple
 
-from live.device.connection import Connection, Hears
-from live.game.attended import NUMBER, Answer
-from live.game.attending import OF_THE_LINE, Attending, Told
+from live.child.attended import NUMBER, Answer
+from live.child.attending import OF_THE_LINE, Attending, Told
+from live.child.program import Program
 from live.game.files import MEMORY
-from live.game.program import Program
 from live.game.times import HEARD
-from live.guard import Guard
+from live.line.connection import Connection, Hears
+from live.run.guard import Guard
 
 Event = Callable[[Hears], None]
 

@@ -4,19 +4,19 @@ from __future__ import annotations
 
 from typing import Callable, List, Optional, Protocol, Tuple
 
-from live.board.standing import Standing
 from live.board.advice import Moves
+from live.board.standing import Standing
+from live.child.attended import Answer, Doubt, Over
+from live.child.attending import Attending, HearsAnswers, Past, Told
+from live.child.reading import Reader
 from live.game.alarms import Alarms, acknowledged
-from live.game.attended import Answer, Doubt, Over
-from live.game.attending import Attending, HearsAnswers, Past, Told
 from live.game.files import text_of
 from live.game.game import Game
 from live.game.looks import Look, Looks
-from live.game.reading import Reader
 from live.game.times import BEGIN, BROUGHT, HEARD, LOOKED
-from live.guard import Guard
-from live.loop import Timer
-from live.terminal.screen import Screen
+from live.run.guard import Guard
+from live.run.loop import Timer
+from live.show.screen import Screen
 from live.words.message import Message
 
 PATIENCE = 5.0  # seconds that the last answers may take

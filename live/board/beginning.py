@@ -8,6 +8,7 @@ import dataclasses
 
 from live.board.state import mend_of, trouble_of
 from live.board.whose import WHERE
+from live.child.reply import reason_of
 from live.game.alarms import carry_over, keep_looks, kept_looks
 from live.game.files import NO_ROOM, Capture, Paths, put_in_place, remove
 from live.game.game import Game, put_options
@@ -15,7 +16,6 @@ from live.game.looks import Looks
 from live.game.making_pgn import Text
 from live.game.names import today
 from live.game.options import Options
-from live.game.reply import reason_of
 from live.words.message import Message
 
 

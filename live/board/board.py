@@ -8,7 +8,6 @@ import functools
 import math
 from typing import Callable, List, Optional, Protocol, Sequence, Tuple
 
-from live.beside import Worker
 from live.board.asked_first import AskedFirst
 from live.board.exchanged import Return, Returned, came_back, told_of_same_number
 from live.board.plan import Plan, Wanted
@@ -17,6 +16,10 @@ from live.board.recording import Recording
 from live.board.state import State
 from live.board.typed_lines import Line, TypedLines
 from live.board.whose import Owner
+from live.child.program import Program
+from live.child.reading import new_course
+from live.child.reply import Answer, reason_of, refusal, Refused as NotDone
+from live.child.report import Clock, Move
 from live.game import files
 from live.game.alarms import kept_looks
 from live.game.changing import add_by_name
@@ -29,16 +32,12 @@ from live.game.looks import Looks
 from live.game.names import today
 from live.game.opening import Chooses, Opened
 from live.game.options import Options
-from live.game.program import Program
-from live.game.reading import new_course
-from live.game.reply import Answer, reason_of, refusal
-from live.game.reply import Refused as NotDone
-from live.game.report import Clock, Move
-from live.guard import Guard, traced
-from live.loop import Timer, Turns
-from live.refused import DONE, FAILED, Refused
-from live.steps import Steps, beside
-from live.terminal.screen import Screen
+from live.run.beside import Worker
+from live.run.guard import Guard, traced
+from live.run.loop import Timer, Turns
+from live.run.refused import DONE, FAILED, Refused
+from live.run.steps import Steps, beside
+from live.show.screen import Screen
 from live.words.message import Message, linked
 
 PAUSES = (2.0, 5.0, 10.0, 20.0, 40.0, 60.0)  # seconds between tries to record a board

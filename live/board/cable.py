@@ -9,16 +9,16 @@ from live.board import advice
 from live.board.asked_first import AskedFirst
 from live.board.on_the_way import ANOTHER
 from live.board.standing import Standing
-from live.called import DGT_LIVE
-from live.device.connection import Connection
-from live.game.attended import KEEP, NUMBER, OTHER, SILENT, UNPLUGGED, WAITS, WAKE, Answer
-from live.game.attending import OF_THE_LINE, Attending, Told
+from live.child.attended import KEEP, NUMBER, OTHER, SILENT, UNPLUGGED, WAITS, WAKE, Answer
+from live.child.attending import OF_THE_LINE, Attending, Told
+from live.child.program import Program
 from live.game.files import MEMORY
-from live.game.program import Program
 from live.game.times import HEARD, OPENED, TOOK
-from live.guard import Guard
-from live.refused import printable, recorded_elsewhere
-from live.terminal.screen import Screen
+from live.line.connection import Connection
+from live.run.called import DGT_LIVE
+from live.run.guard import Guard
+from live.run.refused import printable, recorded_elsewhere
+from live.show.screen import Screen
 from live.words.message import Message
 
 NO_BOARD = (WAITS, UNPLUGGED)  # states that don't say whether the board answers

@@ -5,13 +5,13 @@ from __future__ import annotations
 import os
 from typing import Protocol
 
-from live.board.standing import Standing
 from live.board.advice import IN_MEMORY
+from live.board.standing import Standing
 from live.board.state import DISK_FULL, mend_of, trouble_of
 from live.game.files import Capture, folder_of, text_of, unwritten
 from live.game.game import Game
 from live.game.making_pgn import Made
-from live.terminal.screen import Screen
+from live.show.screen import Screen
 from live.words.message import Message
 
 

@@ -7,8 +7,8 @@ from dataclasses import dataclass
 from typing import List, Mapping, Optional, Sequence
 
 from live.board.whose import WHERE
-from live.device.protocol import differing, picture_of_placement
 from live.game.looks import Look
+from live.line.protocol import differing, picture_of_placement
 from live.words.message import linked, plural
 
 TOGETHER = 60.0  # seconds between two cables that somebody may have exchanged

@@ -5,12 +5,12 @@ from __future__ import annotations
 import os
 from typing import Callable, Dict, FrozenSet, Optional, Protocol, Sequence, Set, Tuple
 
-from live.beside import Worker
-from live.device.numbers import ask
-from live.device.serial_line import devices
-from live.game.program import Program
-from live.guard import traced
-from live.loop import Turns
+from live.child.program import Program
+from live.line.numbers import ask
+from live.line.serial_line import devices
+from live.run.beside import Worker
+from live.run.guard import traced
+from live.run.loop import Turns
 
 LOOKS_EACH = 5.0  # seconds
 ASKS_AGAIN = 30.0  # seconds after which devices are asked again that gave no missing number

@@ -11,18 +11,18 @@ from typing import Callable, List, Optional, Protocol, Sequence
 from live.board.attended_game import AttendedGame, HearsGame
 from live.board.disk import unwritten_of
 from live.board.recording import Recording
+from live.child.attended import Answer
+from live.child.attending import Told
+from live.child.reading import Reader
+from live.child.report import Event, Picture, line_of
 from live.game.afterwards import FromTheStart, is_set_up, went_on
-from live.game.attended import Answer
-from live.game.attending import Told
 from live.game.course import Course
 from live.game.game import Game, end_mark
 from live.game.making_pgn import Made
-from live.game.reading import Reader
-from live.game.report import Event, Picture, line_of
 from live.game.times import BEGIN
 from live.game.way_back import NO_RESULT, reached
-from live.guard import Guard
-from live.terminal.screen import Screen
+from live.run.guard import Guard
+from live.show.screen import Screen
 from live.words.message import Message, linked
 
 TICK = 1.0  # seconds between two checks

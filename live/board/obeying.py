@@ -12,22 +12,22 @@ import functools
 import os
 from typing import Callable, Optional, Protocol, Tuple, TypeVar, Union
 
-from live.beside import Worker
 from live.board.attended_game import PATIENCE
 from live.board.game_over import Listening
 from live.board.plan import HearsRecorder, Plan
 from live.board.recording import Recording
 from live.board.setting_up import SettingUp
 from live.board.state import mend_of
-from live.game.attending import Attending
+from live.child.attending import Attending
+from live.child.reply import Answer, Refused
 from live.game.course import Course
 from live.game.files import Paths, open_regular, part_of
 from live.game.game import Game
 from live.game.opening import Opened
-from live.game.reply import Answer, Refused
-from live.guard import Guard
-from live.steps import Resume, Steps, beside
-from live.terminal.screen import Screen
+from live.run.beside import Worker
+from live.run.guard import Guard
+from live.run.steps import Resume, Steps, beside
+from live.show.screen import Screen
 from live.words.message import Message
 
 TRIES = 3  # calls before what the board sends is held

@@ -5,8 +5,8 @@ from __future__ import annotations
 from typing import List, Optional, Protocol, Tuple
 
 from live.board.attended_game import AttendedGame
-from live.game.attended import LENT, NUMBER
-from live.game.attending import OF_THE_LINE
+from live.child.attended import LENT, NUMBER
+from live.child.attending import OF_THE_LINE
 from live.game.files import MEMORY
 from live.game.game import Game
 from live.game.times import CALLED, HEARD, TOOK, line_after

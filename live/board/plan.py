@@ -8,10 +8,10 @@ from typing import Callable, Optional, Protocol
 
 from live.board.reasons import Rules
 from live.board.whose import Owner
+from live.child.reply import Answer
 from live.game.files import Paths
 from live.game.opening import Opening
-from live.game.reply import Answer
-from live.refused import Refused
+from live.run.refused import Refused
 
 
 def numbered(name: str, number: int) -> Paths:

@@ -5,8 +5,8 @@ from __future__ import annotations
 import enum
 from dataclasses import dataclass
 
-from live.called import DGT_LIVE
 from live.game.course import Course
+from live.run.called import DGT_LIVE
 from live.words.message import Message
 
 

@@ -6,10 +6,9 @@ import contextlib
 import os
 from typing import Optional, Set, Type, Union
 
-from live.beside import Worker
+from live.board.advice import Moves
 from live.board.arbiter import Arbiter
 from live.board.asked_first import AskedFirst
-from live.board.advice import Moves
 from live.board.attended_game import AttendedGame
 from live.board.beginning import begin_anew, begin_next, not_begun
 from live.board.cable import Cable
@@ -23,11 +22,13 @@ from live.board.recording import Recording
 from live.board.setting_up import SettingUp
 from live.board.standing import Standing
 from live.board.whose import MOST_NUMBERS, another, back, changing, may_take
+from live.child.attended import NUMBER, Answer
+from live.child.attending import Told
+from live.child.control import Control
+from live.child.reading import Reader, nothing_old
+from live.child.reply import Answer as Reply
 from live.game.alarms import acknowledge, keep_looks, kept_looks
 from live.game.answers import dump_at_end
-from live.game.attended import NUMBER, Answer
-from live.game.attending import Told
-from live.game.control import Control
 from live.game.course import Course
 from live.game.files import Paths, text_of
 from live.game.game import Game, end_mark, forget_question, keep_other, keep_serial, kept_other, kept_serial, mark_end, mebibytes
@@ -35,12 +36,11 @@ from live.game.log import Log
 from live.game.looks import Look, Looks
 from live.game.making_pgn import Made
 from live.game.opening import Opened
-from live.game.reading import Reader, nothing_old
-from live.game.reply import Answer as Reply
-from live.guard import Guard
-from live.loop import Callback
-from live.refused import DONE, FAILED, Broken, Refused
-from live.terminal.screen import Screen
+from live.run.beside import Worker
+from live.run.guard import Guard
+from live.run.loop import Callback
+from live.run.refused import DONE, FAILED, Broken, Refused
+from live.show.screen import Screen
 from live.words.message import Message, linked
 
 AGAIN = 1.0  # seconds between two tries to begin a game anew

@@ -5,7 +5,6 @@ from __future__ import annotations
 import os
 from typing import Callable, List, Optional, Protocol, Sequence, Tuple
 
-from live.beside import Worker
 from live.board.advice import Moves
 from live.board.attended_game import PATIENCE, AttendedGame, HearsGame
 from live.board.disk import Disk, unwritten_of
@@ -13,19 +12,20 @@ from live.board.exchanged import told_of_exchange
 from live.board.reasons import SAID, Reason, Rules
 from live.board.standing import Standing
 from live.board.state import lasting, mend_of, trouble_of
+from live.child.attended import STOOD, SUSPECT, Doubt, Over
+from live.child.report import NEWS, Clock, Differs, Event, Fault, Line, Move, Picture, Position, Recovered, Result, by_byte, event_of
 from live.game import times
 from live.game.afterwards import corrected, unheard
-from live.game.attended import STOOD, SUSPECT, Doubt, Over
 from live.game.doubted import byte_of, look_of, name_of
 from live.game.files import text_of
 from live.game.game import Game, forget_question, front_of, largest, mark_end, mebibytes
 from live.game.making_pgn import Made, Maker, told_of_edit
 from live.game.opening import Opened
-from live.game.report import NEWS, Clock, Differs, Event, Fault, Line, Move, Picture, Position, Recovered, Result, by_byte, event_of
 from live.game.times import ADDED, BACK, HEARD, OVER, REOPENED
-from live.guard import Guard
-from live.steps import Resume, Steps
-from live.terminal.screen import Screen
+from live.run.beside import Worker
+from live.run.guard import Guard
+from live.run.steps import Resume, Steps
+from live.show.screen import Screen
 from live.words.message import Message, linked
 
 TICK = 1.0  # seconds between two looks at what waits

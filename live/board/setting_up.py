@@ -4,12 +4,13 @@ from __future__ import annotations
 
 from typing import Callable, List, Optional, Protocol
 
-from live.board.attended_game import AttendedGame, HearsGame
 from live.board.afterwards import Afterwards, after_kept, after_recording
+from live.board.attended_game import AttendedGame, HearsGame
 from live.board.disk import Disk, unwritten_of
 from live.board.recording import Recording
 from live.board.standing import Standing
-from live.device.protocol import DUMP_BEGINS
+from live.child.reading import Reader
+from live.child.report import Differs, Picture, line_of
 from live.game.afterwards import is_read_anew, next_begins
 from live.game.answers import dump_at_end
 from live.game.course import Course
@@ -17,12 +18,11 @@ from live.game.files import LARGEST
 from live.game.game import Game
 from live.game.looks import Look
 from live.game.making_pgn import Made
-from live.game.reading import Reader
-from live.game.report import Differs, Picture, line_of
 from live.game.way_back import NO_RESULT
-from live.guard import Guard
-from live.loop import Timer
-from live.terminal.screen import Screen
+from live.line.protocol import DUMP_BEGINS
+from live.run.guard import Guard
+from live.run.loop import Timer
+from live.show.screen import Screen
 
 TICK = 1.0  # seconds between two checks
 LOOKED_BACK = 65536  # bytes before the end that are searched for the last dump

@@ -13,21 +13,21 @@ from live.board.board import Board
 from live.board.finding import Finder
 from live.board.plan import Plan, Wanted
 from live.board.state import Kind
-from live.called import DGT_LIVE
-from live.device.line import check, check_free
+from live.child.program import Program
+from live.child.reply import HELPS, Answer, reason_of, refusal
+from live.child.report import listed
 from live.game.files import Paths, size_of
 from live.game.game import end_mark, largest, mebibytes
 from live.game.opening import Chooses, Chosen, Opening, added_to_kept
 from live.game.options import Options, as_typed
-from live.game.program import Program
-from live.game.reply import HELPS, Answer, reason_of, refusal
-from live.game.report import listed
 from live.game.tags import Tags
 from live.game.typed import MESSAGES, MOVES
-from live.guard import traced
-from live.loop import Callback, Loop
-from live.refused import DONE, FAILED, REFUSED, Broken, Refused
-from live.terminal.screen import Screen
+from live.line.line import check, check_free
+from live.run.called import DGT_LIVE
+from live.run.guard import traced
+from live.run.loop import Callback, Loop
+from live.run.refused import DONE, FAILED, REFUSED, Broken, Refused
+from live.show.screen import Screen
 from live.words.message import Message, linked
 
 QUITS = ("q", "quit")

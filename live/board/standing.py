@@ -5,9 +5,9 @@ from __future__ import annotations
 from typing import Optional
 
 from live.board.state import TURNED_ROUND, BoardState, Kind, State
-from live.game.attended import Stood
-from live.loop import Turns
-from live.terminal.screen import Screen
+from live.child.attended import Stood
+from live.run.loop import Turns
+from live.show.screen import Screen
 from live.words.message import linked
 
 IN_A_SET_UP = (Kind.WAITS, Kind.AGREES, Kind.IN_HAND)  # states that say nothing while no game is played

@@ -20,7 +20,7 @@ import math
 from dataclasses import dataclass
 from typing import NamedTuple, Optional, Tuple
 
-from live.game.attended import UNSEEN, Stood
+from live.child.attended import UNSEEN, Stood
 from live.words.message import Message, has, linked
 
 MOST_LISTED = 8

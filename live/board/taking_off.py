@@ -9,6 +9,9 @@ from typing import Optional, Sequence, Tuple
 from live.board.obeying import Obeying
 from live.board.recording import Recording
 from live.board.setting_up import SettingUp
+from live.child.reading import game_of, read_game
+from live.child.reply import Answer
+from live.child.report import Move
 from live.game import answers
 from live.game.answers import Said
 from live.game.course import Course
@@ -16,13 +19,10 @@ from live.game.forfeiting import kept_forfeit
 from live.game.game import Game, end_mark
 from live.game.made_anew import ask_first, course_of, go_back_closed, or_reopened, put_way, reopen, unforfeited
 from live.game.opening import Opened
-from live.game.reading import game_of, read_game
-from live.game.reply import Answer
-from live.game.report import Move
 from live.game.typed import Back
 from live.game.way_back import ALL, NO_RESULT, Way, nothing_goes, refuse, way_of
-from live.refused import DONE
-from live.steps import Steps
+from live.run.refused import DONE
+from live.run.steps import Steps
 from live.words.message import Message, linked
 
 TAKEN_OFF = Message("done.taken_off")

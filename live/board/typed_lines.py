@@ -7,9 +7,9 @@ import functools
 from dataclasses import dataclass
 from typing import Callable, Deque, List, Optional, Union
 
-from live.game.reply import Answer
-from live.loop import Callback
-from live.steps import Steps, walk
+from live.child.reply import Answer
+from live.run.loop import Callback
+from live.run.steps import Steps, walk
 
 
 @dataclass(frozen=True)

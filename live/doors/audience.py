@@ -7,11 +7,7 @@ import os
 from typing import Sequence, Tuple
 
 from live.board.single import QUITS, Single
-from live.broadcast.broadcast import Broadcast
-from live.broadcast.going_out import HOLD, GoingOut, delay_of, keep_delay, minutes
-from live.broadcast.kept_out import keep_out, kept_out, told_of_kept
-from live.broadcast.leaving import Leaving, clock_in, hold
-from live.broadcast.unseen import is_unseen
+from live.child.program import Program
 from live.doors.calls import Call
 from live.game.file_names import has_delay
 from live.game.files import Paths
@@ -19,14 +15,18 @@ from live.game.forfeiting import forfeit_of
 from live.game.forfeits import told_to_readers
 from live.game.game import end_mark, kept_tags
 from live.game.options import Options
-from live.game.program import Program
 from live.game.tags import published
-from live.loop import Loop
-from live.refused import Refused
-from live.web.doors import Title, TwoPages
-from live.web.kept_pages import keep_pages, pages_of
-from live.web.round_page import ArbiterView
-from live.web.view import round_pgn
+from live.out.broadcast import Broadcast
+from live.out.going_out import HOLD, GoingOut, delay_of, keep_delay, minutes
+from live.out.kept_out import keep_out, kept_out, told_of_kept
+from live.out.leaving import Leaving, clock_in, hold
+from live.out.seen import round_pgn
+from live.out.unseen import is_unseen
+from live.run.loop import Loop
+from live.run.refused import Refused
+from live.show.doors import Title, TwoPages
+from live.show.kept_pages import keep_pages, pages_of
+from live.show.round_page import ArbiterView
 from live.words.message import Message
 
 

@@ -8,16 +8,15 @@ import shlex
 from dataclasses import dataclass, replace
 from typing import Dict, List, Optional, Sequence, Tuple
 
-from live.broadcast.broadcast import Broadcast
-from live.broadcast.going_out import HOLD, GoingOut, delay_of, in_home, minutes, read_command, read_delay, read_hold
-from live.broadcast.kept_out import keep_out, kept_out
-from live.broadcast.kept_out import told_of_kept as told_of_kept_out
-from live.broadcast.named_output import OPTION as OUTPUT
-from live.broadcast.named_output import (
+from live.out.broadcast import Broadcast
+from live.out.going_out import HOLD, GoingOut, delay_of, in_home, minutes, read_command, read_delay, read_hold
+from live.out.kept_out import keep_out, kept_out, told_of_kept as told_of_kept_out
+from live.out.named_output import OPTION as OUTPUT
+from live.out.named_output import (
     Output, held, left_in, name_in, read_outputs, refuse_games_in_site, refuse_links, refuse_shared_sites, refuse_unknown, removed, sites_given, told_of,
     without_those,
 )  # fmt: skip
-from live.called import DGT_ROUND
+from live.child.program import Program
 from live.doors import calls
 from live.doors.calls import refuse_both, refuse_hosts
 from live.doors.door import Outcome, through
@@ -25,26 +24,25 @@ from live.game.file_names import ROUND, is_of_an_output
 from live.game.files import LOCK_PATIENCE, Paths, text_of
 from live.game.game import keep_options, kept_options
 from live.game.opening import recordable, turned, unknown
-from live.game.options import RECOVER, STRICT, TAG, UNKNOWN, Options
-from live.game.options import as_typed, assigned, meant, no_option, typed_tag, typed_value, with_help, without_help
-from live.game.program import Program
-from live.lock import locked
-from live.loop import Loop, Signals
-from live.refused import ARGUMENTS, DONE, FAILED, REFUSED, Refused
+from live.game.options import RECOVER, STRICT, TAG, UNKNOWN, Options, as_typed, assigned, meant, no_option, typed_tag, typed_value, with_help, without_help
+from live.out.site import SiteFiles, refuse_no_site
 from live.round.display import terminal_of_lines
-from live.round.encodings import ENCODING, encoding_in, known_encoding
 from live.round.round import Round, first_pairings, refuse_another_round
-from live.round.place import folder_of_table, refuse_exchanged
 from live.round.row import Hall
-from live.round.site import SiteFiles, refuse_no_site
-from live.round.sources import Source
-from live.round.tournament import Tournament, made, tournament_of
-from live.round.tournament_files import RESULTS, TournamentFiles, all_text, results_text
-from live.round.trf import MATCHES, read_matches
-from live.web.address import Pages, read_pages
-from live.web.doors import Title, TwoPages
-from live.web.kept_pages import keep_pages, pages_of
-from live.web.round_page import ArbiterView
+from live.run.called import DGT_ROUND
+from live.run.lock import locked
+from live.run.loop import Loop, Signals
+from live.run.refused import ARGUMENTS, DONE, FAILED, REFUSED, Refused
+from live.show.address import Pages, read_pages
+from live.show.doors import Title, TwoPages
+from live.show.kept_pages import keep_pages, pages_of
+from live.show.round_page import ArbiterView
+from live.table.encodings import ENCODING, encoding_in, known_encoding
+from live.table.place import folder_of_table, refuse_exchanged
+from live.table.sources import Source
+from live.table.tournament import Tournament, made, tournament_of
+from live.table.tournament_files import RESULTS, TournamentFiles, all_text, results_text
+from live.table.trf import MATCHES, read_matches
 from live.words.message import Message, linked
 
 SEE_HELP = Message("help.round", dgt_round=DGT_ROUND)

@@ -6,10 +6,10 @@ import os
 import sys
 from typing import Callable, Sequence, Tuple
 
-from live import descriptors
-from live.loop import Signals
-from live.refused import DONE, FAILED, Refused, printable
-from live.terminal.terminal import folded_for, leave_as_found, open_standard_streams
+from live.run import descriptors
+from live.run.loop import Signals
+from live.run.refused import DONE, FAILED, Refused, printable
+from live.show.terminal import folded_for, leave_as_found, open_standard_streams
 
 Outcome = Tuple[int, Sequence[str]]  # a status, and complaints
 

@@ -6,13 +6,13 @@ import os
 from typing import List
 
 from live.board.plan import last_number, numbered
-from live.broadcast.unseen import is_hidden
-from live.called import DGT_LIVE
-from live.device import serial_line
-from live.device.numbers import Asked, ask, listing, told_of_shut
+from live.child import control
+from live.child.program import Program
+from live.child.refusal import is_recorded
+from live.child.reply import OK, REOPENS, Answer
 from live.doors.calls import Call
 from live.doors.door import Outcome
-from live.game import control, files, packing, published_text
+from live.game import files, packing
 from live.game.changing import add_by_name, told_of_round, told_of_series
 from live.game.file_names import check_name, has_delay
 from live.game.files import LOCK_PATIENCE, Paths
@@ -22,11 +22,13 @@ from live.game.names import today
 from live.game.naming import line_of
 from live.game.opening import Opening, checked, read_otherwise
 from live.game.options import Options
-from live.game.program import Program
-from live.game.refusal import is_recorded
-from live.game.reply import OK, REOPENS, Answer
-from live.loop import Loop
-from live.refused import DONE, FAILED, REFUSED, Refused, printable
+from live.line import serial_line
+from live.line.numbers import Asked, ask, listing, told_of_shut
+from live.out import published_text
+from live.out.unseen import is_hidden
+from live.run.called import DGT_LIVE
+from live.run.loop import Loop
+from live.run.refused import DONE, FAILED, REFUSED, Refused, printable
 from live.words.message import Message, linked
 
 

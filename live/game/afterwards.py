@@ -5,8 +5,8 @@ from __future__ import annotations
 from dataclasses import dataclass
 from typing import Optional, Sequence, Tuple
 
+from live.child.report import Event, Move
 from live.game.looks import AFTER_RESULT, OVER, Look
-from live.game.report import Event, Move
 from live.words.message import Message
 
 SURE = 2  # moves: one alone may be a piece that somebody sets straight

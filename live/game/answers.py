@@ -6,11 +6,11 @@ import re
 from dataclasses import dataclass
 from typing import List, Optional, Sequence, Tuple
 
-from live.device.protocol import DUMP_BEGINS, DUMP_SIZE
+from live.child.program import Program, told_of_ending
+from live.child.reply import OK, Refused
 from live.game.options import RECOVER, Options
-from live.game.program import Program, told_of_ending
-from live.game.reply import OK, Refused
 from live.game.typed import WAYS
+from live.line.protocol import DUMP_BEGINS, DUMP_SIZE
 from live.words.message import Message, plural
 
 SLOWEST = 60.0  # seconds that a call may take

@@ -7,7 +7,9 @@ import os
 from dataclasses import replace
 from typing import Callable, Optional, Tuple
 
-from live.called import DGT_LIVE
+from live.child.program import Program
+from live.child.reading import game_of
+from live.child.reply import Answer, Refused, refusal
 from live.game import answers
 from live.game.alarms import acknowledge, kept_looks
 from live.game.answers import BOARD, PLACED, Said, meaning, place_of
@@ -22,13 +24,11 @@ from live.game.making_pgn import Text, told_of_result
 from live.game.naming import is_naming
 from live.game.opening import Chooses, named
 from live.game.options import Options
-from live.game.program import Program
-from live.game.reading import game_of
-from live.game.reply import Answer, Refused, refusal
 from live.game.timed import Times
 from live.game.times import ADDED, LOOKED, OVER
 from live.game.typed import WAYS, Acknowledged, Back, Nothing, Quit, Reopened
-from live.refused import DONE, FAILED
+from live.run.called import DGT_LIVE
+from live.run.refused import DONE, FAILED
 from live.words.message import Message, linked
 
 LONGEST_NUMBER = 10  # digits of the number of a game in a series

@@ -4,8 +4,8 @@ from __future__ import annotations
 
 from typing import List, Optional, Sequence, Tuple
 
-from live.device import protocol
-from live.game.report import Change, Clock, Event, Fault, Line, Move, News, Picture, Position, Recovered, Result
+from live.child.report import Change, Clock, Event, Fault, Line, Move, News, Picture, Position, Recovered, Result
+from live.line import protocol
 
 
 class Course:

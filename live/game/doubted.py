@@ -4,9 +4,9 @@ from __future__ import annotations
 
 from typing import Sequence
 
-from live.game.attended import AFTER, SINCE, UNPLAYED, Doubt
+from live.child.attended import AFTER, SINCE, UNPLAYED, Doubt
+from live.child.report import Move
 from live.game.looks import Look
-from live.game.report import Move
 from live.words.message import Message, plural
 
 WHY = {

@@ -8,7 +8,7 @@ import stat
 from typing import List
 
 from live.game.files import Paths, plain, size_of
-from live.refused import ARGUMENTS, REFUSED, Refused
+from live.run.refused import ARGUMENTS, REFUSED, Refused
 from live.words.message import Message
 
 # A shell completes to the last one.

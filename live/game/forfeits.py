@@ -10,10 +10,9 @@ import re
 from dataclasses import dataclass
 from typing import Dict, Mapping, Union
 
+from live.child.reply import REOPENS, Refused
 from live.game.game import is_unplayed
-from live.game.reply import REOPENS, Refused
-from live.game.typed import NOUGHTS, Typed, read_words, refuse_no_text
-from live.game.typed import BOTH_LOSE as NO_SCORE
+from live.game.typed import NOUGHTS, Typed, read_words, refuse_no_text, BOTH_LOSE as NO_SCORE
 from live.words.message import Message
 
 WHITE, BLACK, BOTH = "+-", "-+", "--"  # White wins, Black wins, nobody does

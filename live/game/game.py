@@ -10,13 +10,12 @@ import zlib
 from dataclasses import dataclass, field
 from typing import Optional, Tuple
 
-from live.game.files import NO_SUCH_FILE, LARGEST, Capture, Paths
-from live.game.files import beginning, existing, not_written, put_in_place, remove, sync_folder, text_of
+from live.child.program import Program
+from live.game.files import NO_SUCH_FILE, LARGEST, Capture, Paths, beginning, existing, not_written, put_in_place, remove, sync_folder, text_of
 from live.game.options import Options
-from live.game.program import Program
 from live.game.tags import Tags
 from live.game.timed import Times
-from live.refused import FAILED, REFUSED, Refused
+from live.run.refused import FAILED, REFUSED, Refused
 from live.words.message import Message
 
 RESULT = re.compile(rb'^\[Result "([^"]*)"\]$', re.MULTILINE)

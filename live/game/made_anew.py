@@ -11,6 +11,9 @@ import os
 from dataclasses import replace
 from typing import Callable, Optional, Sequence, Tuple
 
+from live.child.reading import game_of, read_game
+from live.child.reply import Asked, Refused
+from live.child.report import Move, Picture, line_of
 from live.game import answers
 from live.game.alarms import keep_looks, kept_looks
 from live.game.answers import Said
@@ -19,12 +22,8 @@ from live.game.files import Capture, Paths, existing, not_written, put_in_place,
 from live.game.forfeiting import drop_forfeit, kept_forfeit
 from live.game.game import Game, end_mark, forget_question, keep_front, mark_end, unmark_end
 from live.game.making_pgn import Made, Text, told_of_edit
-from live.game.reading import game_of, read_game
-from live.game.reply import Asked, Refused
-from live.game.report import Move, Picture, line_of
 from live.game.times import BACK, OVER, REOPENED
-from live.game.way_back import ALL, ANEW, AS_IT_IS, CUT, NO_RESULT, PLIES, SIGNED, STILL_SHOWN, Way
-from live.game.way_back import asked_of, nothing_goes, played_since, refuse, stays_of, taken_up, way_of
+from live.game.way_back import ALL, ANEW, AS_IT_IS, CUT, NO_RESULT, PLIES, SIGNED, STILL_SHOWN, Way, asked_of, nothing_goes, played_since, refuse, stays_of, taken_up, way_of
 from live.words.message import Message, linked
 
 NO_LINKS = (errno.EPERM, errno.EOPNOTSUPP, errno.EMLINK)  # a file system without hard links

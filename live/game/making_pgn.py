@@ -13,15 +13,14 @@ import subprocess
 from dataclasses import dataclass
 from typing import Callable, Iterator, List, Optional, Protocol, Sequence, Tuple
 
-from live.beside import Worker
-from live.game.files import LARGEST, NO_ROOM, AnyPath, Opened, Paths
-from live.game.files import content_of, existing, new_of, open_new, open_regular, put_in_place, sync_folder, text_of, unwritten, write_all
+from live.child.program import Program, told_of_ending, wake
+from live.child.report import Move, Result, line_of
+from live.game.files import LARGEST, NO_ROOM, AnyPath, Opened, Paths, content_of, existing, new_of, open_new, open_regular, put_in_place, sync_folder, text_of, unwritten, write_all
 from live.game.game import Game
 from live.game.options import Options
-from live.game.program import Program, told_of_ending, wake
-from live.game.report import Move, Result, line_of
-from live.guard import Guard
-from live.loop import Timer
+from live.run.beside import Worker
+from live.run.guard import Guard
+from live.run.loop import Timer
 from live.words.message import Message
 
 AGAIN = 1.0  # seconds after a try that failed

@@ -5,8 +5,8 @@ from __future__ import annotations
 import re
 from typing import Dict, List, Optional
 
+from live.child.reply import Refused
 from live.game.options import DATE, PUBLISHED, TAG, UNKNOWN, Options
-from live.game.reply import Refused
 from live.game.tags import Malformed, pair_of
 from live.words.message import Message, linked
 

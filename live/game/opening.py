@@ -9,18 +9,18 @@ import threading
 from dataclasses import dataclass
 from typing import Callable, Dict, List, Optional, Protocol, Sequence, Tuple
 
+from live.child.program import Program
+from live.child.reading import Old, Reader, words_of
+from live.child.refusal import reason
 from live.game import names, tags
 from live.game.files import LOCK_PATIENCE, Capture, Paths, open_game, size_of
 from live.game.game import Game, end_mark, is_full, keep_options, kept_options, result_in, result_of
 from live.game.making_pgn import Made, Text, told_of_edit, told_of_reading, told_of_result
 from live.game.naming import read_names, told_of_names
 from live.game.options import PUBLISHED, UNKNOWN, Options, as_typed
-from live.game.program import Program
-from live.game.reading import Old, Reader, words_of
-from live.game.refusal import reason
 from live.game.timed import Times
-from live.loop import Callback
-from live.refused import FAILED, REFUSED, Refused
+from live.run.loop import Callback
+from live.run.refused import FAILED, REFUSED, Refused
 from live.words.message import Message
 
 # What changes each tag, and what it is called if that fails.

@@ -6,9 +6,9 @@ import dataclasses
 from dataclasses import dataclass
 from typing import Callable, Dict, List, Mapping, Optional, Sequence, Tuple
 
-from live.called import DGT_LIVE
 from live.game.tags import Malformed, pair_of
-from live.refused import ARGUMENTS, REFUSED, Refused
+from live.run.called import DGT_LIVE
+from live.run.refused import ARGUMENTS, REFUSED, Refused
 from live.words.message import Message, linked
 
 FIRST, FEN = "--first", "--fen"

@@ -14,8 +14,8 @@ from typing import IO, Iterator, List, Sequence, Tuple
 
 from live.game.files import Paths, existing, new_of, not_written, open_new, open_regular, sync_folder, text_of
 from live.game.made_anew import NO_LINKS
-from live.lock import locked
-from live.refused import FAILED, REFUSED, Refused
+from live.run.lock import locked
+from live.run.refused import FAILED, REFUSED, Refused
 from live.words.message import Message
 
 README = "README.txt"

@@ -11,7 +11,7 @@ import unicodedata
 from dataclasses import dataclass, replace
 from typing import Callable, Dict, List, Mapping, Optional, Sequence, Tuple
 
-from live.refused import JOINERS
+from live.run.refused import JOINERS
 from live.words.message import Complaint, Message, linked
 
 Tags = Mapping[str, str]

@@ -17,11 +17,11 @@ import time
 from dataclasses import dataclass
 from typing import Callable, List, Optional, Protocol, Tuple
 
-from live.device.protocol import DUMP_SIZE
 from live.game import times
 from live.game.began import Began, BeganFile, as_written, began_line, part_line, this_start
 from live.game.files import LARGEST, Capture, Paths, existing, open_regular, part_of, put_in_place, remove, sync_folder, text_of
-from live.loop import Away, Callback, Counting, Loop
+from live.line.protocol import DUMP_SIZE
+from live.run.loop import Away, Callback, Counting, Loop
 from live.words.message import Message
 
 TRIES_AGAIN = 1.0  # seconds after a write has failed

@@ -7,7 +7,7 @@ import re
 from dataclasses import dataclass
 from typing import Union
 
-from live.game.reply import BACK, HELPS, NO_TEXT, OK, REOPENS, Helped, Refused
+from live.child.reply import BACK, HELPS, NO_TEXT, OK, REOPENS, Helped, Refused
 from live.words.message import Message, linked
 
 WAYS = Message("typed.ways")

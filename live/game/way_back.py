@@ -6,9 +6,9 @@ from __future__ import annotations
 from dataclasses import dataclass
 from typing import List, Optional, Sequence
 
+from live.child.reply import Refused
+from live.child.report import Move
 from live.game.answers import LONG, Said
-from live.game.reply import Refused
-from live.game.report import Move
 from live.game.typed import WHICH_PLY, numbered
 from live.words.message import Message, linked
 

@@ -7,11 +7,11 @@ import time
 from typing import Callable, List, Optional
 
 from live.game.log import time_of
-from live.guard import traced
-from live.loop import Loop, Timer
-from live.round.table import RowView, listing, screen
-from live.terminal.painter import Painter
-from live.terminal.terminal import Shows, Terminal
+from live.run.guard import traced
+from live.run.loop import Loop, Timer
+from live.show.painter import Painter
+from live.show.terminal import Shows, Terminal
+from live.table.table import RowView, listing, screen
 
 NARROWEST = 40  # columns of a terminal: if it has fewer, the rows are broken
 KEPT = 200  # messages

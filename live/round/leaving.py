@@ -6,9 +6,9 @@ from __future__ import annotations
 from dataclasses import dataclass
 from typing import Callable, Optional
 
-from live.broadcast.leaving import LOOK, clock_in
-from live.broadcast.outputs import Outputs
-from live.loop import Turns
+from live.out.leaving import LOOK, clock_in
+from live.out.outputs import Outputs
+from live.run.loop import Turns
 from live.words.message import Message, linked, plural
 
 PATIENCE = 60.0  # seconds for which an answer about games counts

@@ -11,44 +11,41 @@ import time
 from types import MappingProxyType
 from typing import Callable, Dict, List, Mapping, Optional, Sequence, Set, Tuple, Union
 
-from live.beside import Worker
 from live.board.board import Board
 from live.board.exchanged import may_be_exchanged, same_number
 from live.board.finding import Finder
-from live.broadcast.broadcast import Broadcast
-from live.broadcast.games import written_name
-from live.broadcast.leaving import clock_in
-from live.broadcast.matches import UNKNOWN as NOT_KNOWN
-from live.broadcast.matches import Paired, matches_of, told_of_matches
-from live.broadcast.outputs import Outputs
-from live.called import DGT_ROUND
+from live.child.reply import HELPS, Answer, printable, refusal, Refused as NotDone
+from live.child.report import listed
 from live.game.answers import UNKNOWN, Said
 from live.game.file_names import ROUND
 from live.game.files import size_of, text_of
 from live.game.forfeits import NO_RESULT, score_of, typed_forfeit
 from live.game.log import Log, logged_at
-from live.game.reply import HELPS, Answer, printable, refusal
-from live.game.reply import Refused as NotDone
-from live.game.report import listed
 from live.game.typed import MESSAGES, MOVES, refuse_no_text
-from live.guard import traced
-from live.loop import Loop
-from live.refused import DONE, FAILED, REFUSED, Refused
-from live.refused import printable as whole_printable
+from live.out.broadcast import Broadcast
+from live.out.games import written_name
+from live.out.leaving import clock_in
+from live.out.matches import UNKNOWN as NOT_KNOWN, Paired, matches_of, told_of_matches
+from live.out.outputs import Outputs
+from live.out.published import Published
+from live.out.seen import round_pgn
 from live.round.display import Display
-from live.round.encodings import is_question
-from live.round.joining import not_plugged_in, with_some
 from live.round.leaving import Leaving
-from live.round.pairings import EXAMPLE, Pairing, Pairings, Wrong, told_of_wrong
-from live.round.place import another_folder
-from live.round.published import Published
 from live.round.row import Earlier, Hall, Row, earlier_game, was_forfeited
-from live.round.sources import Source, without_twice
-from live.round.table import NOT_RECORDED, RowView, boards_are, boards_counted, lines_are_wrong
-from live.round.tournament_files import FORFEIT, Result
 from live.round.ways import all_ways, is_command, said_of, told_of_answer, ways
-from live.terminal.terminal import Typed
-from live.web.view import round_pgn
+from live.run.beside import Worker
+from live.run.called import DGT_ROUND
+from live.run.guard import traced
+from live.run.loop import Loop
+from live.run.refused import DONE, FAILED, REFUSED, Refused, printable as whole_printable
+from live.show.terminal import Typed
+from live.table.encodings import is_question
+from live.table.joining import not_plugged_in, with_some
+from live.table.pairings import EXAMPLE, Pairing, Pairings, Wrong, told_of_wrong
+from live.table.place import another_folder
+from live.table.sources import Source, without_twice
+from live.table.table import NOT_RECORDED, RowView, boards_are, boards_counted, lines_are_wrong
+from live.table.tournament_files import FORFEIT, Result
 from live.words.message import Message, linked
 
 OPENS = 5.0  # seconds that all games may take to be opened

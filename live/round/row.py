@@ -11,11 +11,9 @@ from live.board.board import Board
 from live.board.plan import Plan, Wanted
 from live.board.reasons import Rules
 from live.board.state import OTHER_BOARD, Kind, State
-from live.broadcast.games import written_name
-from live.broadcast.going_out import GoingOut
-from live.broadcast.named_output import Output
-from live.device.line import check
-from live.device.protocol import SQUARES
+from live.child.program import Program
+from live.child.reading import game_of
+from live.child.reply import REOPENS, Answer, refusal
 from live.game import files
 from live.game.course import clocks_of
 from live.game.files import Paths
@@ -25,16 +23,18 @@ from live.game.game import end_mark, kept_options, result_in
 from live.game.naming import IN_A_TABLE, is_naming
 from live.game.opening import Chooses, Opening, checked, of_a_line, recordable, turned
 from live.game.options import PLAYERS, UNKNOWN, Options
-from live.game.program import Program
-from live.game.reading import game_of
-from live.game.reply import REOPENS, Answer, refusal
 from live.game.tags import SIDES, Tags
-from live.loop import Turns
-from live.refused import DONE, REFUSED, Refused
-from live.round.pairings import Pairing, same_but_for_names, same_but_for_result
-from live.round.table import NOT_RECORDED, RowView
-from live.terminal.screen import Screen
-from live.terminal.terminal import Terminal
+from live.line.line import check
+from live.line.protocol import SQUARES
+from live.out.games import written_name
+from live.out.going_out import GoingOut
+from live.out.named_output import Output
+from live.run.loop import Turns
+from live.run.refused import DONE, REFUSED, Refused
+from live.show.screen import Screen
+from live.show.terminal import Terminal
+from live.table.pairings import Pairing, same_but_for_names, same_but_for_result
+from live.table.table import NOT_RECORDED, RowView
 from live.words.message import Message, has, is_of, linked
 
 ANSWERED = ("typed.added_by_hand", "typed.added_by_hand_to", "look.acknowledged")  # the answer to a typed line says it in other words

@@ -4,16 +4,15 @@ from __future__ import annotations
 
 from typing import Sequence
 
+from live.child.program import Program
+from live.child.reply import OK, REFUSALS, REOPENS, Answer, Refused as NotDone
 from live.game import answers
 from live.game.answers import ILLEGAL, MEANT, MOVES, OK_NUMBERED, RESULT, UNKNOWN, Said, moves_in
 from live.game.forfeits import typed_forfeit
 from live.game.naming import IN_A_TABLE, is_naming
 from live.game.options import Options
-from live.game.program import Program
-from live.game.reply import OK, REFUSALS, REOPENS, Answer
-from live.game.reply import Refused as NotDone
 from live.game.typed import ABSENT, ALL_WAYS, Acknowledged, Back, Reopened, read_words
-from live.refused import DONE
+from live.run.refused import DONE
 from live.words.message import Message, has, is_of, linked
 
 

@@ -5,7 +5,7 @@ from __future__ import annotations
 import enum
 from typing import Dict, Optional
 
-from live.device.protocol import SERIAL_LENGTH, Picture
+from live.line.protocol import SERIAL_LENGTH, Picture
 
 SERIAL_REQUEST = b"E"  # 45: the board's serial number
 DUMP_ID, UPDATE_ID, TIME_ID, SERIAL_ID = 0x86, 0x8E, 0x8D, 0x91

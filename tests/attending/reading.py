@@ -9,8 +9,7 @@ from typing import Optional, Tuple
 from attending.answers import Answer, State
 from attending.host import Call
 from attending.pictures import field
-from live.board.state import OTHER_BOARD, TURNED_ROUND, Kind
-from live.board.state import State as HostState
+from live.board.state import OTHER_BOARD, TURNED_ROUND, Kind, State as HostState
 
 KINDS = {kind.name.replace("_", "-"): kind for kind in Kind}
 HINTS = {"": "", "TURNED-ROUND": TURNED_ROUND, "OTHER-BOARD": OTHER_BOARD}

@@ -1,4 +1,4 @@
-"""A serial server and what a recorder's connection makes of it, by `Connection` of live/device/connection.py: what the server sends in which
+"""A serial server and what a recorder's connection makes of it, by `Connection` of live/line/connection.py: what the server sends in which
 parts, and what is passed on. The program says when a board has answered."""
 
 import os
@@ -7,10 +7,10 @@ import socket
 import tempfile
 from typing import Callable, List, Optional, Sequence, Tuple
 
-from live.device.connection import FLOOD, Connection
-from live.game.program import Program
-from live.guard import Guard
-from live.loop import Loop
+from live.child.program import Program
+from live.line.connection import FLOOD, Connection
+from live.run.guard import Guard
+from live.run.loop import Loop
 
 from attending.numbers import DEADLY, DUMP, UPDATE, children, dying, numbered
 from decided.table import same

@@ -12,8 +12,8 @@ from dataclasses import dataclass, field
 from typing import Dict, Iterable, Optional, Tuple
 
 from live.board.state import OTHER_BOARD, TURNED_ROUND, Kind, State
-from live.device.protocol import Picture, differing
-from live.game.report import Agrees, Differs, Event, Move, Result
+from live.child.report import Agrees, Differs, Event, Move, Result
+from live.line.protocol import Picture, differing
 
 HAND = 10.0  # seconds that a hand may take
 MOST_IN_HAND = 6  # squares: castling changes four, and a neighbour or two may be straightened

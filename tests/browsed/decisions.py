@@ -15,7 +15,7 @@ from paged.devtools import Browser, Tab
 from played.stage import same
 
 CASES = TOP / "tests" / "decisions"
-FOLDERS = ("web", "hosts", "tests/decisions", "live/web/page")
+FOLDERS = ("web", "hosts", "tests/decisions", "live/show/page")
 # 16 boards send something in one moment, twice; then what the fifth has sent can't be kept.
 TOGETHER = """
 import('/web/kept/database.js').then(async ({ Database }) => {

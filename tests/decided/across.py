@@ -2,9 +2,9 @@
 
 from typing import List, Optional, Tuple
 
-from live.device.line import same_line
-from live.device.network_address import Address, is_network, read_address
-from live.device.trial import Trial
+from live.line.line import same_line
+from live.line.network_address import Address, is_network, read_address
+from live.line.trial import Trial
 
 from decided.table import same
 

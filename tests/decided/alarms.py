@@ -6,10 +6,10 @@ from typing import Any, List, Tuple
 
 from live.board.advice import Moves, if_not
 from live.board.afterwards import Afterwards
+from live.child.attended import SINCE, Doubt
+from live.child.report import Move, line_of
 from live.game.afterwards import FromTheStart
-from live.game.attended import SINCE, Doubt
 from live.game.doubted import look_of
-from live.game.report import Move, line_of
 
 from attending.state_rules import Agreement
 from decided.cases import cases

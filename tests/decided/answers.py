@@ -5,10 +5,10 @@ import dataclasses
 import json
 from typing import Any, Dict
 
+from live.child.reply import NO_TEXT, Asked, Helped, Refused, refusal
 from live.game.answers import Said, meaning, place_of, read_answer, refuse
-from live.game.reply import NO_TEXT, Asked, Helped, Refused, refusal
 from live.game.typed import ALL_WAYS, BOTH_LOSE, WAYS, WHICH_PLY, Back, Typed, read_words, with_more
-from live.refused import REFUSED
+from live.run.refused import REFUSED
 from live.words.message import Message
 
 from decided.cases import cases

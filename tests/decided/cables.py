@@ -7,8 +7,8 @@ from live.board import cable as cable_module
 from live.board.board import Board
 from live.board.cable import Cable
 from live.board.standing import Standing
-from live.game.attended import Answer
-from live.game.attending import Told
+from live.child.attended import Answer
+from live.child.attending import Told
 from live.game.times import HEARD
 
 from decided.table import same

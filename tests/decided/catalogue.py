@@ -8,7 +8,7 @@ import re
 import tempfile
 from typing import Dict, FrozenSet, Iterator, List, Mapping, NamedTuple, Set, Tuple
 
-from live.web.page import ARBITER, SPECTATORS, index_of
+from live.show.page import ARBITER, SPECTATORS, index_of
 from live.words.catalogue import LINKS, MANY, ONE, NoCatalogue, faults, path_of, places_of, read, read_like
 from live.words.message import ENGLISH, Message, has, is_of, linked, plural, text_of, written
 
@@ -23,18 +23,18 @@ WORD = re.compile(r"""(?:^|(?<=[\s("'>]))[A-Za-z][A-Za-z']*(?=$|[\s.,:;?!)"'<])"
 FEW = 3  # words that make a sentence
 # What reads as a sentence and is none, by the file in which it stands: how each begins.
 NO_SENTENCES: Dict[str, Tuple[str, ...]] = {
-    "live/device/protocol.py": ("not eight",),  # only who programs sees it
+    "live/line/protocol.py": ("not eight",),  # only who programs sees it
     "live/doors/dgt_live.py": ("usage:",),  # its --help
     "live/doors/dgt_round.py": ("usage:",),
     "live/game/answers.py": ("input: too long",),  # what dgt_replay prints
     "live/game/way_back.py": ("as it is",),  # a value, as the next ones
-    "live/guard.py": ("Traceback", '  File "'),  # as Python prints where an error was raised
-    "live/round/settings.py": ("# The settings of the tournament",),  # a file that is made
-    "live/round/site.py": ("default-src", "<link"),  # HTML
-    "live/round/tournament.py": ("board;white;",),  # the headings of a table
-    "live/terminal/editing.py": ("to the end", "to the start"),
-    "live/web/page/message.js": ("the catalogue has no {}",),
-    "live/web/http.py": ("Method Not", "Content Too", "URI Too", "Request Header", "HTTP Version", "default-src"),  # as HTTP has them
+    "live/run/guard.py": ("Traceback", '  File "'),  # as Python prints where an error was raised
+    "live/table/settings.py": ("# The settings of the tournament",),  # a file that is made
+    "live/out/site.py": ("default-src", "<link"),  # HTML
+    "live/table/tournament.py": ("board;white;",),  # the headings of a table
+    "live/show/editing.py": ("to the end", "to the start"),
+    "live/show/page/message.js": ("the catalogue has no {}",),
+    "live/show/http.py": ("Method Not", "Content Too", "URI Too", "Request Header", "HTTP Version", "default-src"),  # as HTTP has them
     # Where there is no catalogue.
     "live/words/catalogue.py": ("{} can't be read", "{} is no JSON", "{} is no object", "{} is no key", "{} has {}"),
     "live/words/message.py": ("the catalogue has no {}",),
@@ -44,7 +44,7 @@ NO_SENTENCES: Dict[str, Tuple[str, ...]] = {
     "web/game/way_back.js": ("as it is", "input: too long"),
     "web/loop.js": ("\n  onmessage",),  # code
 }
-MESSAGE = "live/web/page/message.js"
+MESSAGE = "live/show/page/message.js"
 MAKING = ("message", "plural", "linked")  # its functions that make messages
 
 
@@ -195,7 +195,7 @@ def pages_have_theirs() -> None:
     for site in (ARBITER, SPECTATORS):
         _, _, rest = index_of(site).partition(b'id="words">')
         words = json.loads(rest.partition(b"</script>")[0])
-        own = {f"live/web/page/{name}" for name in site.files}
+        own = {f"live/show/page/{name}" for name in site.files}
         made = {key for call in calls_in_javascript() if call.place.partition(":")[0] in own for key in call.keys}
         same(f"{site.index}: what its scripts need", sorted(made - set(words)), [])
         same(f"{site.index}: no other", [key for key in words if key not in made and not key.startswith(LINKS)], [])

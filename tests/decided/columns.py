@@ -5,9 +5,9 @@ import random
 import textwrap
 
 from live.board.state import Kind, State
-from live.refused import printable
-from live.round.table import Columns, RowView, row
-from live.terminal.columns import cut, fitted, folded, seen, split_at, width_of
+from live.run.refused import printable
+from live.show.columns import cut, fitted, folded, seen, split_at, width_of
+from live.table.table import Columns, RowView, row
 
 from decided.table import same
 

@@ -3,12 +3,12 @@
 import tempfile
 from typing import List, Sequence
 
+from live.child.attended import Answers, Doubt
+from live.child.report import Move
 from live.game.alarms import Alarms, kept_looks
-from live.game.attended import Answers, Doubt
 from live.game.doubted import byte_of, look_of
 from live.game.files import Paths
 from live.game.looks import OVER, Look, Looks
-from live.game.report import Move
 
 from decided.cases import cases
 from decided.table import same

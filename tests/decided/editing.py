@@ -3,8 +3,8 @@
 from typing import List
 from unittest import mock
 
-from live.terminal import columns, editing
-from live.terminal.editing import KEPT, Line, Typed, after, part_shown
+from live.show import columns, editing
+from live.show.editing import KEPT, Line, Typed, after, part_shown
 
 from decided.table import same
 

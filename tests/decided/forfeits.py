@@ -2,12 +2,12 @@
 
 from typing import Dict
 
+from live.child.reply import Refused
 from live.game.forfeits import Forfeit, fits, in_a_table, read_typed, refuse_played, typed_forfeit
 from live.game.game import is_unplayed
-from live.game.reply import Refused
 from live.game.typed import Added
-from live.round.pairings import read_pairings, result_of
-from live.round.trf import outcome_of
+from live.table.pairings import read_pairings, result_of
+from live.table.trf import outcome_of
 
 from decided.table import accepted, refused, same
 

@@ -10,22 +10,22 @@ import threading
 import time
 from typing import Callable, List, Optional, Tuple
 
-from live.broadcast.broadcast import OneGame
-from live.broadcast.kept_out import UNPUBLISHED, KeptOut, read_kept, told_of_kept, with_given, written
-from live.broadcast.going_out import GoingOut, delay_of, read_command, read_delay
-from live.broadcast.publishing import Plan, last_line, run
-from live.broadcast.running import Clocks, Running, seconds_of, side_between
-from live.broadcast.shot import Shot
-from live.broadcast.unseen import is_hidden, is_unseen
-from live.broadcast.view import Player, SpectatorBoard
-from live.broadcast.waiting import ALWAYS, Entry, Waiting
+from live.child.report import Clock
 from live.game import times
 from live.game.began import Began, began_line, part_line, summed, this_start
 from live.game.files import Paths
-from live.game.report import Clock
 from live.game.timed import milliseconds
-from live.refused import Refused
-from live.web.view import Ply
+from live.out.broadcast import OneGame
+from live.out.going_out import GoingOut, delay_of, read_command, read_delay
+from live.out.kept_out import UNPUBLISHED, KeptOut, read_kept, told_of_kept, with_given, written
+from live.out.publishing import Plan, last_line, run
+from live.out.running import Clocks, Running, seconds_of, side_between
+from live.out.seen import Ply
+from live.out.shot import Shot
+from live.out.unseen import is_hidden, is_unseen
+from live.out.view import Player, SpectatorBoard
+from live.out.waiting import ALWAYS, Entry, Waiting
+from live.run.refused import Refused
 
 from decided.table import refused, same
 
@@ -352,7 +352,7 @@ while not (folder / f"{name}.goes").exists():
 note("ends")
 """
 # A recorder that publishes, and is killed.
-PUBLISHES = "import sys; sys.path.insert(0, sys.argv[1]); from live.broadcast.publishing import run; run(sys.argv[3:], sys.argv[2], 60.0)"
+PUBLISHES = "import sys; sys.path.insert(0, sys.argv[1]); from live.out.publishing import run; run(sys.argv[3:], sys.argv[2], 60.0)"
 # Starts a process in a session of its own, writes its number, and goes on or not.
 OUTLIVED = """
 import pathlib, subprocess, sys, time

@@ -5,9 +5,9 @@ import os
 import threading
 from typing import Callable, List
 
-from live.beside import Worker
-from live.guard import Guard, traced
-from live.loop import Loop
+from live.run.beside import Worker
+from live.run.guard import Guard, traced
+from live.run.loop import Loop
 
 from decided.table import same
 

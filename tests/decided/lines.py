@@ -6,10 +6,10 @@ import pathlib
 import subprocess
 from typing import List, Optional, Sequence, Tuple
 
-from live.device.protocol import SQUARES, picture_of_placement
+from live.child.program import Program
 from live.game.answers import BOARD, ENDED, RESULT, add, dump_at_end
 from live.game.options import Options
-from live.game.program import Program
+from live.line.protocol import SQUARES, picture_of_placement
 
 from decided.cases import bytes_of, cases
 from decided.table import same

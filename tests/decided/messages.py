@@ -14,24 +14,23 @@ from typing import Callable, Dict, List, Tuple, cast
 from live.board.disk import Disk, HearsDisk
 from live.board.standing import Standing
 from live.board.state import DISK_FULL, NOT_WRITTEN
+from live.child.program import Program
+from live.child.refusal import is_recorded, reason
 from live.doors import dgt_round
-from live.game import files
-from live.game import log as log_file
+from live.game import files, log as log_file
 from live.game.answers import Said
 from live.game.file_names import check_name
 from live.game.files import Capture, not_written, open_regular, plain
 from live.game.log import Log
 from live.game.making_pgn import Made
 from live.game.options import Options
-from live.game.program import Program
-from live.game.refusal import is_recorded, reason
-from live.refused import Refused
-from live.round.place import another_folder
+from live.line.numbers import Asked, listing, told_of_shut
+from live.line.serial_line import login_name, may_not_open
 from live.round.ways import ways
-from live.device.numbers import Asked, listing, told_of_shut
-from live.device.serial_line import login_name, may_not_open
-from live.round.table import boards_are
-from live.terminal.screen import Screen
+from live.run.refused import Refused
+from live.show.screen import Screen
+from live.table.place import another_folder
+from live.table.table import boards_are
 
 from decided.table import accepted, refused, same
 
@@ -396,7 +395,7 @@ import sys; sys.path.insert(0, sys.argv[1])
 import live.doors.dgt_live
 print(*sys.modules)
 """
-OF_OTHER_CALLS = {"live.doors.audience", "live.doors.kept_game", "live.broadcast.broadcast", "live.web.page", "live.round", "live.game.packing"}
+OF_OTHER_CALLS = {"live.doors.audience", "live.doors.kept_game", "live.out.broadcast", "live.show.page", "live.round", "live.game.packing"}
 HEAVY = {"pathlib", "urllib", "hashlib", "email", "traceback", "datetime", "zipfile"}
 OF_INSPECT = {"inspect", "ast", "dis", "tokenize"}  # which dataclasses imports
 

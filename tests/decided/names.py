@@ -3,7 +3,7 @@
 from live.game.names import Unreadable, ascii_name, pgn_date
 from live.game.opening import CALLED, TURNS, turned
 from live.game.options import TAGS, Options
-from live.refused import Refused
+from live.run.refused import Refused
 
 from decided.cases import cases
 from decided.table import refused, same

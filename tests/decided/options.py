@@ -2,13 +2,13 @@
 
 from typing import Tuple
 
-from live.broadcast.publishing import argument
 from live.doors import calls, dgt_round
 from live.game.opening import recordable, turned
 from live.game.options import PUBLISHED, Options, as_typed, assigned
 from live.game.tags import Malformed, value_of
-from live.refused import ARGUMENTS, Refused
-from live.round.pairings import Pairing
+from live.out.publishing import argument
+from live.run.refused import ARGUMENTS, Refused
+from live.table.pairings import Pairing
 
 from decided.cases import cases
 from decided.table import refused, same

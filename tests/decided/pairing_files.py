@@ -5,15 +5,15 @@ import pathlib
 import tempfile
 from typing import Dict, List, Tuple
 
+from live.child.program import Program
 from live.doors.dgt_round import VALUED, parse
-from live.game.program import Program
-from live.refused import Refused
-from live.round.encodings import ENCODING, encoding_in, known_encoding, text_of, told_of_reading
-from live.round.joining import joined, placed, with_some
-from live.round.pairings import Pairing, Pairings, Wrong, read_pairings
-from live.round.sources import Source
-from live.round.settings import TEMPLATE, encoding_set, words_of
-from live.round.trf import Head, head_of, is_report, read_matches, read_report
+from live.run.refused import Refused
+from live.table.encodings import ENCODING, encoding_in, known_encoding, text_of, told_of_reading
+from live.table.joining import joined, placed, with_some
+from live.table.pairings import Pairing, Pairings, Wrong, read_pairings
+from live.table.settings import TEMPLATE, encoding_set, words_of
+from live.table.sources import Source
+from live.table.trf import Head, head_of, is_report, read_matches, read_report
 
 from decided.table import refused, same
 

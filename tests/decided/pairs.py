@@ -1,11 +1,11 @@
 """Pairs of moves that two hands hid: when they are recovered, and what is told of them; and which other options a game goes on with,
 and what is told of that."""
 
-from live.game.making_pgn import told_of_reading, told_of_result
+from live.child.report import Line, Recovered, line_of
 from live.doors.calls import parse
+from live.game.making_pgn import told_of_reading, told_of_result
 from live.game.options import Options
-from live.refused import Refused
-from live.game.report import Line, Recovered, line_of
+from live.run.refused import Refused
 
 from decided.table import refused, same
 

@@ -8,10 +8,10 @@ import tempfile
 from typing import Dict, Iterator
 from unittest import mock
 
-from live.called import in_front
-from live.device import serial_line
-from live.round.pairings import Pairing, Pairings
-from live.round.sources import without_twice
+from live.line import serial_line
+from live.run.called import in_front
+from live.table.pairings import Pairing, Pairings
+from live.table.sources import without_twice
 
 from decided.table import same
 

@@ -1,6 +1,6 @@
 """Frames, dumps, placements: worked by hand from FORMATS, 'What the board sends'."""
 
-from live.device.protocol import differing, picture_of_placement
+from live.line.protocol import differing, picture_of_placement
 
 from attending.asking_rules import DUMP_REQUEST, START_REQUEST
 from attending.frames import FrameKind, Frames, serial_of

@@ -5,12 +5,12 @@ import json
 import random
 from typing import Any, Dict, List, Optional, Sequence
 
-from live.device.protocol import SQUARES, picture_of_placement
+from live.child.reading import wanted
+from live.child.report import NEWS, Line, Move, Recovered, Result, by_byte, line_of
 from live.game.course import Course, clocks_of
 from live.game.options import Options
-from live.game.reading import wanted
-from live.game.report import NEWS, Line, Move, Recovered, Result, by_byte, line_of
-from live.refused import Refused
+from live.line.protocol import SQUARES, picture_of_placement
+from live.run.refused import Refused
 
 from decided.cases import cases
 from decided.table import refused, same

@@ -2,15 +2,13 @@
 
 from typing import List, Optional, Tuple
 
-from live.broadcast.leaving import stays_for, until_clock_in
+from live.child.reply import Answer, Refused as NotDone, refusal
 from live.game.answers import RESULT, Said, meaning
-from live.game.reply import Answer
-from live.game.reply import Refused as NotDone
-from live.game.reply import refusal
 from live.game.typed import ALL_WAYS
-from live.refused import DONE, REFUSED
+from live.out.leaving import stays_for, until_clock_in
 from live.round.leaving import Question, question, told
 from live.round.ways import told_of_answer
+from live.run.refused import DONE, REFUSED
 from live.words.message import Message, linked
 
 from decided.table import same

@@ -4,12 +4,12 @@ import math
 from typing import Any, Dict, List, Optional
 
 from live.board.standing import Standing
-from live.device.protocol import picture_of_placement
-from live.game.attended import Stood
-from live.terminal.screen import PROMPT, Screen
-from live.game.report import Event, event_of
-from live.loop import Loop
 from live.board.state import DISK_FULL, OTHER_BOARD, TURNED_ROUND, Kind, State, lasting
+from live.child.attended import Stood
+from live.child.report import Event, event_of
+from live.line.protocol import picture_of_placement
+from live.run.loop import Loop
+from live.show.screen import PROMPT, Screen
 
 from attending.frames import picture_of_dump
 from attending.state_rules import BoardState, turned_round

@@ -3,12 +3,12 @@
 from typing import List, Optional, Tuple
 
 from decided.table import refused, same
-from live.broadcast.going_out import read_hold
-from live.broadcast.shot import Shot
-from live.broadcast.running import Clocks
-from live.broadcast.steady import Steady
-from live.refused import Refused
-from live.web.view import Ply
+from live.out.going_out import read_hold
+from live.out.running import Clocks
+from live.out.seen import Ply
+from live.out.shot import Shot
+from live.out.steady import Steady
+from live.run.refused import Refused
 
 
 def shot(text: str, runs: str = "", result: str = "*") -> Shot:

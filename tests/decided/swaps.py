@@ -4,13 +4,13 @@ from typing import List, Optional
 
 from live.board.cable import Cable
 from live.board.standing import Standing
-from live.game.attended import KEEP, OTHER, Answer
-from live.game.attending import Told
-from live.game.program import Program
+from live.child.attended import KEEP, OTHER, Answer
+from live.child.attending import Told
+from live.child.program import Program
 from live.game.times import HEARD
-from live.guard import Guard
-from live.loop import Loop
-from live.terminal.screen import Screen
+from live.run.guard import Guard
+from live.run.loop import Loop
+from live.show.screen import Screen
 
 from decided.table import same
 

@@ -3,13 +3,13 @@ and lines of a table that change nothing else."""
 
 from dataclasses import replace
 
+from live.child.reply import Refused as NotNamed
 from live.game.naming import is_naming, line_of, read_names, told_of_names
 from live.game.opening import added_to_kept, read_otherwise, recordable, strictly
 from live.game.options import Options
-from live.game.reply import Refused as NotNamed
 from live.game.tags import Malformed, pair_of, published, value_of
-from live.refused import Refused
-from live.round.pairings import Pairing, same_but_for_names, same_but_for_result
+from live.run.refused import Refused
+from live.table.pairings import Pairing, same_but_for_names, same_but_for_result
 
 from decided.cases import cases
 from decided.table import refused, same

@@ -1,9 +1,9 @@
 """The way back, in words: what is asked and told, and which alarms end, given what the program says. Worked by hand from what the
 screen prints."""
 
+from live.child.report import Move
 from live.game.answers import Said, read_answer
 from live.game.looks import OVER, Look, Looks
-from live.game.report import Move
 from live.game.typed import numbered
 from live.game.way_back import Way, asked_of, nothing_goes, played_since, refuse, stays_of, taken_up, way_of
 

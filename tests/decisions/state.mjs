@@ -1,7 +1,7 @@
 /** How long a state has lasted, in words, and what is said of a clock that is stopped. What a board's state is, the program decides. */
-import { lasting } from "/live/web/page/chess.js";
+import { lasting } from "/live/show/page/chess.js";
 import { Kind, State, TURNED_ROUND } from "/web/board/state.js";
-import { message } from "/live/web/page/message.js";
+import { message } from "/live/show/page/message.js";
 
 const HINTS = { "state.turned_round": TURNED_ROUND, "state.other_board": message("state.other_board") };
 

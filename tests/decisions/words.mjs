@@ -1,5 +1,5 @@
 /** Messages: sentences of the catalogue, with what goes into their places. */
-import { Complaint, isSame, linked, message, plural } from "/live/web/page/message.js";
+import { Complaint, isSame, linked, message, plural } from "/live/show/page/message.js";
 
 const made = ([key, places]) => {
   const put = Object.entries(places).map(([name, place]) => [name, Array.isArray(place) ? made(place) : place]);

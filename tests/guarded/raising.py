@@ -26,6 +26,7 @@ from typing import Any, Dict, Iterator, Optional, Set, Tuple
 sys.dont_write_bytecode = sys.pycache_prefix is None
 TOP = pathlib.Path(__file__).resolve().parents[2]
 LIVE = str(TOP / "live") + os.sep
+PAGES = tuple(f"live.show.{name}" for name in ("doors", "http", "kept_pages", "page", "round_page", "serving"))
 PAUSE = 0.1  # seconds between two errors
 TURNS = 2  # of the loop between two errors: what was raised has been told by then, however slow the machine is
 FIRST = "board 1"
@@ -183,9 +184,9 @@ def named(one: object) -> str:
         board = getattr(getattr(part, "pairing", None), "board", None)
         if board is not None:
             return f"board {board}"
-    if kind.__module__.startswith("live.web."):
+    if kind.__module__ in PAGES:
         return "page"
-    return "typed" if (kind.__module__, kind.__name__) == ("live.terminal.terminal", "Typed") else ""
+    return "typed" if (kind.__module__, kind.__name__) == ("live.show.terminal", "Typed") else ""
 
 
 def put_back_at_each_turn(raising: Raising) -> None:
@@ -222,8 +223,8 @@ def put_back_at_each_turn(raising: Raising) -> None:
 def prepare_recorder(raising: Raising) -> None:
     """Hears of each guard. A board that isn't recorded is tried again soon: there are many errors."""
     sys.path.insert(0, str(TOP))
-    from live import guard
     from live.board import board
+    from live.run import guard
 
     setattr(board, "PAUSES", (0.1,))
     begin = guard.Guard.__init__

@@ -3,8 +3,8 @@
 from decided.table import refused, same
 
 from live.doors import calls, dgt_round
-from live.refused import Refused
-from live.web.address import Pages, names_of, read_address, read_names, read_pages
+from live.run.refused import Refused
+from live.show.address import Pages, names_of, read_address, read_names, read_pages
 
 TAKEN = [
     ("8000", ("127.0.0.1", 8000), "127.0.0.1:8000"),

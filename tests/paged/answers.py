@@ -7,9 +7,9 @@ import time
 
 from decided.table import refused, same, skip
 
-from live.refused import Refused
-from live.web import http
-from live.web.address import read_site
+from live.run.refused import Refused
+from live.show import http
+from live.show.address import read_site
 from paged.web import EMBEDDED, PATIENCE, Answer, Site, a_board, parted, rest
 
 KINDS = {

@@ -9,7 +9,7 @@ from typing import List, Sequence
 
 from decided.table import same
 
-from live.web import serving
+from live.show import serving
 from paged.answers import one_answer
 from paged.web import MOVES, PATIENCE, POSITIONS, Events, Site, Work, a_board, parted, rest
 

@@ -15,14 +15,14 @@ from typing import Any, Callable, Counter, Dict, List, Mapping, Optional, Sequen
 
 sys.dont_write_bytecode = True
 sys.path[:0] = [str(pathlib.Path(__file__).resolve().parents[number]) for number in (2, 1)]
-from live.broadcast.shot import Shot  # noqa: E402
-from live.broadcast.running import Clocks  # noqa: E402
-from live.broadcast.view import Player, SpectatorBoard  # noqa: E402
-from live.web import page, serving  # noqa: E402
-from live.web.address import Address, Door, names_of, read_address  # noqa: E402
-from live.loop import Loop, Watch  # noqa: E402
-from live.web.page import ARBITER, SPECTATORS, BoardView, Page, Ply, RoundView  # noqa: E402
-from live.web.view import Shows, board_text  # noqa: E402
+from live.out.running import Clocks  # noqa: E402
+from live.out.seen import Shows, board_text  # noqa: E402
+from live.out.shot import Shot  # noqa: E402
+from live.out.view import Player, SpectatorBoard  # noqa: E402
+from live.run.loop import Loop, Watch  # noqa: E402
+from live.show import page, serving  # noqa: E402
+from live.show.address import Address, Door, names_of, read_address  # noqa: E402
+from live.show.page import ARBITER, SPECTATORS, BoardView, Page, Ply, RoundView  # noqa: E402
 from paged.web import EMBEDDED, SpectatorsGiven, Work  # noqa: E402
 
 

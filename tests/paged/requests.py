@@ -4,7 +4,7 @@ from typing import Callable, Optional
 
 from decided.table import same
 
-from live.web import http
+from live.show import http
 
 HOST = b"Host: x\r\n"
 READ = [

@@ -12,7 +12,7 @@ from paged.devtools import Shared
 from paged.legible import faults
 from paged.web import Events, Site, a_board
 
-from live.web.page import FOLDER, SPECTATORS
+from live.show.page import FOLDER, SPECTATORS
 
 TABS = 12
 TIMES = 20  # that a reader goes back and forward

@@ -6,7 +6,7 @@ from typing import Dict, List, Tuple, cast
 
 from decided.table import same
 
-from live.web import page, serving
+from live.show import page, serving
 from paged.web import Events, Given, Site, Told, a_board
 
 NAME = "</script><img src=x onerror=alert(1)>\n\ndata: x\r\u2028 \"'&"

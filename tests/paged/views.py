@@ -8,11 +8,11 @@ from typing import Dict, List, Optional, Tuple, cast
 
 from decided.table import same
 
-from live.broadcast.shot import Shot
-from live.broadcast.running import Clocks
-from live.broadcast.view import Player, SpectatorBoard, said_of_matches
-from live.web.round_page import IN_THE_TERMINAL, Game, view_of
-from live.web.view import BoardView, Ply, board_text, round_text
+from live.out.running import Clocks
+from live.out.seen import BoardView, Ply, board_text, round_text
+from live.out.shot import Shot
+from live.out.view import Player, SpectatorBoard, said_of_matches
+from live.show.round_page import IN_THE_TERMINAL, Game, view_of
 from live.words.message import Message
 
 TOP = pathlib.Path(__file__).resolve().parents[2]

@@ -384,9 +384,9 @@ def half_open(folder: pathlib.Path) -> None:
 
 def asks_what_was_told(folder: pathlib.Path) -> None:
     """The options of an open connection."""
-    from live.device.network_line import NetworkLine
-    from live.guard import Guard
-    from live.loop import Loop
+    from live.line.network_line import NetworkLine
+    from live.run.guard import Guard
+    from live.run.loop import Loop
 
     board = Served(folder)
     loop = Loop()

@@ -18,7 +18,7 @@ import pathlib, runpy, sys
 sys.dont_write_bytecode = True
 file, sys.argv = pathlib.Path(sys.argv[1]), sys.argv[2:]
 sys.path.insert(0, {top!r})
-from live import loop
+from live.run import loop
 loop.Loop.counting = staticmethod(lambda: float(file.read_text()))
 runpy.run_path(sys.argv[0], run_name="__main__")
 """

@@ -21,7 +21,7 @@ PATIENT = """
 import runpy, sys
 sys.dont_write_bytecode, sys.argv = True, sys.argv[1:]
 sys.path.insert(0, {top!r})
-from live.web import serving
+from live.show import serving
 serving.WHOLE = serving.TAKEN = serving.IDLE = 1e6
 runpy.run_path(sys.argv[0], run_name="__main__")
 """

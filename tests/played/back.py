@@ -9,11 +9,11 @@ import subprocess
 import time
 from typing import List, Tuple
 
-from live.device.protocol import picture_of_placement
+from live.child.program import Program
 from live.game.changing import add_by_name
 from live.game.files import Paths
-from live.game.program import Program
-from live.refused import DONE
+from live.line.protocol import picture_of_placement
+from live.run.refused import DONE
 from play_board import field
 from played import recovered, words
 from played.boards import Board

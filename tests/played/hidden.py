@@ -5,11 +5,11 @@ import os
 import pathlib
 from typing import List
 
-from live.broadcast.running import Clocks
-from live.broadcast.shot import Shot
 from live.game import times
 from live.game.began import summed, this_start
-from live.web.view import Ply
+from live.out.running import Clocks
+from live.out.seen import Ply
+from live.out.shot import Shot
 from played.stage import bytes_of
 
 QUEUED = "queued"  # a folder beside the games
@@ -17,9 +17,9 @@ QUEUED = "queued"  # a folder beside the games
 # folder what spectators see of each game, and what waits, whenever that has changed.
 NOTES = """
 import json, os, pathlib, time
-from live import loop
-from live.broadcast import broadcast
 from live.game import timed
+from live.out import broadcast
+from live.run import loop
 loop.Loop.now = staticmethod(lambda: time.monotonic() + float(ahead.read_text()))
 timed.milliseconds = lambda: int((loop.Loop.counting() + float(ahead.read_text())) * 1000)
 loop.Counting.__call__ = lambda self: timed.milliseconds()

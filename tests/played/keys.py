@@ -62,7 +62,7 @@ def no_more_keys(folder: pathlib.Path) -> None:
 
 BROKEN = """
 from live.doors.door import through
-from live.terminal.terminal import edits
+from live.show.terminal import edits
 
 def breaks(signals):
     print(edits(0))

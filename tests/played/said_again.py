@@ -6,15 +6,15 @@ import pathlib
 import time
 from typing import List
 
-from live.broadcast.said_again import MARGIN, said_again
+from live.child.program import Program
+from live.child.report import Clock, Move, Position, line_of
 from live.game import timed, times
 from live.game.began import Began, began_line, part_line, summed, this_start
 from live.game.files import Paths
 from live.game.game import put_options
 from live.game.options import Options
-from live.game.program import Program
-from live.game.report import Clock, Move, Position, line_of
 from live.game.times import HEADED
+from live.out.said_again import MARGIN, said_again
 from play_board import BLACK, KING
 from played import TOP
 from played.back import answered

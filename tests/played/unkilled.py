@@ -8,10 +8,10 @@ from typing import Iterator, List, Sequence, Tuple
 from attending.answers import Answer, Entry, all_answers, brings
 from live.board.exchanged import told_of_exchange
 from live.board.state import Kind, State
-from live.game.attended import SUSPECT, Answers, Doubt
+from live.child.attended import SUSPECT, Answers, Doubt
+from live.child.report import Move, line_of
 from live.game.doubted import look_of
 from live.game.looks import Looks
-from live.game.report import Move, line_of
 from played.stage import program
 
 FIRST = 2  # lines of a heading

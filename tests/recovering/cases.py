@@ -13,7 +13,7 @@ import re
 from dataclasses import dataclass
 from typing import List, Tuple
 
-from live.device.protocol import SQUARES, picture_of_placement
+from live.line.protocol import SQUARES, picture_of_placement
 
 from attending.frames import TIME_ID, UPDATE_ID
 from recovering.frames import dump

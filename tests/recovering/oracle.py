@@ -8,7 +8,7 @@ from __future__ import annotations
 from dataclasses import dataclass, field, replace
 from typing import Iterator, List, Optional, Sequence, Tuple
 
-from live.device.protocol import Picture
+from live.line.protocol import Picture
 
 from attending.frames import HEADER, TIME_ID, FrameKind, Frames
 from recovering.frames import dump

@@ -129,7 +129,7 @@ RAISES = """
 import os, runpy, sys
 sys.dont_write_bytecode = True
 sys.path.insert(0, {top!r})
-from live.broadcast import broadcast
+from live.out import broadcast
 def raising(whose, name, of):
     real = getattr(whose, name)
     def called(self, *words):

@@ -30,8 +30,8 @@ os.execv(sys.argv[1], sys.argv[1:])
 COUNTING = """
 import collections, runpy, sys
 sys.path.insert(0, {top!r})
-from live import loop
-from live.web import serving
+from live.run import loop
+from live.show import serving
 counts, most = collections.Counter(), 0
 counted = open({counted!r}, "w", buffering=1)
 answer, ready = serving.Reader._answer, loop.Loop._ready

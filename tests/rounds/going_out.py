@@ -31,7 +31,7 @@ sys.dont_write_bytecode = True
 ahead, longest, sys.argv = pathlib.Path(sys.argv[1]), pathlib.Path(sys.argv[2]), sys.argv[3:]
 sys.path.insert(0, {top!r})
 {notes}
-from live.broadcast import publishing
+from live.out import publishing
 publishing.EACH, publishing.PAUSES = 0.1, (0.1, 0.2)
 run = publishing.run
 publishing.run = lambda words, path, _: run(words, path, float(longest.read_text()))

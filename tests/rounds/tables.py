@@ -3,11 +3,11 @@
 import pathlib
 from typing import List
 
-from live.descriptors import Room, room
 from live.game.options import Options
-from live.round.pairings import Pairing, read_pairings
-from live.refused import Refused
-from live.round.table import Columns, RowView, head, row, screen
+from live.run.descriptors import Room, room
+from live.run.refused import Refused
+from live.table.pairings import Pairing, read_pairings
+from live.table.table import Columns, RowView, head, row, screen
 from played.stage import same
 
 LINE = "1,/dev/ttyUSB0,Jörg,Ben"

@@ -236,8 +236,8 @@ import runpy, sys
 sys.dont_write_bytecode = True
 seconds, sys.argv = float(sys.argv[1]), sys.argv[2:]
 sys.path.insert(0, {top!r})
-from live.broadcast import publishing
-from live.round import tournament_files
+from live.out import publishing
+from live.table import tournament_files
 tournament_files.LOOK, publishing.EACH = seconds, 0.1
 runpy.run_path(sys.argv[0], run_name="__main__")
 """

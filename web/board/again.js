@@ -2,7 +2,7 @@
 
 /**
  * @typedef {import('../loop.js').Timer} Timer
- * @typedef {import('../../live/web/page/message.js').Words} Words
+ * @typedef {import('../../live/show/page/message.js').Words} Words
  * @typedef {import('./recorder.js').Recorder} Recorder
  */
 

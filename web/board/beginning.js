@@ -2,11 +2,11 @@
 
 import { CABLE } from '../game/alarms.js';
 import { fromStart } from '../game/reading.js';
-import { message } from '../../live/web/page/message.js';
+import { message } from '../../live/show/page/message.js';
 import { Again } from './again.js';
 
 /**
- * @typedef {import('../../live/web/page/message.js').Message} Message
+ * @typedef {import('../../live/show/page/message.js').Message} Message
  * @typedef {import('./recorder.js').Recorder} Recorder
  */
 

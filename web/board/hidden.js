@@ -2,12 +2,12 @@
 // more moves, and keeps all that the game has, somebody is told of it.
 
 import { gameOf } from '../game/reading.js';
-import { plural } from '../../live/web/page/message.js';
+import { plural } from '../../live/show/page/message.js';
 import { Kind } from './state.js';
 
 /**
  * @typedef {import('../game/report.js').Move} Move
- * @typedef {import('../../live/web/page/message.js').Words} Words
+ * @typedef {import('../../live/show/page/message.js').Words} Words
  * @typedef {import('./recorder.js').Recorder} Recorder
  */
 

@@ -5,7 +5,7 @@ import { isReadAnew, nextBegins } from '../game/afterwards.js';
 import { ofBoard, startOf } from '../game/options.js';
 import { fromStart, standsAt } from '../game/reading.js';
 import { lineOf } from '../game/report.js';
-import { message } from '../../live/web/page/message.js';
+import { message } from '../../live/show/page/message.js';
 import { Again } from './again.js';
 
 /**
@@ -13,8 +13,8 @@ import { Again } from './again.js';
  * @typedef {import('../game/report.js').Line} Line
  * @typedef {import('../game/report.js').Picture} Picture
  * @typedef {import('../kept/database.js').Given} Given
- * @typedef {import('../../live/web/page/message.js').Message} Message
- * @typedef {import('../../live/web/page/message.js').Words} Words
+ * @typedef {import('../../live/show/page/message.js').Message} Message
+ * @typedef {import('../../live/show/page/message.js').Words} Words
  * @typedef {import('./recorder.js').Recorder} Recorder
  */
 

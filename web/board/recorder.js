@@ -19,8 +19,8 @@ import { Capture } from '../kept/capture.js';
 import { LARGEST } from '../kept/limit.js';
 import { spread, withMore } from '../kept/spread.js';
 import { Times } from '../kept/times.js';
-import { lasting } from '../../live/web/page/chess.js';
-import { linked, message } from '../../live/web/page/message.js';
+import { lasting } from '../../live/show/page/chess.js';
+import { linked, message } from '../../live/show/page/message.js';
 import { Attending } from './attending.js';
 import { Beginning } from './beginning.js';
 import { Cable } from './cable.js';
@@ -49,7 +49,7 @@ import { another, back as backAgain, mayTake } from './whose.js';
  * @typedef {import('../kept/database.js').Game} Game
  * @typedef {import('../kept/database.js').Given} Given
  * @typedef {import('../kept/database.js').Row} Row
- * @typedef {import('../../live/web/page/message.js').Words} Words
+ * @typedef {import('../../live/show/page/message.js').Words} Words
  * @typedef {import('./attending.js').Entry} Entry
  * @typedef {import('./whose.js').Owner} Owner
  */

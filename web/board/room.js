@@ -3,11 +3,11 @@
 
 import { joined } from '../device/protocol.js';
 import { MOST, isLong, needless } from '../kept/limit.js';
-import { message } from '../../live/web/page/message.js';
+import { message } from '../../live/show/page/message.js';
 import { Again } from './again.js';
 
 /**
- * @typedef {import('../../live/web/page/message.js').Message} Message
+ * @typedef {import('../../live/show/page/message.js').Message} Message
  * @typedef {import('./recorder.js').Recorder} Recorder
  */
 

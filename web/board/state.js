@@ -1,12 +1,12 @@
 // The state of a board in an arbiter's words, which are those of dgt_round. The program decides which it is. Pure.
 
-import { lasting } from '../../live/web/page/chess.js';
-import { linked, message } from '../../live/web/page/message.js';
+import { lasting } from '../../live/show/page/chess.js';
+import { linked, message } from '../../live/show/page/message.js';
 
 /**
  * @typedef {import('../game/attended.js').Stands} Stands
- * @typedef {import('../../live/web/page/message.js').Message} Message
- * @typedef {import('../../live/web/page/message.js').Words} Words
+ * @typedef {import('../../live/show/page/message.js').Message} Message
+ * @typedef {import('../../live/show/page/message.js').Words} Words
  */
 
 /** @typedef {{ squares?: string[], result?: string, hint?: Words, disk?: Words, look?: Words, clockStopped?: boolean }} Beside */

@@ -11,7 +11,7 @@ import { shortOf } from '../game/report.js';
 import { ABSENT, Asked, HELP, Refused, readWords, refusal } from '../game/typed.js';
 import { AS_IT_IS, CUT, REFUSED, askedOf, isStillShown, playedSince, question, reached, readBack, refuseBack, refuseNothing, settled, takenUp, wordsOfBack } from '../game/way_back.js';
 import { THIS, UNPLAYED, whichGame } from '../game/which_game.js';
-import { isSame, linked, message } from '../../live/web/page/message.js';
+import { isSame, linked, message } from '../../live/show/page/message.js';
 import { DISK_FULL } from './state.js';
 
 /**
@@ -20,8 +20,8 @@ import { DISK_FULL } from './state.js';
  * @typedef {import('../game/typed.js').ChangeTyped} ChangeTyped
  * @typedef {import('../game/way_back.js').Back} Back
  * @typedef {import('../kept/capture.js').Capture} Capture
- * @typedef {import('../../live/web/page/message.js').Message} Message
- * @typedef {import('../../live/web/page/message.js').Words} Words
+ * @typedef {import('../../live/show/page/message.js').Message} Message
+ * @typedef {import('../../live/show/page/message.js').Words} Words
  * @typedef {import('./recorder.js').Recorder} Recorder
  * @typedef {import('./recorder.js').TimesOf} TimesOf
  */

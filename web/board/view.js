@@ -4,15 +4,15 @@ import { clocksOf } from '../game/course.js';
 import { countingForfeit, scoreOf } from '../game/forfeits.js';
 import { written } from '../game/options.js';
 import { NO_TIME } from '../game/report.js';
-import { linked, message } from '../../live/web/page/message.js';
+import { linked, message } from '../../live/show/page/message.js';
 import { DISK_FULL, Kind, State, TURNED_ROUND } from './state.js';
 
 /**
  * @typedef {import('../game/course.js').Course} Course
  * @typedef {import('../game/options.js').Options} Options
- * @typedef {import('../../live/web/page/message.js').Message} Message
- * @typedef {import('../../live/web/page/message.js').Words} Words
- * @typedef {import('../../live/web/page/tile.js').Board} View
+ * @typedef {import('../../live/show/page/message.js').Message} Message
+ * @typedef {import('../../live/show/page/message.js').Words} Words
+ * @typedef {import('../../live/show/page/tile.js').Board} View
  */
 
 /** @typedef {Pick<View, 'state' | 'since' | 'alarm' | 'differing'> & { mend: Words }} Standing */

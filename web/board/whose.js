@@ -2,11 +2,11 @@
 // board it is.
 
 import { lookAt } from '../game/looks.js';
-import { linked, message } from '../../live/web/page/message.js';
+import { linked, message } from '../../live/show/page/message.js';
 
 /**
  * @typedef {import('../game/looks.js').Look} Look
- * @typedef {import('../../live/web/page/message.js').Words} Words
+ * @typedef {import('../../live/show/page/message.js').Words} Words
  */
 
 /** @typedef {{ name: Words, hasMoves: boolean, isOver: boolean }} Owner the game that has the board */

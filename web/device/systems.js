@@ -1,10 +1,10 @@
 // Which device in the browser's list is the board, and what it needs, on each system. Pure.
 
-import { linked, message } from '../../live/web/page/message.js';
+import { linked, message } from '../../live/show/page/message.js';
 
 /**
- * @typedef {import('../../live/web/page/message.js').Message} Message
- * @typedef {import('../../live/web/page/message.js').Words} Words
+ * @typedef {import('../../live/show/page/message.js').Message} Message
+ * @typedef {import('../../live/show/page/message.js').Words} Words
  */
 
 /**

@@ -3,10 +3,10 @@
 import { OVER, lookAt } from './looks.js';
 import { codesOf } from './report.js';
 import { same } from '../device/protocol.js';
-import { message } from '../../live/web/page/message.js';
+import { message } from '../../live/show/page/message.js';
 
 /**
- * @typedef {import('../../live/web/page/message.js').Words} Words
+ * @typedef {import('../../live/show/page/message.js').Words} Words
  * @typedef {import('./looks.js').Look} Look
  */
 

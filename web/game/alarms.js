@@ -3,11 +3,11 @@
 import { AFTER, SINCE, SUSPECT, UNPLAYED } from './attended.js';
 import { Looks, OVER, lookAt } from './looks.js';
 import { shortOf } from './report.js';
-import { isSame, linked, message, plural } from '../../live/web/page/message.js';
+import { isSame, linked, message, plural } from '../../live/show/page/message.js';
 
 /**
- * @typedef {import('../../live/web/page/message.js').Message} Message
- * @typedef {import('../../live/web/page/message.js').Words} Words
+ * @typedef {import('../../live/show/page/message.js').Message} Message
+ * @typedef {import('../../live/show/page/message.js').Words} Words
  * @typedef {import('./attended.js').Raised} Raised
  * @typedef {import('./course.js').Course} Course
  * @typedef {import('./looks.js').Look} Look

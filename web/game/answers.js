@@ -3,11 +3,11 @@
 
 import { ProgramError, endedWith } from './program.js';
 import { Refused, WAYS, shortened } from './typed.js';
-import { linked, message, plural } from '../../live/web/page/message.js';
+import { linked, message, plural } from '../../live/show/page/message.js';
 
 /**
- * @typedef {import('../../live/web/page/message.js').Message} Message
- * @typedef {import('../../live/web/page/message.js').Words} Words
+ * @typedef {import('../../live/show/page/message.js').Message} Message
+ * @typedef {import('../../live/show/page/message.js').Words} Words
  * @typedef {import('./program.js').Outcome} Outcome
  */
 

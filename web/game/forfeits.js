@@ -3,11 +3,11 @@
 // PGN has a result if one player wins by it, and no result if both are absent. The tag Termination says that the game was
 // not played: `rules infraction`, an administrative forfeit in the words of the standard.
 
-import { message } from '../../live/web/page/message.js';
+import { message } from '../../live/show/page/message.js';
 
 /**
- * @typedef {import('../../live/web/page/message.js').Message} Message
- * @typedef {import('../../live/web/page/message.js').Words} Words
+ * @typedef {import('../../live/show/page/message.js').Message} Message
+ * @typedef {import('../../live/show/page/message.js').Words} Words
  * @typedef {import('./options.js').Tags} Tags
  */
 

@@ -1,10 +1,10 @@
 // Alarms that stay until they are acknowledged, whatever the board shows.
 
-import { isSame, linked, message } from '../../live/web/page/message.js';
+import { isSame, linked, message } from '../../live/show/page/message.js';
 
 /**
- * @typedef {import('../../live/web/page/message.js').Message} Message
- * @typedef {import('../../live/web/page/message.js').Words} Words
+ * @typedef {import('../../live/show/page/message.js').Message} Message
+ * @typedef {import('../../live/show/page/message.js').Words} Words
  */
 
 /**

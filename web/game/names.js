@@ -2,7 +2,7 @@
 // ASCII. A date is `2024.05.31`, with `?` for each unknown digit.
 
 import { printable } from './typed.js';
-import { Complaint, message } from '../../live/web/page/message.js';
+import { Complaint, message } from '../../live/show/page/message.js';
 
 const LONGEST_NAME = 100; // characters of a tag's value
 

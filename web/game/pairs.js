@@ -2,7 +2,7 @@
 //
 // A line is taken only if it has two names, whichever way its parts are divided. What could be read in two ways is refused.
 
-import { Complaint, message } from '../../live/web/page/message.js';
+import { Complaint, message } from '../../live/show/page/message.js';
 
 /** @typedef {{ White: string, Black: string }} Pair the players of a board */
 

@@ -3,12 +3,12 @@
 import { suspends } from '../../hosts/process.mjs';
 import { entryOf } from './attended.js';
 import { ofBoard, ofLive, ofTyping } from './options.js';
-import { Complaint, Message, message } from '../../live/web/page/message.js';
+import { Complaint, Message, message } from '../../live/show/page/message.js';
 
 /**
  * @typedef {import('../worker/worker.js').Calls} Calls
  * @typedef {import('../worker/worker.js').Said} Said
- * @typedef {import('../../live/web/page/message.js').Words} Words
+ * @typedef {import('../../live/show/page/message.js').Words} Words
  * @typedef {import('./attended.js').Answer} Answer
  * @typedef {import('./attended.js').Given} Given
  * @typedef {import('./options.js').Options} Options

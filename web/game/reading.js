@@ -9,10 +9,10 @@ import { ProgramError } from './program.js';
 import { lineOf } from './report.js';
 import { published } from './tags.js';
 import { readBack, refuseBack } from './way_back.js';
-import { message } from '../../live/web/page/message.js';
+import { message } from '../../live/show/page/message.js';
 
 /**
- * @typedef {import('../../live/web/page/message.js').Words} Words
+ * @typedef {import('../../live/show/page/message.js').Words} Words
  * @typedef {import('./options.js').Options} Options
  * @typedef {import('./program.js').Program} Program
  * @typedef {import('./report.js').Move} Move

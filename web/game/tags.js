@@ -2,7 +2,7 @@
 //
 // `record` writes seven tags in ASCII. Its movetext stays as it is, after tag pairs that are written anew.
 
-import { Complaint, message } from '../../live/web/page/message.js';
+import { Complaint, message } from '../../live/show/page/message.js';
 
 /** @typedef {import('./options.js').Tags} Tags */
 

@@ -3,11 +3,11 @@
 //
 // The game follows from NAME.dgt alone: what is lost here costs times, and never a move.
 
-import { message } from '../../live/web/page/message.js';
+import { message } from '../../live/show/page/message.js';
 
 /**
- * @typedef {import('../../live/web/page/message.js').Message} Message
- * @typedef {import('../../live/web/page/message.js').Words} Words
+ * @typedef {import('../../live/show/page/message.js').Message} Message
+ * @typedef {import('../../live/show/page/message.js').Words} Words
  */
 
 /**

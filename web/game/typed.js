@@ -2,9 +2,9 @@
 // is for the program to read, which also says why it can't be. Pure.
 
 import { BOTH, typedForfeit } from './forfeits.js';
-import { Complaint, message } from '../../live/web/page/message.js';
+import { Complaint, message } from '../../live/show/page/message.js';
 
-/** @typedef {import('../../live/web/page/message.js').Words} Words */
+/** @typedef {import('../../live/show/page/message.js').Words} Words */
 
 /**
  * What is asked for: the program is to go back to a ply, or to read a line; the game isn't played; or a word alone, where `reopened` says that

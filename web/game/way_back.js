@@ -4,11 +4,11 @@
 import { ProgramError, endedWith } from './program.js';
 import { shortOf } from './report.js';
 import { Refused, WHICH_PLY } from './typed.js';
-import { linked, message } from '../../live/web/page/message.js';
+import { linked, message } from '../../live/show/page/message.js';
 
 /**
- * @typedef {import('../../live/web/page/message.js').Message} Message
- * @typedef {import('../../live/web/page/message.js').Words} Words
+ * @typedef {import('../../live/show/page/message.js').Message} Message
+ * @typedef {import('../../live/show/page/message.js').Words} Words
  * @typedef {import('./program.js').Outcome} Outcome
  * @typedef {import('./report.js').Move} Move
  */

@@ -2,13 +2,13 @@
 
 import { otherName } from '../kept/file_names.js';
 import { zipped } from '../kept/zip.js';
-import { message } from '../../live/web/page/message.js';
+import { message } from '../../live/show/page/message.js';
 import { stamped } from './log.js';
 
 /**
  * @typedef {import('../board/recorder.js').Finished} Finished
  * @typedef {import('../kept/database.js').Before} Before
- * @typedef {import('../../live/web/page/message.js').Words} Words
+ * @typedef {import('../../live/show/page/message.js').Words} Words
  * @typedef {import('./hall.js').Hall} Hall
  * @typedef {import('./seat.js').Seat} Seat
  */

@@ -3,10 +3,10 @@
 // So no board gets a second card.
 
 import { missingDevice, systemOf, whichDevice } from '../device/systems.js';
-import { Complaint, linked, message } from '../../live/web/page/message.js';
+import { Complaint, linked, message } from '../../live/show/page/message.js';
 
 /**
- * @typedef {import('../../live/web/page/message.js').Words} Words
+ * @typedef {import('../../live/show/page/message.js').Words} Words
  * @typedef {import('./hall.js').Hall} Hall
  * @typedef {import('./ports.js').Heard} Heard
  * @typedef {import('./seat.js').Recorded} Recorded

@@ -2,13 +2,13 @@
 
 import { Folder } from '../kept/folder.js';
 import { ROUND, freeName } from '../kept/file_names.js';
-import { linked, message } from '../../live/web/page/message.js';
+import { linked, message } from '../../live/show/page/message.js';
 
 /**
  * @typedef {import('../board/recorder.js').Finished} Finished
  * @typedef {import('../kept/database.js').Before} Before
  * @typedef {import('../loop.js').Timer} Timer
- * @typedef {import('../../live/web/page/message.js').Words} Words
+ * @typedef {import('../../live/show/page/message.js').Words} Words
  * @typedef {import('./hall.js').Hall} Hall
  * @typedef {import('./seat.js').Recorded} Recorded
  * @typedef {import('./seat.js').Seat} Seat

@@ -8,7 +8,7 @@ import { Database } from '../kept/database.js';
 import { fileName, freeName, nameOfPlayers } from '../kept/file_names.js';
 import { Loop } from '../loop.js';
 import { save } from '../page/saving.js';
-import { linked, message, plural } from '../../live/web/page/message.js';
+import { linked, message, plural } from '../../live/show/page/message.js';
 import { Devices } from './devices.js';
 import { Exchanges } from './exchanged.js';
 import { Folders } from './folders.js';
@@ -23,8 +23,8 @@ import { Awake } from './awake.js';
  * @typedef {import('../game/options.js').Tags} Tags
  * @typedef {import('../kept/database.js').Board} Board
  * @typedef {import('../kept/database.js').Remembered} Remembered
- * @typedef {import('../../live/web/page/message.js').Words} Words
- * @typedef {import('../../live/web/page/tile.js').Board} View
+ * @typedef {import('../../live/show/page/message.js').Words} Words
+ * @typedef {import('../../live/show/page/tile.js').Board} View
  * @typedef {import('./seat.js').Recorded} Recorded
  */
 

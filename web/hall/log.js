@@ -1,6 +1,6 @@
 // What the page has said since it was opened: its messages and notices, with date and time.
 
-/** @typedef {import('../../live/web/page/message.js').Words} Words */
+/** @typedef {import('../../live/show/page/message.js').Words} Words */
 
 const KEPT = 10000; // lines
 

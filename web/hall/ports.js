@@ -7,14 +7,14 @@ import { KEEP, NUMBER, OTHER, WAKE } from '../game/attended.js';
 import { BEGIN, HEARD, OPENED } from '../game/times.js';
 import { optionsOf } from '../game/options.js';
 import { Guard } from '../guard.js';
-import { isSame, message } from '../../live/web/page/message.js';
+import { isSame, message } from '../../live/show/page/message.js';
 
 /**
  * @typedef {import('../board/attendant.js').Entry} Entry
  * @typedef {import('../game/attended.js').Answer} Answer
  * @typedef {import('../game/program.js').Program} Program
  * @typedef {import('../loop.js').Loop} Loop
- * @typedef {import('../../live/web/page/message.js').Words} Words
+ * @typedef {import('../../live/show/page/message.js').Words} Words
  * @typedef {import('./seat.js').Recorded} Recorded
  */
 

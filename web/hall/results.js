@@ -7,7 +7,7 @@ import { forfeitOf } from '../game/forfeits.js';
 import { textOf } from '../game/reading.js';
 import { withAdded } from '../game/times.js';
 import { spread } from '../kept/spread.js';
-import { message } from '../../live/web/page/message.js';
+import { message } from '../../live/show/page/message.js';
 
 /**
  * @typedef {import('../board/recorder.js').Finished} Finished

@@ -5,14 +5,14 @@ import { UNKNOWN, withTag, written } from '../game/options.js';
 import { pairsOf } from '../game/pairs.js';
 import { OF_ALL, optionsOfRound, repeated, roundAfter } from '../game/rounds.js';
 import { nameOfPlayers } from '../kept/file_names.js';
-import { isSame, linked, message } from '../../live/web/page/message.js';
+import { isSame, linked, message } from '../../live/show/page/message.js';
 
 /**
  * @typedef {import('../board/recorder.js').Finished} Finished
  * @typedef {import('../game/options.js').Options} Options
  * @typedef {import('../game/options.js').Tags} Tags
  * @typedef {import('../game/pairs.js').Pair} Pair
- * @typedef {import('../../live/web/page/message.js').Words} Words
+ * @typedef {import('../../live/show/page/message.js').Words} Words
  * @typedef {import('./hall.js').Button} Button
  * @typedef {import('./hall.js').Hall} Hall
  * @typedef {import('./seat.js').Recorded} Recorded

@@ -12,7 +12,7 @@ import { textOf } from '../game/reading.js';
 import { Capture, Front } from '../kept/capture.js';
 import { textOf as textOfTimes } from '../kept/times.js';
 import { Guard } from '../guard.js';
-import { Complaint, isSame, linked, message } from '../../live/web/page/message.js';
+import { Complaint, isSame, linked, message } from '../../live/show/page/message.js';
 import { unended } from './results.js';
 
 /**
@@ -27,8 +27,8 @@ import { unended } from './results.js';
  * @typedef {import('../kept/database.js').Game} Game
  * @typedef {import('../kept/database.js').Given} Given
  * @typedef {import('../kept/database.js').Row} Row
- * @typedef {import('../../live/web/page/message.js').Words} Words
- * @typedef {import('../../live/web/page/tile.js').Board} View
+ * @typedef {import('../../live/show/page/message.js').Words} Words
+ * @typedef {import('../../live/show/page/tile.js').Board} View
  * @typedef {import('./hall.js').Hall} Hall
  */
 

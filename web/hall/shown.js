@@ -3,7 +3,7 @@
 import { resting, viewOf } from '../board/view.js';
 import { optionsOf } from '../game/options.js';
 import { gameOf, textOf } from '../game/reading.js';
-import { Complaint, message } from '../../live/web/page/message.js';
+import { Complaint, message } from '../../live/show/page/message.js';
 
 /**
  * @typedef {import('../game/course.js').Course} Course

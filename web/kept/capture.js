@@ -6,7 +6,7 @@ import { DISK_FULL, NOT_WRITTEN } from '../board/state.js';
 import { LARGEST } from './limit.js';
 
 /**
- * @typedef {import('../../live/web/page/message.js').Words} Words
+ * @typedef {import('../../live/show/page/message.js').Words} Words
  * @typedef {import('./database.js').Chunk} Chunk
  * @typedef {import('./database.js').Database} Database
  */

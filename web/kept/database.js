@@ -4,7 +4,7 @@
 // Each transaction but those of times alone is strict: it ends only after its data was handed to the disk. One whose requests are all
 // known is committed at once: else the browser waits until this page has heard of each of them, and draws before that.
 
-import { Complaint, message } from '../../live/web/page/message.js';
+import { Complaint, message } from '../../live/show/page/message.js';
 
 /**
  * @typedef {import('../game/looks.js').Look} Look

@@ -1,7 +1,7 @@
 // The folder that somebody has chosen. Each file is written as another one, and moved to its place when it is whole.
 
 import { NOTHING, isEarlier as areEarlierTimes } from '../game/times.js';
-import { message } from '../../live/web/page/message.js';
+import { message } from '../../live/show/page/message.js';
 import { Front } from './capture.js';
 import { editedName, isEarlier } from './edited.js';
 import { otherName } from './file_names.js';
@@ -10,7 +10,7 @@ import { nextFile, renamedAgain } from './order.js';
 /**
  * @typedef {import('../loop.js').Loop} Loop
  * @typedef {import('../loop.js').Timer} Timer
- * @typedef {import('../../live/web/page/message.js').Words} Words
+ * @typedef {import('../../live/show/page/message.js').Words} Words
  */
 
 /**

@@ -4,7 +4,7 @@
 import {
   ADDED, ASKED, AWAY, BEGIN, HEADED, HEARD, OVER, adding, cut, heading, isOf, kept, lineAfter, lines, toldOf, toldOfMissing, toldOfOther, toldOfTrouble,
 } from '../game/times.js';
-import { Complaint, isSame, message } from '../../live/web/page/message.js';
+import { Complaint, isSame, message } from '../../live/show/page/message.js';
 import { otherName } from './file_names.js';
 import { LARGEST } from './limit.js';
 
@@ -14,7 +14,7 @@ import { LARGEST } from './limit.js';
  * @typedef {import('../game/times.js').Noted} Noted
  * @typedef {import('../guard.js').Guard} Guard
  * @typedef {import('../loop.js').Timer} Timer
- * @typedef {import('../../live/web/page/message.js').Words} Words
+ * @typedef {import('../../live/show/page/message.js').Words} Words
  * @typedef {import('./capture.js').Capture} Capture
  * @typedef {import('./database.js').Database} Database
  * @typedef {import('./database.js').Game} Game

@@ -1,7 +1,7 @@
 // Several files in one: a zip archive, in which each is stored as it is. Pure. PKWARE's APPNOTE has the format.
 
 import { joined } from '../device/protocol.js';
-import { Complaint, message } from '../../live/web/page/message.js';
+import { Complaint, message } from '../../live/show/page/message.js';
 
 const [FILE, ENTRY, END] = [0x04034b50, 0x02014b50, 0x06054b50]; // what begins a file, its entry in the list, and the list's end
 const VERSION = 20; // that a reader must know

@@ -1,10 +1,10 @@
 // What a screen reader reads out: only what needs somebody, and the moves of the large board. Each text is a line of its
 // own, so that none takes the place of one that hasn't been read yet.
 
-import { element } from '../../live/web/page/diagram.js';
+import { element } from '../../live/show/page/diagram.js';
 import { at } from './elements.js';
 
-/** @typedef {import('../../live/web/page/message.js').Words} Words */
+/** @typedef {import('../../live/show/page/message.js').Words} Words */
 
 const KEPT = 8; // lines
 

@@ -1,17 +1,17 @@
 // All boards in a grid of cards, and one of them large if it is opened.
 
-import { printedResult, spokenPly } from '../../live/web/page/chess.js';
-import { element, say } from '../../live/web/page/diagram.js';
-import { fit, placeAfter } from '../../live/web/page/grid.js';
-import { Large } from '../../live/web/page/large.js';
-import { Tile } from '../../live/web/page/tile.js';
-import { linked, message, plural } from '../../live/web/page/message.js';
+import { printedResult, spokenPly } from '../../live/show/page/chess.js';
+import { element, say } from '../../live/show/page/diagram.js';
+import { fit, placeAfter } from '../../live/show/page/grid.js';
+import { Large } from '../../live/show/page/large.js';
+import { Tile } from '../../live/show/page/tile.js';
+import { linked, message, plural } from '../../live/show/page/message.js';
 import { announce } from './announcer.js';
 import { all, at } from './elements.js';
 
 /**
  * @typedef {import('../hall/hall.js').Hall} Hall
- * @typedef {import('../../live/web/page/tile.js').Board} View
+ * @typedef {import('../../live/show/page/tile.js').Board} View
  * @typedef {import('./panel.js').Panel} Panel
  */
 

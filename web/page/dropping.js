@@ -1,7 +1,7 @@
 // Captures that are dropped on the page, or opened: their games are shown.
 
 import { LARGEST } from '../kept/limit.js';
-import { Complaint, message } from '../../live/web/page/message.js';
+import { Complaint, message } from '../../live/show/page/message.js';
 import { at } from './elements.js';
 
 /**

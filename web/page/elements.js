@@ -1,10 +1,10 @@
 // Small helpers for the page's elements. Texts are set as text, never as markup.
 
-import { element } from '../../live/web/page/diagram.js';
-import { linked, message } from '../../live/web/page/message.js';
+import { element } from '../../live/show/page/diagram.js';
+import { linked, message } from '../../live/show/page/message.js';
 
 /**
- * @typedef {import('../../live/web/page/message.js').Words} Words
+ * @typedef {import('../../live/show/page/message.js').Words} Words
  * @typedef {import('./messages.js').Messages} Messages
  */
 

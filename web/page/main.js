@@ -1,10 +1,10 @@
 // The page that records: it opens what is kept, seats its boards, and connects buttons with what they do.
 
-import { drawPieces, say } from '../../live/web/page/diagram.js';
+import { drawPieces, say } from '../../live/show/page/diagram.js';
 import { Hall } from '../hall/hall.js';
 import { missingDevice, systemOf, whichDevice } from '../device/systems.js';
 import { lacking } from '../game/program.js';
-import { linked, message } from '../../live/web/page/message.js';
+import { linked, message } from '../../live/show/page/message.js';
 import { announce } from './announcer.js';
 import { Cards } from './cards.js';
 import { Dropping } from './dropping.js';

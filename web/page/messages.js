@@ -1,13 +1,13 @@
 // Messages: lines with the time of day, the newest first; and notices that stay until somebody has acted on them.
 
-import { element } from '../../live/web/page/diagram.js';
-import { isSame, message } from '../../live/web/page/message.js';
+import { element } from '../../live/show/page/diagram.js';
+import { isSame, message } from '../../live/show/page/message.js';
 import { announce } from './announcer.js';
 import { all, at, button } from './elements.js';
 
 /**
  * @typedef {import('../hall/hall.js').Button} Button
- * @typedef {import('../../live/web/page/message.js').Words} Words
+ * @typedef {import('../../live/show/page/message.js').Words} Words
  */
 
 const KEPT = 300; // lines

@@ -1,13 +1,13 @@
 // What somebody does with the large board: types, names, options, files.
 
-import { say } from '../../live/web/page/diagram.js';
+import { say } from '../../live/show/page/diagram.js';
 import { TURNED_ROUND } from '../board/state.js';
 import { pgnDate } from '../game/names.js';
 import { UNKNOWN, written } from '../game/options.js';
 import { OF_ALL } from '../game/rounds.js';
 import { allOf } from '../hall/all_of.js';
 import { giveResult } from '../hall/results.js';
-import { linked, message, plural } from '../../live/web/page/message.js';
+import { linked, message, plural } from '../../live/show/page/message.js';
 import { all, at, failed } from './elements.js';
 import { save } from './saving.js';
 
@@ -16,7 +16,7 @@ import { save } from './saving.js';
  * @typedef {import('../hall/hall.js').Hall} Hall
  * @typedef {import('../hall/seat.js').Seat} Seat
  * @typedef {import('../hall/shown.js').Shown} Shown
- * @typedef {import('../../live/web/page/message.js').Words} Words
+ * @typedef {import('../../live/show/page/message.js').Words} Words
  * @typedef {import('./messages.js').Messages} Messages
  */
 

@@ -1,14 +1,14 @@
 // The window in which somebody begins a new round on all boards.
 
-import { element, say } from '../../live/web/page/diagram.js';
-import { linked, message, plural } from '../../live/web/page/message.js';
+import { element, say } from '../../live/show/page/diagram.js';
+import { linked, message, plural } from '../../live/show/page/message.js';
 import { at } from './elements.js';
 
 /**
  * @typedef {import('../hall/hall.js').Hall} Hall
  * @typedef {import('../hall/rounds.js').Round} Round
  * @typedef {import('../hall/seat.js').Recorded} Recorded
- * @typedef {import('../../live/web/page/message.js').Words} Words
+ * @typedef {import('../../live/show/page/message.js').Words} Words
  */
 
 /** @type {{ [name: string]: import('./elements.js').RoundName | 'round-pairs' }} */

@@ -1,0 +1,338 @@
+"""The program that attends a board: a child that is told what happens, and answers. The loop never waits for it."""
+
+from __future__ import annotations
+
+import collections
+import math
+import os
+import subprocess
+from dataclasses import dataclass
+from typing import Callable, Deque, List, Optional, Protocol, Tuple, Union
+
+from live.child.attended import CAPTURE, HOLD, KEEP, KEPT, LENT, NUMBER, TEXT, UNSEEN, WAITS, WAKE, Answer, Answers, entry, pieces
+from live.child.program import CHUNK, Child, HearsChild, Program
+from live.child.reading import Reader
+from live.game import times
+from live.game.files import Capture
+from live.game.timed import Times
+from live.run.guard import Guard
+from live.run.loop import Callback, Counting, Timer
+from live.run.refused import FAILED, Refused
+from live.words.message import Message
+
+LATER = 0.01  # seconds by which it is woken later than it has said: two times that are close need one wake
+OF_THE_LINE = (times.OPENED, times.ANSWERED, times.GONE, times.CALLED)
+OF_THE_PAST = (KEPT, CAPTURE, times.BEGIN, times.AWAY)  # with the answers to these no game gets bytes
+UNLINED = (*OF_THE_PAST, NUMBER, LENT, WAKE, TEXT, times.HEARD)  # these have no line in the game's times, or have it otherwise
+
+
+class Told:
+    """Something that was told: when, by the loop; what, with which number, and the bytes with it; when by the clock of the game's times;
+    whether it has its line there; and what is called once it is answered."""
+
+    __slots__ = ("at", "what", "sent", "count", "time", "is_noted", "thens")
+
+    def __init__(self, at: float, what: str, sent: bytes = b"", count: Optional[int] = None) -> None:
+        self.at, self.what, self.sent, self.count = at, what, sent, len(sent) if sent else count
+        self.time, self.is_noted = 0, what in UNLINED
+        self.thens: List[Callback] = []
+
+
+class HearsAnswers(HearsChild, Protocol):
+    """Gets what the program answers."""
+
+    def answered(self, told: Told, answer: Answer) -> None:
+        """This is answered."""
+
+
+@dataclass(frozen=True)
+class Past:
+    """What is kept of a game: its capture from an offset on, and its times, if they are told; and a child that was told it."""
+
+    capture: Capture
+    start: int = 0
+    times: Optional[Times] = None
+    reader: Optional[Reader] = None
+
+
+Part = Union[bytes, Tuple[int, int]]  # to be told: bytes, or those of the capture from one offset to another
+
+
+class Attending(Child):
+    """Attends a board. The first `known` lines of the report are known.
+
+    If the child ends too soon, another one is told all that is kept, how the line is, and what wasn't answered.
+
+    What it is told has its line in the game's times, if these are told: with the same time, and in the order in which the child
+    takes it. So a line waits until all that was told before is answered, since the game may get bytes then. When another child
+    takes its place, a call begins for both: that child doesn't know what the one before it had held, and says as one that begins."""
+
+    def __init__(
+        self, guard: Guard, program: Program, words: Tuple[str, ...], past: Optional[Past], hears: HearsAnswers, known: int = 0
+    ) -> None:
+        super().__init__(guard, program, ("live", *words), hears)
+        self._past, self._hears, self._reader = past, hears, past.reader if past else None
+        self._reported = known  # lines
+        self._answers = Answers()
+        self._told: Deque[Told] = collections.deque()  # and isn't answered
+        self._out: Deque[Part] = collections.deque()  # isn't written to the child
+        self._held: List[bytes] = []  # answered, and neither kept nor known to be another board's
+        self.keeps = False  # whether what the board sends is kept, as far as is known
+        self._line: Tuple[str, ...] = ()  # what was told of the line
+        self._number = ""  # of the game's board, if it was told
+        self._times = past.times if past else None  # which get the lines of what is told
+        self._clock = self._times.clock if self._times else Counting()
+        self._began = self._last = 0  # by this clock: when its call began, and when it was told something last
+        self._away = guard.away.seconds
+        self._due = math.inf  # when it is to be woken
+        self._timer: Optional[Timer] = None  # which may come before that
+        self._is_paused = self._is_due = False
+        self.has_shown = False  # whether the board has shown its pieces in this call, and is there
+        self._gets_text: Optional[Callable[[bytes], None]] = None  # when it is answered
+        self.start()
+
+    # What it is told.
+
+    def tell(self, what: str, sent: bytes = b"", count: Optional[int] = None) -> None:
+        """This happens now."""
+        if self._guard.away.seconds > self._away:
+            before, self._away = self._away, self._guard.away.seconds
+            self._tell(Told(self._guard.now(), times.STOPPED, count=int((self._away - before) * 1000)))
+        if what in OF_THE_LINE:
+            self._line = times.line_after(self._line, what)
+        elif what == NUMBER:
+            self._number = sent.decode("ascii")
+        self._tell(Told(self._guard.now(), what, sent, count))
+        self._feed()
+        self._note_lines()  # while the child reads
+
+    def _tell(self, told: Told) -> None:
+        if told.what not in OF_THE_PAST:
+            self._last = max(self._last, self._clock())
+        told.time = self._last
+        self._told.append(told)
+        self._out.append(entry(told.time - self._began, told.what, told.count, told.sent))
+
+    @property
+    def notes(self) -> bool:
+        """Whether what it is told gets its lines in the game's times."""
+        return self._times is not None
+
+    def _note_lines(self, are_all: bool = False) -> None:
+        """What was told gets its line, up to the first that may bring bytes to the game; or all of it, since nothing is answered any
+        more."""
+        if self._times is None:
+            return
+        for told in self._told:
+            if told.what not in OF_THE_PAST:
+                self._times.reaches(told.time)
+            if not told.is_noted:
+                told.is_noted = True
+                self._times.happened(told.what, told.count)
+            if not are_all and told.what not in OF_THE_PAST:
+                return
+
+    def note_no_more(self) -> None:
+        """What it is told from now on gets no lines."""
+        self._note_lines(are_all=True)
+        if self._times:
+            self._times.left(self._away)
+            self._times = None
+
+    def then(self, done: Callback) -> None:
+        """Calls this when all that was told so far is answered."""
+        if self._told:
+            self._told[-1].thens.append(done)
+        else:
+            done()
+
+    def ask_text(self, gets: Callable[[bytes], None]) -> None:
+        """`gets` gets the text of the game, once all that was told so far is answered. Ask again only then."""
+        self._gets_text = gets
+        self.tell(TEXT)
+
+    def begin_again(self, words: Tuple[str, ...]) -> None:
+        """Another child with these options takes its place. It is told what is kept, and what it says of that is known."""
+        self._words = ("live", *words)
+        self.restart()
+
+    @property
+    def is_settled(self) -> bool:
+        """Whether all that was told is answered."""
+        return not self._told
+
+    def heard_by(self, hears: HearsAnswers) -> None:
+        """From now on this one gets what the program answers."""
+        self._hears = self._hears_child = hears
+
+    @property
+    def is_closed(self) -> bool:
+        """Whether it was ended."""
+        return self._is_closed
+
+    def pause(self) -> None:
+        """It isn't woken from now on, so that all that was told gets answered."""
+        self._is_paused = True
+
+    def go_on(self) -> None:
+        """It is woken again."""
+        self._is_paused = False
+        if self._is_due:
+            self._wakes()
+
+    def take(self) -> bytes:
+        """Ends it. Returns what the board has sent and was neither kept nor known to be another board's."""
+        self.close()
+        self.note_no_more()
+        thens, left = self._thens(), self.undecided()
+        self._told.clear()
+        self._held.clear()
+        for then in thens:
+            then()
+        return left
+
+    def undecided(self) -> bytes:
+        """The same, while it goes on."""
+        return b"".join([*self._held, *(told.sent for told in self._told if told.what == times.HEARD)])
+
+    def _thens(self) -> List[Callback]:
+        return [then for told in self._told for then in told.thens]
+
+    # How it begins.
+
+    def _begins_anew(self) -> Optional["subprocess.Popen[bytes]"]:
+        self._note_lines(are_all=True)
+        thens, left = self._thens(), self.undecided()
+        self._told.clear()
+        self._out.clear()
+        self._held.clear()
+        begun = self._tell_past()
+        self._answers = Answers(0 if begun else self._reported)
+        if self._number:
+            self._tell(Told(self._guard.now(), NUMBER, self._number.encode()))
+        for what in self._line:
+            self._tell(Told(self._guard.now(), what))
+        if left:
+            self._tell(Told(self._guard.now(), times.HEARD, left))
+        if self._gets_text:
+            self._tell(Told(self._guard.now(), TEXT))
+        self._told[-1].thens += thens
+        self._note_lines()
+        return begun
+
+    def _tell_past(self) -> Optional["subprocess.Popen[bytes]"]:
+        """What is kept, and that a call begins. Returns the child that was told what is kept before, if there is one."""
+        past, now = self._past, self._guard.now()
+        size = 0 if past is None else past.capture.size - past.start
+        begun = self._times.attended() if self._times else None
+        self._began = self._last = begun.at if begun else self._clock()
+        content = begun.content if begun else past.times.content() if past and past.times else b""
+        content = content if size > 0 else b""
+        reader, self._reader = self._reader, None
+        child = reader.hand_over() if reader and (reader.words, reader.size, reader.times) == (self._words, size, content) else None
+        if content and not child:
+            self._tell(Told(now, KEPT, content))
+        for at, until in pieces(content, past.start, past.capture.size) if past and not child else ():
+            self._tell(Told(now, CAPTURE, count=until - at))
+            self._out.append((at, until))
+        self._tell(Told(now, times.BEGIN, count=size))
+        if begun and begun.away is not None:
+            self._tell(Told(now, times.AWAY, count=begun.away))
+        if past and past.capture.pending:
+            self._tell(Told(now, times.BROUGHT, past.capture.pending))
+            self._told[-1].is_noted = True  # when it came
+        return child
+
+    def _writes(self, number: int) -> bool:
+        if not self._out:
+            return False
+        part = self._out[0]
+        if isinstance(part, bytes):
+            left: Part = part[os.write(number, part) :]
+            is_left = bool(left)
+        else:
+            at, until = part
+            assert self._past
+            content = self._past.capture.read(at, min(CHUNK, until - at))
+            if not content:
+                raise Refused(FAILED, Message("file.shorter", path=self._past.capture.path))
+            at += os.write(number, content)
+            left, is_left = (at, until), at < until
+        if is_left:
+            self._out[0] = left
+        else:
+            self._out.popleft()
+        return bool(self._out)
+
+    # What it answers.
+
+    def _takes(self, part: bytes) -> None:
+        answers = self._answers
+        for answer in answers.take(part):
+            if self._is_closed or self._answers is not answers:
+                return  # meanwhile
+            told = self._told.popleft()
+            self._take(told, answer)
+            self._note_lines()
+            for then in told.thens:
+                then()
+
+    def _take(self, told: Told, answer: Answer) -> None:
+        self._reported += len(answer.report)
+        if told.what in OF_THE_LINE or answer.handling != HOLD:
+            self._held.clear()
+        if told.what == times.HEARD and answer.handling == HOLD:
+            self._held.append(told.sent)
+        self.keeps = answer.handling == KEEP
+        self._is_due = False
+        self._look_at_state(answer)
+        self._hears.answered(told, answer)
+        self._wake_at(told.at, answer.due)
+        if answer.game is not None and self._gets_text:
+            gets, self._gets_text = self._gets_text, None
+            gets(answer.game)
+
+    def _look_at_state(self, answer: Answer) -> None:
+        """That a child waits for the board is no news if another one has heard it in this call."""
+        if answer.stood and answer.stood.kind == WAITS and self.has_shown:
+            answer.stood = None
+        elif answer.stood:
+            self.has_shown = answer.stood.kind not in UNSEEN
+
+    def unreported(self, lines: int) -> None:
+        """So many lines of the report weren't used, since their bytes aren't in the capture."""
+        self._reported -= lines
+
+    # The time.
+
+    def _wake_at(self, at: float, due: Optional[int]) -> None:
+        """It wants to be woken so many milliseconds after this time; another answer says it anew."""
+        if due is None or self._told or self._is_closed:
+            self._due = math.inf
+            return
+        self._due = at + due / 1000 + LATER
+        if self._timer and self._timer.when > self._due:
+            self._timer.cancel()
+            self._timer = None
+        if self._timer is None:
+            self._timer = self._guard.at(self._due, self._comes)
+
+    def _comes(self) -> None:
+        """The time has come that was named, or one before it."""
+        self._timer = None
+        if self._due <= self._guard.now():
+            self._wakes()
+        elif self._due < math.inf:
+            self._timer = self._guard.at(self._due, self._comes)
+
+    def _wakes(self) -> None:
+        self._due, self._is_due = math.inf, self._is_paused
+        if not self._is_paused:
+            self.tell(WAKE)
+
+    def close(self) -> None:
+        """Ends it."""
+        if self._timer:
+            self._timer.cancel()
+            self._timer = None
+        super().close()

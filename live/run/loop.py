@@ -1,0 +1,292 @@
+"""One loop for all boards: file descriptors that are ready, timers that are due, signals that end it."""
+
+from __future__ import annotations
+
+import collections
+import contextlib
+import functools
+import heapq
+import itertools
+import math
+import os
+import select
+import signal
+import socket
+import time
+from dataclasses import dataclass
+from typing import Callable, Deque, Dict, List, Optional, Protocol, Tuple
+
+from live.run.time_away import LONGEST, time_away
+
+Callback = Callable[[], None]
+ENDING = (signal.SIGINT, signal.SIGTERM, signal.SIGHUP)
+PULSE = 1.0  # seconds after which the loop turns at the latest
+MOST_FOUND = 32  # descriptors that are found ready at once: others are found in the next turn
+READS, WRITES = select.EPOLLIN, select.EPOLLOUT
+MAY_READ, MAY_WRITE = ~WRITES, ~READS  # what else is reported, as that a line is gone, counts as both
+
+
+@dataclass
+class Watch:
+    """What to call when a file descriptor can be read, or written."""
+
+    readable: Optional[Callback]
+    writable: Optional[Callback]
+
+    def events(self) -> int:
+        return (READS if self.readable else 0) | (WRITES if self.writable else 0)
+
+    def end(self) -> None:
+        """The descriptor is watched for something else now, or for nothing."""
+        self.readable = self.writable = None
+
+
+@dataclass
+class Away:
+    """How long the recorder was stopped, or the computer slept, in all. A value and no call: it is looked at with all that a board
+    sends."""
+
+    seconds: float = 0.0
+
+
+@dataclass
+class Timer:
+    """A call at a time; it can be cancelled."""
+
+    when: float
+    callback: Callback
+    cancelled: bool = False
+
+    def cancel(self) -> None:
+        self.cancelled = True
+
+
+class Turns(Protocol):
+    """What a part of the recorder needs of the loop."""
+
+    def now(self) -> float:
+        """The time of all timers; it never goes back."""
+
+    @property
+    def away(self) -> Away:
+        """The times in which the recorder was stopped, or the computer slept."""
+
+    def watch(self, number: int, readable: Optional[Callback] = None, writable: Optional[Callback] = None) -> None:
+        """Calls these from now on for the file descriptor; none if both are None."""
+
+    def forget(self, number: int) -> None:
+        """Call this before you close the file descriptor."""
+
+    def at(self, when: float, callback: Callback) -> Timer:
+        """Calls it once, at this time."""
+
+    def after(self, seconds: float, callback: Callback) -> Timer:
+        """Calls it once, after this many seconds."""
+
+    def soon(self, callback: Callback) -> None:
+        """Calls it once, in the next turn. Any thread may call this."""
+
+    def raised(self, error: Exception) -> None:
+        """A thread has raised this error: it is raised in the next turn."""
+
+
+class Loop:
+    """Calls what is ready, one after the other, until it is stopped. No call may wait for long."""
+
+    def __init__(self) -> None:
+        self._epoll = select.epoll()
+        self._watches: Dict[int, Watch] = {}  # by their file descriptors
+        self._timers: List[Tuple[float, int, Timer]] = []  # a heap: those for the same time are called in their order
+        self._numbers = itertools.count()
+        self._stopped = False
+        self._has_called = False  # in this turn
+        self._turn, self.away = self.counting(), Away()
+        self._soon: Deque[Callback] = collections.deque()
+        self._woken, self._wakes = socket.socketpair()
+        self._woken.setblocking(False)
+        self._wakes.setblocking(False)
+        self.watch(self._woken.fileno(), self._call_soon)
+
+    # Two clocks that nobody can set.
+    now: Callable[[], float] = time.monotonic  # the time of all timers, which stands still while the computer sleeps
+    counting = staticmethod(functools.partial(time.clock_gettime, time.CLOCK_BOOTTIME))  # which counts on
+
+    def _turned(self, waited: float = 0.0) -> None:
+        """A wait of at most so many seconds is over, or a call that another one follows: many slow ones are no time away."""
+        now = self.counting()
+        if now - self._turn > LONGEST:
+            self.away.seconds += time_away(now - self._turn, waited)
+        self._turn = now
+
+    def watch(self, number: int, readable: Optional[Callback] = None, writable: Optional[Callback] = None) -> None:
+        """Calls these from now on for the file descriptor; none if both are None."""
+        watch, before = Watch(readable, writable), self._watches.pop(number, None)
+        if before:
+            before.end()
+        if watch.events():
+            if before:
+                self._epoll.modify(number, watch.events())
+            else:
+                self._epoll.register(number, watch.events())
+            self._watches[number] = watch
+        elif before:
+            with contextlib.suppress(OSError):  # it is closed
+                self._epoll.unregister(number)
+
+    def forget(self, number: int) -> None:
+        """Call this before you close the file descriptor."""
+        self.watch(number)
+
+    def at(self, when: float, callback: Callback) -> Timer:
+        """Calls it once, at this time."""
+        timer = Timer(when, callback)
+        heapq.heappush(self._timers, (when, next(self._numbers), timer))
+        return timer
+
+    def after(self, seconds: float, callback: Callback) -> Timer:
+        """Calls it once, after this many seconds."""
+        return self.at(self.now() + seconds, callback)
+
+    def soon(self, callback: Callback) -> None:
+        """Calls it once, in the next turn. Any thread may call this."""
+        self._soon.append(callback)
+        with contextlib.suppress(Exception):  # a full pipe wakes the loop all the same
+            self._wakes.send(b"\0")
+
+    def raised(self, error: Exception) -> None:
+        """A thread has raised this error: it is raised in the next turn."""
+
+        def again() -> None:
+            raise error
+
+        self.soon(again)
+
+    def _call_soon(self) -> None:
+        with contextlib.suppress(BlockingIOError):
+            self._woken.recv(4096)
+        while self._soon and not self._stopped:
+            self._call(self._soon.popleft())
+
+    def stop(self) -> None:
+        """The loop ends after the present call."""
+        self._stopped = True
+
+    def close(self) -> None:
+        """Gives up what it has open. It runs no more."""
+        self._epoll.close()
+        self._woken.close()
+        self._wakes.close()
+
+    def run(self) -> None:
+        """Runs until it is stopped."""
+        self._stopped = False
+        while not self._stopped:
+            for watch, events in self._ready():
+                if events & MAY_READ:
+                    self._call(watch.readable)
+                if events & MAY_WRITE:
+                    self._call(watch.writable)
+            if self._timers and self._timers[0][0] <= self.now():
+                self._call_timers()
+            if self._soon:  # and the loop couldn't be woken for it
+                self._call_soon()
+
+    def _call(self, callback: Optional[Callback]) -> None:
+        """Calls it, unless an earlier call has closed the descriptor or watched it for something else."""
+        if callback and not self._stopped:
+            if self._has_called:
+                self._turned()
+            self._has_called = True
+            callback()
+
+    def _ready(self) -> List[Tuple[Watch, int]]:
+        """Waits until a descriptor is ready, or a timer due. Returns those that are ready: what is called meanwhile may end a watch."""
+        timers, watches, wait = self._timers, self._watches, PULSE
+        while timers and timers[0][2].cancelled:
+            heapq.heappop(timers)
+        if timers:
+            left = timers[0][0] - self.now()
+            if left < wait:
+                wait = left if left > 0 else 0.0
+        ready = []
+        for number, events in self._epoll.poll(wait, MOST_FOUND):
+            watch = watches.get(number)
+            if watch:
+                ready.append((watch, events))
+        self._turned(wait)
+        self._has_called = False
+        return ready
+
+    def _call_timers(self) -> None:
+        now = self.now()
+        while self._timers and self._timers[0][0] <= now and not self._stopped:
+            _, _, timer = heapq.heappop(self._timers)
+            if not timer.cancelled:
+                self._call(timer.callback)
+
+
+class Counting:
+    """The time in milliseconds, by a clock that counts on while the computer sleeps, and otherwise goes as the loop's. It never goes
+    back."""
+
+    def __init__(self) -> None:
+        self._slept = -math.inf  # the seconds by which it is ahead of the loop's clock, which stands still while the computer sleeps
+
+    def __call__(self) -> int:
+        now = Loop.now()
+        self._slept = max(self._slept, Loop.counting() - now)
+        return int((now + self._slept) * 1000)
+
+
+class Signals:
+    """INT, TERM and HUP call one function, in the loop. If the caller ignores HUP, as `nohup` does, it stays ignored; INT is taken
+    even if a shell has started this in the background and ignores it. A terminal's stop signals are ignored: a recorder that is
+    stopped takes no bytes from its boards."""
+
+    def __init__(self) -> None:
+        self._woken, wakes = socket.socketpair()
+        self._woken.setblocking(False)
+        wakes.setblocking(False)
+        self._wakes = wakes
+        self.came = self.hung_up = False
+        signal.set_wakeup_fd(wakes.fileno(), warn_on_full_buffer=False)
+        for number in ENDING:
+            if number != signal.SIGHUP or signal.getsignal(number) != signal.SIG_IGN:
+                signal.signal(number, self._note)
+        for number in (signal.SIGTSTP, signal.SIGTTIN, signal.SIGTTOU, signal.SIGPIPE):
+            signal.signal(number, signal.SIG_IGN)
+
+    def _note(self, number: int, _frame: object) -> None:
+        if number == signal.SIGHUP:
+            self.hung_up = True
+        else:
+            self.came = True
+
+    def tell(self, loop: Loop, ends: Callback, hangs_up: Optional[Callback] = None) -> None:
+        """From now on each signal calls this, also one that has already come; HUP calls another function, if given."""
+
+        def heard() -> None:
+            hung_up, self.hung_up = self.hung_up, False
+            if self.came or (hung_up and hangs_up is None):
+                self.came = True
+                ends()
+            elif hung_up and hangs_up:
+                hangs_up()
+
+        def woken() -> None:
+            try:
+                while self._woken.recv(4096):
+                    pass
+            except BlockingIOError:
+                pass
+            heard()
+
+        loop.watch(self._woken.fileno(), woken)
+        if self.came or self.hung_up:
+            loop.after(0, heard)
+
+
+def close(number: Optional[int]) -> None:
+    """Closes a file descriptor, if it is one."""
+    if number is not None:
+        os.close(number)

@@ -1,0 +1,259 @@
+"""A round on a page: what any browser shows of the boards, and what a broadcast fetches. It can only be read.
+
+    door = Door(read_address("8000"), read_names([]))
+    page = Page(loop, door, SPECTATORS, trouble)  # Refused if nothing can be served there
+    page.url                             # http://127.0.0.1:8000/
+    page.show(RoundView(event, boards))  # at each change, as often as you like; it takes no time
+    page.close()
+
+What is shown is a value; boards that haven't changed may be the same objects as before. Readers get the newest state, at most
+ten times a second. `trouble` gets errors that end one reader's connection and should never happen.
+
+It serves `/` and its files, `/state.json`, `/round.pgn`, `/01.pgn` and so on by the boards' numbers, and `/events`: for each
+change a `round` (its boards' numbers) or a `board`, as `board_text` has it, and in between a `beat` with the time of day.
+"""
+
+from __future__ import annotations
+
+import hashlib
+import pathlib
+import secrets
+import time
+from dataclasses import dataclass
+from typing import Callable, Dict, List, Optional, Tuple
+
+from live.out.seen import BoardView, Ply, RoundView, Shows, json_text, pgn_path, round_pgn, round_text
+from live.run.loop import Timer, Turns
+from live.show.address import Door
+from live.show.serving import PART, Content, Server
+from live.words.catalogue import used_in
+from live.words.message import ENGLISH
+
+__all__ = ["BoardView", "Page", "Ply", "RoundView"]
+
+PAUSE = 0.1  # seconds between two changes that readers see
+BEAT = 2.0  # seconds, and up to a sweep more; a page that hears nothing for two beats says so (SILENT in page/stream.js)
+RETRY = 1000  # milliseconds after which a browser connects again
+FOLDER = pathlib.Path(__file__).resolve().parent / "page"
+KINDS = {
+    ".html": "text/html; charset=utf-8",
+    ".js": "text/javascript; charset=utf-8",
+    ".css": "text/css; charset=utf-8",
+    ".svg": "image/svg+xml",
+}
+PIECES, WORDS = b"<!-- pieces.svg -->", b"<!-- words.en.json -->"  # the places in the page where they are put in
+SHARED = ("boards.js", "card.js", "chess.js", "clock.js", "diagram.js", "game.js", "grid.js", "icon.svg", "message.js", "names.js",
+          "page.css", "files.js", "pieces.svg", "sheet.js", "source.js", "stream.js")  # fmt: skip
+PGN = "application/vnd.chess-pgn"
+JSON = "application/json"
+
+
+@dataclass(frozen=True)
+class Site:
+    """The files of a page: the one at `/`, and all others. A reader gets no other file."""
+
+    index: str
+    files: Tuple[str, ...]
+
+
+ARBITER = Site("index.html", (*SHARED, "arbiter.css", "large.js", "page.js", "tile.js"))
+SPECTATORS = Site("spectators.html", (*SHARED, "spectators.css", "spectators.js"))
+
+
+class Shown:
+    """A board as readers have it since a change."""
+
+    def __init__(self, board: Shows, change: int, page: Page, before: Optional[Shown]) -> None:
+        self.board, self.change = board, change
+        self._before = before.board if before else None
+        self._identifier = f"{page.epoch}-{change}"
+        self._offset = page.offset
+        self._whole = b""
+
+    @property
+    def whole(self) -> bytes:
+        """The whole board in JSON."""
+        if not self._whole:
+            self._whole = self.board.text(self._offset, None)
+        return self._whole
+
+    def event(self, is_news: bool) -> bytes:
+        """The event with the whole board, or with what is new to readers who had it before this change."""
+        if not is_news or self._before is None:
+            return event("board", self.whole, self._identifier)
+        return event("board", self.board.text(self._offset, self._before), self._identifier)
+
+
+class Page:
+    """The page of a round, at an address."""
+
+    def __init__(self, loop: Turns, door: Door, site: Site, trouble: Callable[[str], None]) -> None:
+        self._loop = loop
+        self.offset = time.time() - loop.now()
+        self.epoch = secrets.token_hex(4)  # other calls of the recorder have other events
+        self.header = b""
+        self._change = self._change_before = 0  # the last change of the last publication, and of the one before it
+        self._news: Optional[bytes] = None  # what is new to readers who have seen the one before it
+        self._boards: Dict[int, Shown] = {}  # by number, in the order of their changes
+        self._round = RoundView("")
+        self._next: Optional[RoundView] = None
+        self._publishes: Optional[Timer] = None
+        self._published_at = loop.now() - PAUSE
+        self._key = hashlib.blake2b(door.embed.encode("ascii")).digest()
+        self._files = {f"/{name}": self._content(KINDS[pathlib.Path(name).suffix], (FOLDER / name).read_bytes()) for name in site.files}
+        self._files["/"] = self._content(KINDS[".html"], index_of(site))
+        self._made: Dict[str, Content] = {}
+        self._publish(self._round)
+        self._server = Server(loop, door, self, trouble)
+
+    @property
+    def url(self) -> str:
+        return f"http://{self._server.address.text}/"
+
+    @property
+    def readers(self) -> int:
+        """The number of connections."""
+        return len(self._server.readers)
+
+    def now(self) -> float:
+        """The time of day, counted on from the page's beginning."""
+        return self._loop.now() + self.offset
+
+    # What is shown.
+
+    def begin(self, state: RoundView) -> None:
+        """Shows this at once, before there is a reader."""
+        self._publish(state)
+
+    def show(self, state: RoundView) -> None:
+        """Shows this from now on."""
+        self._next = state
+        if self._publishes is None:
+            wait = self._published_at + PAUSE - self._loop.now()
+            self._publishes = self._loop.after(max(0.0, wait), self._publish_next)
+
+    def _publish_next(self) -> None:
+        self._publishes = None
+        self._published_at = self._loop.now()
+        if self._next is not None:
+            self._publish(self._next)
+            self._server.wake()
+
+    def _publish(self, state: RoundView) -> None:
+        self._next, self._round = None, state
+        numbers = [board.number for board in state.boards]
+        header = state.header
+        self.header = self.header if header == self.header else header
+        self._made.clear()
+        self._change_before, self._news = self._change, None
+        for gone in set(self._boards) - set(numbers):
+            del self._boards[gone]
+        for board in state.boards:
+            before = self._boards.get(board.number)
+            if before is None or before.board is not board and before.board != board:
+                self._change += 1
+                self._boards.pop(board.number, None)
+                self._boards[board.number] = Shown(board, self._change, self, before)
+
+    def since(self, seen: int) -> Tuple[bytes, int]:
+        """The next events for a reader who has seen everything up to this change, and the last change in them."""
+        if seen == self._change_before:
+            if self._news is None:
+                self._news = b"".join(shown.event(True) for shown in self._newer(seen))
+            if len(self._news) <= PART:
+                return self._news, self._change
+        parts: List[bytes] = []
+        size = 0
+        for shown in self._newer(seen):
+            parts.append(shown.event(False))
+            size += len(parts[-1])
+            seen = shown.change
+            if size >= PART:
+                break
+        return b"".join(parts), seen
+
+    def _newer(self, seen: int) -> List[Shown]:
+        """The boards that have changed after this change, in the order of their changes."""
+        newer: List[Shown] = []
+        for shown in reversed(list(self._boards.values())):
+            if shown.change <= seen:
+                break
+            newer.append(shown)
+        return newer[::-1]
+
+    # What is served.
+
+    def content(self, path: str) -> Optional[Content]:
+        """The content of this path, if any."""
+        found = self._files.get(path) or self._made.get(path)
+        if found is None:
+            found = self._make(path)
+            if found is not None:
+                self._made[path] = found
+        return found
+
+    def _make(self, path: str) -> Optional[Content]:
+        boards = self._round.boards
+        if path == "/state.json":
+            texts = [self._boards[board.number].whole for board in boards]
+            return self._content(JSON, round_text(self._round.values, texts))
+        if path == "/round.pgn":
+            return self._content(PGN, round_pgn(board.pgn for board in boards))
+        board = next((board for board in boards if pgn_path(board.number) == path), None)
+        return self._content(PGN, board.pgn) if board else None
+
+    def _content(self, kind: str, body: bytes) -> Content:
+        """Its tag is another one for another site that may read it: a browser that has the same tag keeps who might read it before."""
+        return Content(kind, body, f'"{hashlib.blake2b(body, digest_size=12, key=self._key).hexdigest()}"')
+
+    def stream(self, path: str, last: str) -> Optional[Events]:
+        """The events of this path, from the one after `last` on, if it has events."""
+        if path != "/events":
+            return None
+        epoch, _, seen = last.partition("-")
+        known = epoch == self.epoch and seen.isascii() and seen.isdigit() and len(seen) < 16
+        return Events(self, int(seen) if known and int(seen) <= self._change else 0)
+
+    def close(self) -> None:
+        """Ends all connections."""
+        if self._publishes:
+            self._publishes.cancel()
+        self._server.close()
+
+
+class Events:
+    """The events for one reader, who has seen all changes up to one. A slow reader misses states that were soon over."""
+
+    def __init__(self, page: Page, seen: int) -> None:
+        self._page, self._seen = page, seen
+        self._header = b""
+        self._beats_at = 0.0
+
+    def more(self) -> bytes:
+        """The next events."""
+        now = self._page.now()
+        first = b""
+        if now >= self._beats_at:
+            if not self._header:
+                first = b"retry: %d\n" % RETRY
+            first += event("beat", json_text({"now": round(now, 1)}))
+            self._beats_at = now + BEAT
+        if self._header is not self._page.header:
+            self._header = self._page.header
+            first += event("round", self._header)
+        boards, self._seen = self._page.since(self._seen)
+        return first + boards if first else boards
+
+
+def event(kind: str, data: bytes, identifier: str = "") -> bytes:
+    """A server-sent event. Its data is one line."""
+    named = f"id: {identifier}\n" if identifier else ""
+    return f"event: {kind}\n{named}data: ".encode("ascii") + data + b"\n\n"
+
+
+def index_of(site: Site) -> bytes:
+    """The page at `/`. The pieces come with it, so no board is shown empty if another answer fails; and so do the sentences of its
+    scripts, for which nobody waits then."""
+    code = "".join((FOLDER / name).read_text("utf-8") for name in site.files if name.endswith(".js"))
+    words = json_text(used_in(code, ENGLISH)).replace(b"<", rb"\u003c")
+    return (FOLDER / site.index).read_bytes().replace(PIECES, (FOLDER / "pieces.svg").read_bytes()).replace(WORDS, words)
