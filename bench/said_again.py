@@ -16,7 +16,7 @@ from live.child.program import Program  # noqa: E402
 from live.game import timed, times  # noqa: E402
 from live.game.began import Began, began_line, part_line, summed, this_start  # noqa: E402
 from live.game.files import Paths  # noqa: E402
-from live.out.said_again import said_again  # noqa: E402
+from live.out.again import said_again  # noqa: E402
 from played.stage import program  # noqa: E402
 
 HEAD, DUMP, UPDATE, CLOCK = 3, 0x86, 0x8E, 0x8D  # bytes before a frame's content; kinds of frames

@@ -20,7 +20,6 @@ from live.game.files import Paths, size_of
 from live.game.game import end_mark, largest, mebibytes
 from live.game.opening import Chooses, Chosen, Opening, added_to_kept
 from live.game.options import Options, as_typed
-from live.game.tags import Tags
 from live.game.typed import MESSAGES, MOVES
 from live.line.line import check, check_free
 from live.run.called import DGT_LIVE
@@ -220,14 +219,10 @@ class Single:
         state = None if self.board.trouble else self.board.state
         return all_of(state, self.board.looks.open, False, lambda line: line, Moves([ply.short for ply in self.board.plies]))
 
-    def player_name(self, option: str) -> str:
-        """The name for `--white` or `--black`."""
-        return self.board.options.value(option) or ""
-
     @property
-    def tags(self) -> Tags:
-        """The tags that are published but not recorded, or published in other letters; none if both texts are the same."""
-        return dict(self.board.options.tags)
+    def options(self) -> Options:
+        """The options that have its players' names and all its tags."""
+        return self.board.options
 
 
 def why_over(paths: Paths, given: Options, kept: Options) -> Optional[Refused]:

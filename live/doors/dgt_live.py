@@ -20,11 +20,11 @@ from live.game.files import Paths
 from live.game.game import kept_tags
 from live.game.opening import checked
 from live.game.options import Options
-from live.out import published_text
 from live.run.loop import Loop, Signals
 from live.run.refused import DONE, FAILED, Refused
 from live.show.screen import Screen
-from live.show.terminal import Terminal, Typed
+from live.show.terminal import Terminal
+from live.show.typed import Typed
 from live.words.message import Message, linked
 
 HELP = """\
@@ -92,7 +92,7 @@ def record_in(call: Call, program: Program, signals: Signals) -> Outcome:
     single.close()
     complaints, unseen = audience.close() if audience else ((), "")
     if audience is None and kept_tags(single.board.paths):  # the first of them was typed
-        published_text.publish_anew(single.board.paths)
+        door("kept_game").publish_now(single.board.paths)
     terminal.clear()
     if unseen:
         single.say(unseen)

@@ -8,14 +8,6 @@ import shlex
 from dataclasses import dataclass, replace
 from typing import Dict, List, Optional, Sequence, Tuple
 
-from live.out.broadcast import Broadcast
-from live.out.going_out import HOLD, GoingOut, delay_of, in_home, minutes, read_command, read_delay, read_hold
-from live.out.kept_out import keep_out, kept_out, told_of_kept as told_of_kept_out
-from live.out.named_output import OPTION as OUTPUT
-from live.out.named_output import (
-    Output, held, left_in, name_in, read_outputs, refuse_games_in_site, refuse_links, refuse_shared_sites, refuse_unknown, removed, sites_given, told_of,
-    without_those,
-)  # fmt: skip
 from live.child.program import Program
 from live.doors import calls
 from live.doors.calls import refuse_both, refuse_hosts
@@ -25,23 +17,28 @@ from live.game.files import LOCK_PATIENCE, Paths, text_of
 from live.game.game import keep_options, kept_options
 from live.game.opening import recordable, turned, unknown
 from live.game.options import RECOVER, STRICT, TAG, UNKNOWN, Options, as_typed, assigned, meant, no_option, typed_tag, typed_value, with_help, without_help
-from live.out.site import SiteFiles, refuse_no_site
-from live.round.display import terminal_of_lines
+from live.out.delay import (
+    HOLD, GoingOut, delay_of, in_home, keep_out, kept_out, minutes, read_command, read_delay, read_hold, told_of_kept as told_of_kept_out,
+)  # fmt: skip
+from live.out.outputs import (
+    OUTPUT as OUTPUT, Output, held, left_in, name_in, read_outputs, refuse_games_in_site, refuse_links, refuse_shared_sites, refuse_unknown, removed,
+    sites_given, told_of, without_those,
+)  # fmt: skip
+from live.out.texts import RESULTS, TournamentFiles, all_text, results_text
 from live.round.round import Round, first_pairings, refuse_another_round
 from live.round.row import Hall
+from live.round.tournament import Tournament, folder_of_table, made, refuse_exchanged, tournament_of
 from live.run.called import DGT_ROUND
 from live.run.lock import locked
 from live.run.loop import Loop, Signals
 from live.run.refused import ARGUMENTS, DONE, FAILED, REFUSED, Refused
-from live.show.address import Pages, read_pages
-from live.show.doors import Title, TwoPages
-from live.show.kept_pages import keep_pages, pages_of
-from live.show.round_page import ArbiterView
-from live.table.encodings import ENCODING, encoding_in, known_encoding
-from live.table.place import folder_of_table, refuse_exchanged
-from live.table.sources import Source
-from live.table.tournament import Tournament, made, tournament_of
-from live.table.tournament_files import RESULTS, TournamentFiles, all_text, results_text
+from live.show.address import Pages, keep_pages, pages_of, read_pages
+from live.show.page import Title, TwoPages
+from live.show.site import SiteFiles, refuse_no_site
+from live.show.table import terminal_of_lines
+from live.show.view import ArbiterView
+from live.table.encoding import ENCODING, encoding_in, known_encoding
+from live.table.hall import Source
 from live.table.trf import MATCHES, read_matches
 from live.words.message import Message, linked
 
@@ -338,8 +335,8 @@ def files_of(tournament: Tournament, loop: Loop, games: Round) -> TournamentFile
         (tournament.all_games, lambda: all_text(others, tournament.number, games.broadcast.text())),
         (pathlib.Path(tournament.games) / RESULTS, lambda: results_text(games.results())),
     )
-    kept = TournamentFiles(loop, texts, games.say, games.trouble)
-    games.broadcast.take_along(kept)
+    kept = TournamentFiles(loop, texts, games.say, games.trouble, games.broadcast.other_changed)
+    games.broadcast.finishes.append(kept.finish)
     return kept
 
 
@@ -354,14 +351,12 @@ def sites_of(asked: Asked, loop: Loop, games: Round, title: Title) -> List[SiteF
     """The static sites. Each has what its output shows."""
     wanted = [(asked.web, games.broadcast, title)]
     wanted += [(output.web, games.outputs.named[output.name], replace(title, late=output.late)) for output in asked.outputs if output.out]
-    return [site_of(folder, broadcast, loop, games, of) for folder, broadcast, of in wanted if folder]
-
-
-def site_of(folder: str, broadcast: Broadcast, loop: Loop, games: Round, title: Title) -> SiteFiles:
-    """The static site of an output."""
-    site = SiteFiles(loop, pathlib.Path(folder), title, lambda: broadcast.boards, lambda: broadcast.matches, games.say, games.trouble)
-    broadcast.take_along(site)
-    return site
+    sites: List[SiteFiles] = []
+    for folder, broadcast, of in wanted:
+        if folder:
+            sites.append(SiteFiles(loop, pathlib.Path(folder), of, broadcast, games.say, games.trouble))
+            broadcast.finishes.append(sites[-1].finish)
+    return sites
 
 
 def main(arguments: Sequence[str], here: str) -> int:

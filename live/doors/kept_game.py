@@ -16,16 +16,19 @@ from live.game import files, packing
 from live.game.changing import add_by_name, told_of_round, told_of_series
 from live.game.file_names import check_name, has_delay
 from live.game.files import LOCK_PATIENCE, Paths
+from live.game.forfeiting import forfeit_of
+from live.game.forfeits import told_to_readers
+from live.game.game import kept_options
 from live.game.log import log_once
 from live.game.making_pgn import first_time
 from live.game.names import today
 from live.game.naming import line_of
 from live.game.opening import Opening, checked, read_otherwise
 from live.game.options import Options
+from live.game.tags import published
 from live.line import serial_line
 from live.line.numbers import Asked, ask, listing, told_of_shut
-from live.out import published_text
-from live.out.unseen import is_hidden
+from live.out.again import is_hidden
 from live.run.called import DGT_LIVE
 from live.run.loop import Loop
 from live.run.refused import DONE, FAILED, REFUSED, Refused, printable
@@ -38,7 +41,18 @@ def publish_anew(paths: Paths, given: Options = Options()) -> List[str]:
         return []
     if has_delay(paths) and is_hidden(paths):
         return [Message("text.gets_its_tags", path=paths.broadcast)]
-    return [published_text.publish_anew(paths)]
+    return [publish_now(paths)]
+
+
+def publish_now(paths: Paths) -> str:
+    """Publishes the text of a game that nobody records. Returns a message about it."""
+    kept = kept_options(paths)
+    try:
+        text = files.existing(paths.pgn)
+        files.put_in_place(paths.broadcast, published(text, dict(kept.tags) if kept else {}, told_to_readers(forfeit_of(paths, text))))
+    except OSError as error:
+        raise Refused(FAILED, files.not_written(paths.broadcast, error)) from None
+    return Message("text.has_its_tags", path=paths.broadcast)
 
 
 def existing_game(name: str, *more: str) -> Paths:

@@ -8,27 +8,19 @@ from __future__ import annotations
 import contextlib
 import os
 from dataclasses import replace
-from typing import Callable, Dict, Iterable, List, Optional, Protocol, Sequence, Set, Tuple
+from typing import Callable, Dict, Iterable, List, Optional, Sequence, Set, Tuple
 
 from live.child.program import Program
 from live.game.files import AnyPath, Paths, folder_of, remove, sync_folder
-from live.game.forfeits import NO_RESULT, told_to_readers
-from live.game.tags import published
-from live.out import went_out
-from live.out.games import Game, Shots, written_name
-from live.out.going_out import GoingOut
-from live.out.matches import UNKNOWN, Paired
-from live.out.published import Published
-from live.out.publishing import Publisher
-from live.out.said_again import Said, games_before, said_again
-from live.out.seen import round_pgn
-from live.out.shot import Shot
-from live.out.steady import Steady
-from live.out.view import Player, SpectatorBoard, said_of_matches
-from live.out.waiting import Waiting
-from live.out.went_out import Keeper, WentOut
+from live.game.forfeits import NO_RESULT
+from live.out.again import Keeper, WentOut, games_before, read_shown, said_again, shown_beside
+from live.out.delay import GoingOut, OneGame, Said, Waiting
+from live.out.publish import Publisher
+from live.out.shot import Game, Shot
+from live.out.spectators import UNKNOWN, Paired, SpectatorBoard, round_pgn, said_of_matches
+from live.out.texts import Published
 from live.run.beside import Worker
-from live.run.guard import Guard, traced
+from live.run.guard import Guard, Restarted, traced
 from live.run.loop import Loop, Timer
 from live.run.refused import Refused
 from live.words.message import Message, linked
@@ -39,97 +31,92 @@ TICK = 1.0  # seconds between two looks at the clocks
 AGAIN = 1.0  # seconds after which it begins again if an error has ended it, and the program is asked again
 TRIES = 4  # of the program to say again what was hidden of a game
 NOT_PUBLISHED = Message("broadcast.not_published")
-SIDES = ("White", "Black")
 Due = Tuple[Tuple[SpectatorBoard, ...], Tuple[Paired, ...]]  # the boards, and those of the table that aren't recorded
 
 
-class HearsBroadcast(Protocol):
-    """Gets the events of what goes out."""
+class Carrier:
+    """The published text in its file, and the command that carries it away. `says` gets lines for the screen."""
 
-    def say(self, text: str) -> None:
-        """A line for the screen."""
+    def __init__(self, guard: Guard, out: GoingOut, place: AnyPath, text: Callable[[], bytes], says: Callable[[str], None]) -> None:
+        self._out, self._place, self._says = out, place, says
+        self.alarm = ""  # why the text can't be carried away
+        self.make_folder()
+        self._keeper: Optional[Keeper] = None
+        self._publisher: Optional[Publisher] = None
+        if out.delay:
+            self._keeper = Keeper(guard, shown_beside(place), out.delay)
+            guard.opened(self._keeper.close)
+        self._file = Published(guard, place, text, says, self.changed)
+        guard.opened(self._file.stop)
+        if out.command:
+            self._publisher = Publisher(guard, out.command, place, self._told)
+            guard.opened(self._publisher.close)
+
+    def make_folder(self) -> None:
+        """A named output has a folder of its own. If it can't be made, that is said of the text."""
+        folder = folder_of(self._place) if self._out.name else ""
+        if folder and not os.path.isdir(folder):
+            with contextlib.suppress(OSError):
+                os.mkdir(folder)
+                sync_folder(folder_of(folder))
+
+    def keep(self, went: WentOut, goes_out: Callable[[], None]) -> None:
+        """This goes out; if it is late, once it is kept that it does."""
+        if self._keeper:
+            self._keeper.keep(went, goes_out)
+        else:
+            goes_out()
+
+    def write(self) -> None:
+        """The text has changed."""
+        self._file.changed()
 
     def changed(self) -> None:
-        """Whether it goes out, or why not, has changed."""
+        """A file has changed that the command carries away."""
+        if self._publisher:
+            self._publisher.changed()
 
-    def trouble(self, text: str) -> None:
-        """An error that should never happen, and where."""
+    def is_out(self, has_text: bool) -> bool:
+        """Whether the text, if there is one, is written and carried away."""
+        is_written = not has_text or self._file.is_written
+        return is_written and (self._keeper is None or self._keeper.is_idle) and (self._publisher is None or self._publisher.is_idle)
 
+    @property
+    def told_of_alarm(self) -> str:
+        """That the text can't be carried away, and why; empty if it can."""
+        if not self.alarm:
+            return ""
+        of_output = [Message("output.called", name=self._out.name)] if self._out.name else []
+        return linked("colon", (NOT_PUBLISHED, *of_output, self.alarm))
 
-class Others(Protocol):
-    """Other files that are made of what goes out."""
+    def _told(self, trouble: str) -> None:
+        """A run of the command has ended, with what went wrong, or nothing."""
+        before, self.alarm = self.alarm, trouble
+        if trouble and trouble != before:
+            self._says(Message("broadcast.again", alarm=self.told_of_alarm))
+        elif before and not trouble:
+            self._says(Message("broadcast.is_out_again", place=self._place))
 
-    written: Callable[[], None]  # called when one of them has changed
+    def keep_last(self) -> None:
+        """Keeps what waits, and lets it out."""
+        if self._keeper:
+            self._keeper.finish()
 
-    def finish(self) -> None:
-        """Writes them a last time."""
+    def write_last(self) -> None:
+        """Writes the text a last time."""
+        self._file.close()
 
-
-class OneGame:
-    """A game as it goes out. If it goes out late, the program must first say again what was said of it; until then nothing is shown."""
-
-    def __init__(self, name: str, out: GoingOut, before: Optional[Shot] = None) -> None:
-        self._before = before  # what readers had of it when this call began
-        self.name, self.waiting, self.steady = name, Waiting(out.delay), Steady(out.hold)
-        self.is_told = True  # whether what was said of it before is known
-        self._shots = Shots()
-        self.board: Optional[SpectatorBoard] = None  # as it is shown
-        self._text: Tuple[object, bytes] = ((), b"")  # what the published text was made of, and that text
-        self._shown: Tuple[object, ...] = ()  # what the shown board was made of
-        self._shot = self.waiting.shot
-
-    def tell(self, said: Iterable[Said], now: float) -> None:
-        """This was said of it, each at its time."""
-        for came, shot in said:
-            self._releases(came)
-            self.waiting.take(came, self.steady.take(came, shot))
-        self._releases(now)
-        if self._before:
-            self.waiting.was_out(self._before)
-        self.is_told = True
-
-    def _releases(self, now: float) -> None:
-        """A last ply has stood long enough before this time."""
-        at = self.steady.due
-        if at is not None and at < now and self.steady.last:
-            self.steady.release()
-            self.waiting.take(at, self.steady.take(at, self.steady.last))
-
-    def take(self, game: Game, clock: Callable[[], float]) -> None:
-        """Looks at the game as it is now, if that is known."""
-        board = game.board
-        is_known = not (board.is_new or board.trouble)
-        shot = self._shots.take(board, clock()) if is_known else self.steady.last  # what waits goes out all the same
-        now = clock()
-        if shot:
-            self.waiting.take(now, self.steady.take(now, shot))
-        self.look(now)
-
-    def look(self, now: float) -> None:
-        """Moves on to this time."""
-        self.waiting.look(now)
-
-    def show(self, game: Game) -> None:
-        """Shows what is due."""
-        shot = self.waiting.shot
-        names = {side: written_name(game, side) for side in SIDES}
-        tags = {**game.tags, **names}
-        shown_of = (id(shot), game.number, tuple(tags.items()))
-        if shown_of == self._shown:
-            return
-        self._shown, self._shot = shown_of, shot  # the shot is kept, so that its id stays its own
-        of = (tuple(tags.items()), shot.text, shot.forfeit)
-        if of != self._text[0]:
-            self._text = of, published(shot.text, tags, told_to_readers(shot.forfeit))
-        white, black = (Player.of_tags(tags, side, names[side]) for side in SIDES)
-        before = self.board
-        shown = SpectatorBoard(game.number, white, black, shot, self._text[1], self.waiting.delay)
-        if shown != before:
-            self.board = shown
+    def carry_last(self, done: Callable[[], None]) -> bool:
+        """Has the command carry it away a last time, then calls this. Returns whether there is a command."""
+        if self._publisher:
+            self._publisher.finish(done)
+        return self._publisher is not None
 
 
 class Broadcast:
-    """What goes out of some games, in their order. Without a `place` for a file no text is published."""
+    """What goes out of some games, in their order: under their own names in the folder of `place`, the file of the published text; or
+    under `name`, if it is of one board. Without a `place` no text is published. `says` gets lines for the screen, `trouble` errors that
+    should never happen."""
 
     def __init__(
         self,
@@ -138,81 +125,50 @@ class Broadcast:
         out: GoingOut,
         place: Optional[AnyPath],
         games: Callable[[], Iterable[Game]],
-        folder: Callable[[Game], Paths],
-        hears: HearsBroadcast,
+        says: Callable[[str], None],
+        trouble: Callable[[str], None],
+        name: str = "",
+        unrecorded: Callable[[], Iterable[Paired]] = lambda: (),
     ) -> None:
-        self._loop, self._program, self._out, self._place, self._games, self._paths = loop, program, out, place, games, folder
-        self._hears = hears
+        self._loop, self._program, self._out, self._place, self._games, self._name = loop, program, out, place, games, name
+        self._says, self._trouble = says, trouble
         self.on_news: Optional[Callable[[], None]] = None  # called when what the page shows has changed; None if there is no page
-        self._others: List[Others] = []
+        self.finishes: List[Callable[[], None]] = []  # each writes other files that are made of what goes out a last time
         self._of: Dict[int, OneGame] = {}
         self._before = self._kept_before()
         self.boards, self._pairs = self._before.boards, self._before.pairs  # as they are out, with the table's boards that aren't recorded
-        self.unrecorded: Callable[[], Iterable[Paired]] = lambda: ()  # the table's boards that aren't recorded
+        self._unrecorded = unrecorded  # the table's boards that aren't recorded
         self._results: Dict[int, Waiting] = {}  # the results that the table has for them
         self._is_known = False  # whether the games have been looked at
         self._changed: Optional[Set[int]] = set()  # the games to look at soon; None for all
-        self.alarm = ""  # why the text can't be carried away
-        self._closed = False
-        self._begin()
+        self._carrier: Optional[Carrier] = None
+        self._part = Restarted(loop, self._begin, trouble, AGAIN)
 
     def _kept_before(self) -> WentOut:
         """What was out before this call, if it goes out late."""
         if self._place and self._out.delay:
-            return went_out.read(went_out.path_of(self._place), self._out.delay)
+            return read_shown(shown_beside(self._place), self._out.delay)
         if self._place:
             with contextlib.suppress(OSError):  # it is put right with the next delay
-                remove(went_out.path_of(self._place))
+                remove(shown_beside(self._place))
         return WentOut()
 
-    def _begin(self) -> None:
+    def _begin(self, guard: Guard) -> None:
+        self._guard = guard
         self._timer: Optional[Timer] = None
         self._due: Optional[Timer] = None
-        self._guard = guard = Guard(self._loop, self._broke, lambda error: self._hears.trouble(traced(error)))
-        self._file: Optional[Published] = None
-        self._publisher: Optional[Publisher] = None
         self._beside: Optional[Worker] = None
         self._of = {number: one for number, one in self._of.items() if one.is_told}
         self._next: Optional[Due] = None  # nothing of this call has gone out yet
-        self._keeper: Optional[Keeper] = None
-        self._make_folder()
-        if self._place and self._out.delay:
-            self._keeper = Keeper(guard, went_out.path_of(self._place), self._out.delay)
-            guard.opened(self._keeper.close)
         if self._place:
-            self._file = Published(guard, self._place, self.text, self._hears.say)
-            guard.opened(self._file.stop)
-        if self._place and self._out.command:
-            self._publisher = Publisher(guard, self._out.command, self._place, self)
-            guard.opened(self._publisher.close)
-            if self._file:
-                self._file.on_written = self._publisher.changed
+            alarm = self._carrier.alarm if self._carrier else ""
+            self._carrier = Carrier(guard, self._out, self._place, self.text, self._says)
+            self._carrier.alarm = alarm
         guard.after(TICK, self._each_second)
-
-    def _make_folder(self) -> None:
-        """A named output has a folder of its own. If it can't be made, that is said of the text."""
-        folder = folder_of(self._place) if self._place and self._out.name else ""
-        if folder and not os.path.isdir(folder):
-            with contextlib.suppress(OSError):
-                os.mkdir(folder)
-                sync_folder(folder_of(folder))
-
-    def _broke(self, error: Exception) -> None:
-        """An error has ended it: it is begun again."""
-        self._hears.trouble(traced(error))
-        self._loop.after(AGAIN, self._begin_again)
-
-    def _begin_again(self) -> None:
-        if self._closed:
-            return
-        try:
-            self._begin()
-            self._guard.call(self._look)
-            if self._file and self.boards:
-                self._file.changed()
-        except Exception as error:
-            self._guard.end()
-            self._broke(error)
+        if self._is_known:  # it begins again
+            guard.call(self._look)
+            if self._carrier and self.boards:
+                self._carrier.write()
 
     # What goes out.
 
@@ -232,7 +188,8 @@ class Broadcast:
 
     def _each_second(self) -> None:
         self._guard.after(TICK, self._each_second)
-        self._make_folder()
+        if self._carrier:
+            self._carrier.make_folder()
         if self._is_known:
             self._look()
 
@@ -256,35 +213,34 @@ class Broadcast:
                 continue
             if changed is None or number in changed or one is not before.get(number):
                 try:
-                    one.take(game, self._loop.now)
+                    one.take(game, self._loop.now())
                     one.show(game)
                 except Exception as error:  # it stays as it was, and the others go on
-                    self._hears.trouble(traced(error))
+                    self._trouble(traced(error))
         due = tuple(one.board for one in self._of.values() if one.board), self._take_unrecorded()
         if due != self._next:
             self._next = due
-            self._keep(due)
+            self._lets_out(due)
         self._wait()
 
-    def _keep(self, due: Due) -> None:
-        """What is due goes out; if it is late, once it is kept that it does."""
-        boards, pairs = due
-        if self._keeper:
-            names = tuple(os.path.basename(self._of[board.number].name) for board in boards)
-            self._keeper.keep(WentOut(boards, names, pairs), lambda: self._goes_out(due))
-        else:
-            self._goes_out(due)
+    def _lets_out(self, due: Due) -> None:
+        def goes_out() -> None:
+            self.boards, self._pairs = due
+            if self.on_news:
+                self.on_news()
+            if self._carrier:
+                self._carrier.write()
 
-    def _goes_out(self, due: Due) -> None:
-        self.boards, self._pairs = due
-        if self.on_news:
-            self.on_news()
-        if self._file:
-            self._file.changed()
+        boards, pairs = due
+        if self._carrier:
+            names = tuple(os.path.basename(self._of[board.number].name) for board in boards)
+            self._carrier.keep(WentOut(boards, names, pairs), goes_out)
+        else:
+            goes_out()
 
     def _take_unrecorded(self) -> Tuple[Paired, ...]:
         """The boards that aren't recorded. A result that the table gets for one goes out as late as one of a game."""
-        now, pairs, before = self._loop.now(), list(self.unrecorded()), self._results
+        now, pairs, before = self._loop.now(), list(self._unrecorded()), self._results
         self._results = {pair.number: before.get(pair.number) or Waiting(self._out.delay) for pair in pairs}
         for pair in pairs:
             self._results[pair.number].take(now, Shot(pair.score or NO_RESULT))
@@ -301,7 +257,7 @@ class Broadcast:
     def _one(self, game: Game) -> OneGame:
         """The game as it goes out; from its beginning if its name has changed."""
         one = self._of.get(game.number)
-        name = self._paths(game).name
+        name = self._name or f"{folder_of(self._place or '')}/{game.name}"
         if one is None or one.name != name:
             one = OneGame(name, self._out, self._before.of(game.number, os.path.basename(name)))
             last = game.board.paths
@@ -331,22 +287,19 @@ class Broadcast:
                 self._guard.after(AGAIN, lambda: self._say_again(number, one, games, tries - 1))
                 return
             if trouble:
-                self._hears.trouble(trouble)
+                self._trouble(trouble)
             one.tell(said, self._loop.now())
             self._look()
 
-        self._worker().do(asks, answered)
+        if self._beside is None:
+            self._beside = Worker(self._guard)
+            self._guard.opened(self._beside.close)
+        self._beside.do(asks, answered)
 
     @property
     def is_told(self) -> bool:
         """Whether what was said of the games before is known."""
         return all(one.is_told for one in self._of.values())
-
-    def _worker(self) -> Worker:
-        if self._beside is None:
-            self._beside = Worker(self._guard)
-            self._guard.opened(self._beside.close)
-        return self._beside
 
     def _wait(self) -> None:
         """Sets a timer for the next thing that is due."""
@@ -378,76 +331,52 @@ class Broadcast:
         last = max((at for at in times if at is not None), default=None)
         return None if last is None else max(0.0, last - now)
 
+    # How it is carried away.
+
     @property
     def is_out(self) -> bool:
         """Whether all that is shown is written and carried away."""
-        is_kept = self._keeper is None or self._keeper.is_idle
-        is_written = self._file is None or not self.boards or self._file.is_written
-        return is_kept and is_written and self.is_told and (self._publisher is None or self._publisher.is_idle)
+        return self.is_told and (self._carrier is None or self._carrier.is_out(bool(self.boards)))
 
-    # How it is carried away.
-
-    def take_along(self, others: Others) -> None:
-        """The command carries these files away too: it runs when they have changed, and its last run comes after their last text."""
-        self._others.append(others)
-        others.written = self._other_written
-
-    def _other_written(self) -> None:
-        if self._publisher:
-            self._publisher.changed()
+    def other_changed(self) -> None:
+        """Another file has changed that the command carries away."""
+        if self._carrier:
+            self._carrier.changed()
 
     @property
     def told_of_alarm(self) -> str:
         """That the text can't be carried away, and why; empty if it can."""
-        if not self.alarm:
-            return ""
-        of_output = [Message("output.called", name=self._out.name)] if self._out.name else []
-        return linked("colon", (NOT_PUBLISHED, *of_output, self.alarm))
-
-    def published(self, trouble: str) -> None:
-        """A run of the command has ended, with what went wrong, or nothing."""
-        before, self.alarm = self.alarm, trouble
-        if trouble and trouble != before:
-            self._hears.say(Message("broadcast.again", alarm=self.told_of_alarm))
-        elif before and not trouble:
-            self._hears.say(Message("broadcast.is_out_again", place=self._place))
-        if trouble != before:
-            self._hears.changed()
+        return self._carrier.told_of_alarm if self._carrier else ""
 
     # How it ends.
 
     def finish(self, done: Callable[[], None]) -> None:
         """Writes and publishes a last time what is shown, then calls this."""
-        ends: List[Publisher] = []
+        is_carried = False
 
         def finishes() -> None:
+            nonlocal is_carried
             for one in self._of.values():
                 one.steady.release()
             if self._is_known:
                 self._look()
-            if self._keeper:
-                self._keeper.finish()
-            if self._file and self.boards:  # without a game there is no text
-                self._file.close()
-            for other in self._others:
-                self._finish(other)
-            if self._publisher:
-                ends.append(self._publisher)
-                self._publisher.finish(done)
+            if self._carrier:
+                self._carrier.keep_last()
+                if self.boards:  # without a game there is no text
+                    self._carrier.write_last()
+            for finish in self.finishes:
+                try:
+                    finish()
+                except Exception as error:  # it keeps nothing else from going out
+                    self._trouble(traced(error))
+            is_carried = self._carrier is not None and self._carrier.carry_last(done)
 
         self._guard.call(finishes)
-        if not ends:
+        if not is_carried:
             self._loop.after(0, done)
-
-    def _finish(self, other: Others) -> None:
-        """Has them written a last time. An error keeps nothing else from going out."""
-        try:
-            other.finish()
-        except Exception as error:
-            self._hears.trouble(traced(error))
 
     def close(self) -> List[str]:
         """Lets nothing further go out. Returns what was wrong at the end."""
-        self._closed = True
-        self._guard.end()
-        return [Message("broadcast.is_not_out", place=self._place, why=self.alarm)] if self.alarm else []
+        self._part.end()
+        why = self._carrier.alarm if self._carrier else ""
+        return [Message("broadcast.is_not_out", place=self._place, why=why)] if why else []

@@ -1,4 +1,4 @@
-"""Runs a publishing command once, as a process of its own: `publishing.py` starts this file. A run begins when the one before is
+"""Runs a publishing command once, as a process of its own: `publish.py` starts this file. A run begins when the one before is
 over with all that it started, also if that was begun by a recorder that was killed since. After its time everything that is left of
 it is ended.
 

@@ -21,31 +21,26 @@ from live.game.file_names import ROUND
 from live.game.files import size_of, text_of
 from live.game.forfeits import NO_RESULT, score_of, typed_forfeit
 from live.game.log import Log, logged_at
+from live.game.options import PLAYERS
 from live.game.typed import MESSAGES, MOVES, refuse_no_text
 from live.out.broadcast import Broadcast
-from live.out.games import written_name
-from live.out.leaving import clock_in
-from live.out.matches import UNKNOWN as NOT_KNOWN, Paired, matches_of, told_of_matches
+from live.out.delay import clock_in
 from live.out.outputs import Outputs
-from live.out.published import Published
-from live.out.seen import round_pgn
-from live.round.display import Display
-from live.round.leaving import Leaving
+from live.out.spectators import UNKNOWN as NOT_KNOWN, Paired, matches_of, round_pgn, told_of_matches
+from live.out.texts import FORFEIT, Published, Result
+from live.round.commands import Leaving, all_ways, is_command, said_of, told_of_answer, ways
 from live.round.row import Earlier, Hall, Row, earlier_game, was_forfeited
-from live.round.ways import all_ways, is_command, said_of, told_of_answer, ways
+from live.round.tournament import another_folder
 from live.run.beside import Worker
 from live.run.called import DGT_ROUND
 from live.run.guard import traced
 from live.run.loop import Loop
 from live.run.refused import DONE, FAILED, REFUSED, Refused, printable as whole_printable
-from live.show.terminal import Typed
-from live.table.encodings import is_question
-from live.table.joining import not_plugged_in, with_some
+from live.show.table import NOT_RECORDED, Display, RowView, boards_are, boards_counted, lines_are_wrong
+from live.show.typed import Typed
+from live.table.encoding import is_question
+from live.table.hall import Source, not_plugged_in, with_some, without_twice
 from live.table.pairings import EXAMPLE, Pairing, Pairings, Wrong, told_of_wrong
-from live.table.place import another_folder
-from live.table.sources import Source, without_twice
-from live.table.table import NOT_RECORDED, RowView, boards_are, boards_counted, lines_are_wrong
-from live.table.tournament_files import FORFEIT, Result
 from live.words.message import Message, linked
 
 OPENS = 5.0  # seconds that all games may take to be opened
@@ -126,8 +121,7 @@ class Round:
         folder = pathlib.Path(hall.folder)
         self._log = Log(folder / "round.log")
         self._published = Published(loop, folder / f"{ROUND}.pgn", self._text, self.say)
-        self.outputs = Outputs(loop, hall.program, hall.out, hall.outputs, folder, self.boards, self)
-        self.outputs.beside(self._unrecorded)
+        self.outputs = Outputs(loop, hall.program, folder, hall.out, hall.outputs, self.boards, self._unrecorded, self.say, self.trouble)
         self._display = Display(loop, title, self.views, hall.terminal, self.trouble)
         self._opens_until = loop.now() + OPENS
         loop.after(OPENS, self.remade)
@@ -304,7 +298,8 @@ class Round:
         for row in self.boards():
             result = row.board.forfeit or (row.board.result if row.board.result != NO_RESULT else row.pairing.result)
             score, note = (score_of(result), FORFEIT) if score_of(result) else (result.replace(NO_RESULT, ""), "")
-            found.append(Result(row.number, written_name(row, "White"), written_name(row, "Black"), score, note))
+            white, black = map(row.options.written, PLAYERS)
+            found.append(Result(row.number, white, black, score, note))
         return found
 
     def _unrecorded(self) -> List[Paired]:

@@ -23,18 +23,16 @@ from live.game.game import end_mark, kept_options, result_in
 from live.game.naming import IN_A_TABLE, is_naming
 from live.game.opening import Chooses, Opening, checked, of_a_line, recordable, turned
 from live.game.options import PLAYERS, UNKNOWN, Options
-from live.game.tags import SIDES, Tags
 from live.line.line import check
 from live.line.protocol import SQUARES
-from live.out.games import written_name
-from live.out.going_out import GoingOut
-from live.out.named_output import Output
+from live.out.delay import GoingOut
+from live.out.outputs import Output
 from live.run.loop import Turns
 from live.run.refused import DONE, REFUSED, Refused
 from live.show.screen import Screen
+from live.show.table import NOT_RECORDED, RowView
 from live.show.terminal import Terminal
 from live.table.pairings import Pairing, same_but_for_names, same_but_for_result
-from live.table.table import NOT_RECORDED, RowView
 from live.words.message import Message, has, is_of, linked
 
 ANSWERED = ("typed.added_by_hand", "typed.added_by_hand_to", "look.acknowledged")  # the answer to a typed line says it in other words
@@ -425,7 +423,7 @@ class Row:
     # What others see.
 
     @property
-    def _named(self) -> Options:
+    def options(self) -> Options:
         """The options that have its players' names: those of its game, or of its line as long as no game was found. Both names and
         all tags come from the same, so they change together."""
         if self.board.options.tags:
@@ -435,15 +433,6 @@ class Row:
         if self._of_line[0] is not self.pairing:
             self._of_line = self.pairing, typed_options(self._hall, self.pairing)
         return self._of_line[1]
-
-    def player_name(self, option: str) -> str:
-        """The name for `--white` or `--black`."""
-        return self._named.value(option) or ""
-
-    @property
-    def tags(self) -> Tags:
-        """The tags that are published but not recorded, or published in other letters."""
-        return dict(self._named.tags)
 
     def standing(self) -> Tuple[str, Optional[float], bool]:
         """Its state in words, since when, and whether somebody must look at it."""
@@ -494,5 +483,5 @@ class Row:
             rest = linked("semicolon", ("", state.clock)) if state.clock else ""
         plies = self.board.plies
         last = plies[-1].short if plies else ""
-        white, black = (written_name(self, side) for side in SIDES)
+        white, black = map(self.options.written, PLAYERS)
         return RowView(self.number, white, black, last, clocks_of(plies), front, rest, since, alarm)

@@ -1,4 +1,5 @@
-"""A round on a page: what any browser shows of the boards, and what a broadcast fetches. It can only be read.
+"""A round on a page: what any browser shows of the boards, and what a broadcast fetches. It can only be read. A call has two: the
+spectators', at `--page`, and the arbiter's. That is on this computer alone, unless `--arbiter-page` says where else; then it has a password.
 
     door = Door(read_address("8000"), read_names([]))
     page = Page(loop, door, SPECTATORS, trouble)  # Refused if nothing can be served there
@@ -10,11 +11,12 @@ What is shown is a value; boards that haven't changed may be the same objects as
 ten times a second. `trouble` gets errors that end one reader's connection and should never happen.
 
 It serves `/` and its files, `/state.json`, `/round.pgn`, `/01.pgn` and so on by the boards' numbers, and `/events`: for each
-change a `round` (its boards' numbers) or a `board`, as `board_text` has it, and in between a `beat` with the time of day.
+change a `round` (its boards' numbers) or a `board`, as its text has it, and in between a `beat` with the time of day.
 """
 
 from __future__ import annotations
 
+import contextlib
 import hashlib
 import pathlib
 import secrets
@@ -22,16 +24,19 @@ import time
 from dataclasses import dataclass
 from typing import Callable, Dict, List, Optional, Tuple
 
-from live.out.seen import BoardView, Ply, RoundView, Shows, json_text, pgn_path, round_pgn, round_text
-from live.run.loop import Timer, Turns
-from live.show.address import Door
+from live.out.broadcast import Broadcast
+from live.out.spectators import RoundView, Shows, json_text, pgn_path, round_pgn, round_text
+from live.run.guard import Guard, Restarted
+from live.run.loop import Loop, Timer, Turns
+from live.run.refused import Refused
+from live.show.address import HERE, HIGHEST_PORT, Address, Door, Names, Pages
 from live.show.serving import PART, Content, Server
-from live.words.catalogue import used_in
-from live.words.message import ENGLISH
-
-__all__ = ["BoardView", "Page", "Ply", "RoundView"]
+from live.show.view import ArbiterView
+from live.words.message import ENGLISH, Message, used_in
 
 PAUSE = 0.1  # seconds between two changes that readers see
+GATHERED = 0.05  # seconds in which changes are shown at once
+AGAIN = 1.0  # seconds until a page is started again after an error
 BEAT = 2.0  # seconds, and up to a sweep more; a page that hears nothing for two beats says so (SILENT in page/stream.js)
 RETRY = 1000  # milliseconds after which a browser connects again
 FOLDER = pathlib.Path(__file__).resolve().parent / "page"
@@ -46,6 +51,12 @@ SHARED = ("boards.js", "card.js", "chess.js", "clock.js", "diagram.js", "game.js
           "page.css", "files.js", "pieces.svg", "sheet.js", "source.js", "stream.js")  # fmt: skip
 PGN = "application/vnd.chess-pgn"
 JSON = "application/json"
+ANY_PORT = 0
+AS_BEFORE = Message("page.as_before")
+NOT_AS_BEFORE = Message("page.not_as_before")
+THIS_COMPUTER = Names(frozenset({"localhost"}))  # who leads another name here could read a page without a password
+LETTERS = "abcdefghjkmnpqrstuvwxyz23456789"  # none looks like another one
+GROUPS, GROUP = 4, 4  # of a password: 79 bits
 
 
 @dataclass(frozen=True)
@@ -257,3 +268,139 @@ def index_of(site: Site) -> bytes:
     code = "".join((FOLDER / name).read_text("utf-8") for name in site.files if name.endswith(".js"))
     words = json_text(used_in(code, ENGLISH)).replace(b"<", rb"\u003c")
     return (FOLDER / site.index).read_bytes().replace(PIECES, (FOLDER / "pieces.svg").read_bytes()).replace(WORDS, words)
+
+
+class RoundPage:
+    """A page that is started again if an error ends it. `trouble` gets errors that should never happen."""
+
+    def __init__(self, loop: Loop, door: Door, site: Site) -> None:
+        """Refused if no page can be served there."""
+        self._door, self._site = door, site
+        self.view: Callable[[], RoundView] = lambda: RoundView("")  # what is shown, to the first reader too
+        self._timer: Optional[Timer] = None
+        self.trouble: Callable[[str], None] = lambda text: None
+        self._part = Restarted(loop, self._begin, lambda text: self.trouble(text), AGAIN)
+
+    def _begin(self, guard: Guard) -> None:
+        self._timer = None
+        self._page = Page(guard, self._door, self._site, lambda text: self.trouble(text))
+        guard.opened(self._page.close)
+        guard.call(lambda: self._page.begin(self.view()))
+
+    @property
+    def url(self) -> str:
+        return self._page.url
+
+    def shows(self, view: Callable[[], RoundView]) -> None:
+        """Shows this from now on. Call `changed` when it has changed."""
+        self.view = view
+        self._part.guard.call(lambda: self._page.begin(view()))
+
+    def changed(self) -> None:
+        if self._timer is None:
+            self._timer = self._part.guard.after(GATHERED, self._show)
+
+    def _show(self) -> None:
+        self._timer = None
+        self._page.show(self.view())
+
+    def close(self) -> None:
+        self._part.end()
+
+
+def new_password() -> str:
+    """A password that is easy to type and can't be guessed."""
+    return "-".join("".join(secrets.choice(LETTERS) for _ in range(GROUP)) for _ in range(GROUPS))
+
+
+@dataclass(frozen=True)
+class Title:
+    """What is shown above the boards."""
+
+    event: str
+    round: str = ""
+    late: str = ""  # how late spectators see them, in words
+
+    @property
+    def said(self) -> Tuple[Tuple[str, str], ...]:
+        """What is shown in addition to the event."""
+        return tuple((name, value) for name, value in (("round", self.round), ("late", self.late)) if value)
+
+
+class TwoPages:
+    """The pages of a call. Refused if one that was asked for can't be served. One that was kept from before is left out then: the
+    boards are recorded all the same."""
+
+    def __init__(self, loop: Loop, pages: Pages, are_kept: bool) -> None:
+        self._loop, self._are_kept = loop, are_kept
+        self._left_out: List[str] = []  # why
+        self._password = ""
+        self._spectators: Optional[RoundPage] = None
+        if pages.spectators:
+            self._spectators = self._page(Door(pages.spectators, pages.names, embed=pages.embed), SPECTATORS)
+        self._arbiter = self._arbiters(pages) if pages.any else None
+        self.trouble: Callable[[str], None] = lambda text: None
+
+    def _page(self, door: Door, site: Site) -> Optional[RoundPage]:
+        """A page behind this door, unless it is left out."""
+        try:
+            return RoundPage(self._loop, door, site)
+        except Refused as refused:
+            if not self._are_kept:
+                raise
+            self._left_out.append(refused.lines[0])
+            return None
+
+    def _arbiters(self, pages: Pages) -> Optional[RoundPage]:
+        """The arbiter's page. If no address is given, it is on this computer alone, at the next port or at any free one."""
+        if pages.arbiter and pages.arbiter.host not in (HERE, "::1"):
+            self._password = new_password()
+            return self._page(Door(pages.arbiter, pages.names, self._password), ARBITER)
+        if pages.arbiter:
+            return self._page(Door(pages.arbiter, THIS_COMPUTER), ARBITER)
+        port = pages.spectators.port if pages.spectators else HIGHEST_PORT
+        if port < HIGHEST_PORT:
+            with contextlib.suppress(Refused):
+                return RoundPage(self._loop, Door(Address(HERE, port + 1), THIS_COMPUTER), ARBITER)
+        return RoundPage(self._loop, Door(Address(HERE, ANY_PORT), THIS_COMPUTER), ARBITER)
+
+    def show(self, title: Title, arbiter: ArbiterView, broadcast: Broadcast) -> None:
+        """Shows these from now on. What spectators see comes from the broadcast alone."""
+        for page in self._all:
+            page.trouble = self.trouble
+        if self._spectators:
+            broadcast.on_news = self._spectators.changed
+            self._spectators.shows(lambda: RoundView(title.event, broadcast.boards, (*title.said, *broadcast.matches)))
+        if self._arbiter:
+            self._arbiter.shows(arbiter.view)
+
+    @property
+    def _all(self) -> List[RoundPage]:
+        return [page for page in (self._spectators, self._arbiter) if page]
+
+    def changed(self) -> None:
+        """A board has changed."""
+        if self._arbiter:
+            self._arbiter.changed()
+
+    def told(self, what: str) -> List[str]:
+        """Lines that say where they are served, and why one isn't."""
+        lines: List[str] = [Message("page.shown_at", what=what, url=self._spectators.url)] if self._spectators else []
+        if self._arbiter and not self._password:
+            lines.append(Message("page.arbiters", url=self._arbiter.url))
+        if self._left_out:
+            lines += [*self._left_out, NOT_AS_BEFORE]
+        elif self._are_kept and self._all:
+            lines.append(AS_BEFORE)
+        return lines
+
+    @property
+    def secret(self) -> str:
+        """The line that says where the arbiter's page is, if it has a password: no file gets it."""
+        if not (self._arbiter and self._password):
+            return ""
+        return Message("page.arbiters_with_password", url=self._arbiter.url, password=self._password)
+
+    def close(self) -> None:
+        for page in self._all:
+            page.close()

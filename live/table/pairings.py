@@ -15,9 +15,8 @@ from live.line.network_address import HOW, is_network, read_address
 from live.line.protocol import SERIAL_LENGTH
 from live.run.called import DGT_LIVE
 from live.run.refused import REFUSED, Refused
-from live.table.headings import COLUMNS, PERHAPS, normal
-from live.table.sheets import NAMES, SEPARATORS, Sheet, fields_of, read_sheet, told_of_above
-from live.words.message import Message
+from live.table.sheet import COLUMNS, NAMES, PERHAPS, SEPARATORS, Sheet, fields_of, normal, read_sheet, told_of_above
+from live.words.message import Message, linked
 
 YES = ("yes", "y", "1", "x", "true", "rotated", "ja", "oui", "si")
 NO = ("", "no", "n", "0", "-", "false", "nein", "non")
@@ -37,6 +36,7 @@ HIGHEST = 999
 LONGEST = 1000  # characters of a value
 LONGEST_SHOWN = 40  # characters of a wrong value
 MOST_UNKNOWN = 5  # columns that are reported one by one
+MOST_LISTED = 8  # boards, or ranges of boards, whose numbers are listed
 SERIAL = re.compile(f"[!-~]{{{SERIAL_LENGTH}}}")
 NAME = re.compile(r"[\w][\w .+-]*")
 EXAMPLE = "1,/dev/ttyUSB0,Anna,Ben"
@@ -385,3 +385,19 @@ def nameless(boards: Sequence[Pairing]) -> List[str]:
     lacks = [(one, "white" if one.black else "black") for one in boards if bool(one.white) != bool(one.black)]
     write = Message("pairs.type_the_name")
     return [Message("pairs.nameless", line=one.line, board=one.board, side=side, write=write) for one, side in lacks]
+
+
+def listed_numbers(numbers: Sequence[int]) -> str:
+    """`1 to 4, 7 and 9`; of many only some."""
+    runs: List[List[int]] = []
+    for number in numbers:
+        if runs and runs[-1][-1] + 1 == number:
+            runs[-1].append(number)
+        else:
+            runs.append([number])
+    parts: List[str] = []
+    for run in runs:
+        parts += [Message("table.from_to", first=run[0], last=run[-1])] if len(run) > 2 else [str(number) for number in run]
+    if len(parts) > MOST_LISTED:
+        parts = [*parts[: MOST_LISTED - 2], "..", parts[-1]]
+    return linked("and", filter(None, (linked("comma", parts[:-1]), parts[-1])))

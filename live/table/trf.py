@@ -16,9 +16,9 @@ from typing import Dict, List, Optional, Tuple
 from live.game.forfeits import BLACK, BOTH, WHITE
 from live.game.tags import Malformed, cleaned, value_of
 from live.run.refused import ARGUMENTS, REFUSED, Refused
-from live.table.encodings import loose_text, text_of
+from live.table.encoding import loose_text, text_of
 from live.table.pairings import MOST_UNKNOWN, NO, YES, Pairing, Pairings, Wrong, more_lines, shown
-from live.table.sheets import LARGEST
+from live.table.sheet import LARGEST
 from live.words.message import Message, linked
 
 PLAYER, TEAM, EVENT, SITE, TIME_CONTROL, DATES = "001", "013", "012", "022", "122", "132"

@@ -9,8 +9,9 @@ import tempfile
 from typing import Dict, FrozenSet, Iterator, List, Mapping, NamedTuple, Set, Tuple
 
 from live.show.page import ARBITER, SPECTATORS, index_of
-from live.words.catalogue import LINKS, MANY, ONE, NoCatalogue, faults, path_of, places_of, read, read_like
-from live.words.message import ENGLISH, Message, has, is_of, linked, plural, text_of, written
+from live.words.message import (
+    ENGLISH, LINKS, MANY, ONE, Message, NoCatalogue, faults, has, is_of, linked, path_of, places_of, plural, read, read_like, text_of, written,
+)  # fmt: skip
 
 from decided import javascript
 from decided.cases import cases
@@ -29,15 +30,13 @@ NO_SENTENCES: Dict[str, Tuple[str, ...]] = {
     "live/game/answers.py": ("input: too long",),  # what dgt_replay prints
     "live/game/way_back.py": ("as it is",),  # a value, as the next ones
     "live/run/guard.py": ("Traceback", '  File "'),  # as Python prints where an error was raised
-    "live/table/settings.py": ("# The settings of the tournament",),  # a file that is made
-    "live/out/site.py": ("default-src", "<link"),  # HTML
-    "live/table/tournament.py": ("board;white;",),  # the headings of a table
-    "live/show/editing.py": ("to the end", "to the start"),
+    "live/show/site.py": ("default-src", "<link"),  # HTML
+    "live/round/tournament.py": ("# The settings of the tournament", "board;white;"),  # files that are made
+    "live/show/typed.py": ("to the end", "to the start"),
     "live/show/page/message.js": ("the catalogue has no {}",),
     "live/show/http.py": ("Method Not", "Content Too", "URI Too", "Request Header", "HTTP Version", "default-src"),  # as HTTP has them
     # Where there is no catalogue.
-    "live/words/catalogue.py": ("{} can't be read", "{} is no JSON", "{} is no object", "{} is no key", "{} has {}"),
-    "live/words/message.py": ("the catalogue has no {}",),
+    "live/words/message.py": ("{} can't be read", "{} is no JSON", "{} is no object", "{} is no key", "{} has {}", "the catalogue has no {}"),
     "web/device/protocol.js": ("not eight",),
     "web/game/answers.js": ("input: too long",),
     "web/game/attended.js": ("live wrote:",),  # what the program has written, and can't be read

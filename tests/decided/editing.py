@@ -3,8 +3,9 @@
 from typing import List
 from unittest import mock
 
-from live.show import columns, editing
-from live.show.editing import KEPT, Line, Typed, after, part_shown
+from live.show import terminal
+from live.show.terminal import part_shown, width_of
+from live.show.typed import KEPT, Entered, Line, after
 
 from decided.table import same
 
@@ -51,7 +52,7 @@ def keys() -> None:
 
 def ends() -> None:
     """Ctrl-C on an empty line interrupts, and Ctrl-D ends the input there; on a half-typed one they clear it, and take a letter off."""
-    interrupts, end = Typed(interrupts=True), Typed(ends=True)
+    interrupts, end = Entered(interrupts=True), Entered(ends=True)
     for typed, found in (("\x03", [interrupts]), ("a\x03", []), ("a\x03\x03", [interrupts]), ("\x04", [end]), ("a\x01\x04\x04", [end])):
         same(repr(typed), after(Line(), typed.encode(), LONGEST)[1], found)
 
@@ -86,9 +87,9 @@ def shown_of_a_long_line() -> None:
 
     def counts(text: str) -> int:
         measured.append(len(text))
-        return columns.width_of(text)
+        return width_of(text)
 
-    with mock.patch.object(editing, "width_of", counts):
+    with mock.patch.object(terminal, "width_of", counts):
         same("the part", part_shown("ü" * LONGEST, LONGEST, 70), ("ü" * 69, 69))
     same("letters measured", sum(measured) < 300, True)
 

@@ -14,17 +14,16 @@ from live.child.report import Clock
 from live.game import times
 from live.game.began import Began, began_line, part_line, summed, this_start
 from live.game.files import Paths
+from live.game.tags import published
 from live.game.timed import milliseconds
-from live.out.broadcast import OneGame
-from live.out.going_out import GoingOut, delay_of, read_command, read_delay
-from live.out.kept_out import UNPUBLISHED, KeptOut, read_kept, told_of_kept, with_given, written
-from live.out.publishing import Plan, last_line, run
-from live.out.running import Clocks, Running, seconds_of, side_between
-from live.out.seen import Ply
-from live.out.shot import Shot
-from live.out.unseen import is_hidden, is_unseen
-from live.out.view import Player, SpectatorBoard
-from live.out.waiting import ALWAYS, Entry, Waiting
+from live.out.again import is_hidden, is_unseen
+from live.out.delay import (
+    ALWAYS, UNPUBLISHED, Entry, GoingOut, KeptOut, OneGame, Waiting, delay_of, kept_text, read_command, read_delay, read_kept, told_of_kept,
+    with_given,
+)  # fmt: skip
+from live.out.publish import Plan, last_line, run
+from live.out.shot import Clocks, Ply, Running, Shot, seconds_of, side_between
+from live.out.spectators import Player, SpectatorBoard, round_pgn
 from live.run.refused import Refused
 
 from decided.table import refused, same
@@ -107,16 +106,16 @@ def restarts() -> None:
     for now, shown in ((140.0, QUIET), (959.0, QUIET), (960.0, E4), (1000.0, E5), (1030.0, WON)):
         one = OneGame("01", GoingOut(900.0, hold=0.0))
         one.tell(said, now)
-        one.look(now)
+        one.waiting.look(now)
         same(f"killed, and said again at {now}", one.waiting.shot, shown)
     for delay, shown in ((900.0, E4), (3600.0, QUIET), (30.0, WON)):
         one = OneGame("01", GoingOut(delay, hold=0.0))
         one.tell(said, 970.0)
-        one.look(970.0)
+        one.waiting.look(970.0)
         same(f"at 970, {delay} late", one.waiting.shot, shown)
     one = OneGame("01", GoingOut(900.0, hold=0.0))
     one.tell([], 500.0)
-    one.look(500.0)
+    one.waiting.look(500.0)
     same("nothing can be said again", (one.is_told, one.waiting.shot, one.waiting.ends_at), (True, Shot(), None))
     running = Shot("*", E4.moves, E4.positions, E4.text)  # its clock isn't pressed
     thought = Shot(positions=QUIET.positions, text=QUIET.text, clocks=Clocks("1:29:55", "1:30:00", "w", 50.0))
@@ -153,17 +152,17 @@ def hidden_or_not() -> None:
             pathlib.Path(paths.began).write_bytes(summed([call, part_line(0, 0, lines)], 0))
 
         began(0)
-        same("no delay", (is_hidden(paths), is_unseen(paths, lambda _: text)), (False, False))
+        same("no delay", (is_hidden(paths), is_unseen(paths)), (False, False))
         delay_of(paths, 60.0, [paths])
-        same("just played", (is_hidden(paths), is_unseen(paths, lambda _: text)), (True, True))
+        same("just played", (is_hidden(paths), is_unseen(paths)), (True, True))
         began(50_000)
         same("fifty seconds ago", is_hidden(paths), True)
         began(61_000)
-        same("a minute ago", (is_hidden(paths), is_unseen(paths, lambda _: text)), (False, False))
+        same("a minute ago", (is_hidden(paths), is_unseen(paths)), (False, False))
         pathlib.Path(paths.broadcast).write_bytes(b"earlier")
-        same("and its text isn't out", is_unseen(paths, lambda _: text), True)
-        pathlib.Path(paths.broadcast).write_bytes(text)
-        same("it is", is_unseen(paths, lambda _: text), False)
+        same("and its text isn't out", is_unseen(paths), True)
+        pathlib.Path(paths.broadcast).write_bytes(round_pgn([published(text, {})]))
+        same("it is", is_unseen(paths), False)
         for path in (paths.began, f"{paths.name}.times", paths.capture):
             pathlib.Path(path).write_bytes(b"x")
             same(f"{path} is damaged", is_hidden(paths), True)
@@ -352,7 +351,7 @@ while not (folder / f"{name}.goes").exists():
 note("ends")
 """
 # A recorder that publishes, and is killed.
-PUBLISHES = "import sys; sys.path.insert(0, sys.argv[1]); from live.out.publishing import run; run(sys.argv[3:], sys.argv[2], 60.0)"
+PUBLISHES = "import sys; sys.path.insert(0, sys.argv[1]); from live.out.publish import run; run(sys.argv[3:], sys.argv[2], 60.0)"
 # Starts a process in a session of its own, writes its number, and goes on or not.
 OUTLIVED = """
 import pathlib, subprocess, sys, time
@@ -453,7 +452,7 @@ def for_spectators() -> None:
 def kept_beside_the_delay() -> None:
     """The seconds of --hold are kept, and of a command only that there was one."""
     for hold, command, text in ((None, False, ""), (20.0, False, "--hold 20\n"), (0.5, True, "--hold 0.5\n--publish\n"), (None, True, "--publish\n")):
-        same(f"written {text}", (written(KeptOut(hold, command)), read_kept(text)), (text, KeptOut(hold, command)))
+        same(f"written {text}", (kept_text(KeptOut(hold, command)), read_kept(text)), (text, KeptOut(hold, command)))
     same("a later one", with_given(KeptOut(20.0, True), 0.0, False), KeptOut(0.0, True))
     same("none", with_given(KeptOut(20.0), None, True), KeptOut(20.0, True))
     before = "a last move goes out once it has stood for 20 seconds, as before; --hold 2 ends that"

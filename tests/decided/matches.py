@@ -2,7 +2,7 @@
 
 from typing import List, Tuple
 
-from live.out.matches import Match, Paired, matches_of, printed
+from live.out.spectators import Match, Paired, matches_of, printed
 
 from decided.table import same
 

@@ -26,11 +26,11 @@ from live.game.making_pgn import Made
 from live.game.options import Options
 from live.line.numbers import Asked, listing, told_of_shut
 from live.line.serial_line import login_name, may_not_open
-from live.round.ways import ways
+from live.round.commands import ways
 from live.run.refused import Refused
 from live.show.screen import Screen
-from live.table.place import another_folder
-from live.table.table import boards_are
+from live.round.tournament import another_folder
+from live.show.table import boards_are
 
 from decided.table import accepted, refused, same
 

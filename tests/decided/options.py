@@ -6,7 +6,7 @@ from live.doors import calls, dgt_round
 from live.game.opening import recordable, turned
 from live.game.options import PUBLISHED, Options, as_typed, assigned
 from live.game.tags import Malformed, value_of
-from live.out.publishing import argument
+from live.out.publish import argument
 from live.run.refused import ARGUMENTS, Refused
 from live.table.pairings import Pairing
 

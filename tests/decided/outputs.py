@@ -7,16 +7,15 @@ import tempfile
 from typing import Callable, List, Tuple
 
 from live.out import one_at_a_time
-from live.out.going_out import GoingOut
-from live.out.named_output import (
-    LONG_EXAMPLE, EXAMPLE, Output, left_in, name_in, read_outputs, refuse_games_in_site, refuse_links, refuse_shared_sites,
+from live.out.delay import GoingOut
+from live.out.outputs import (
+    EXAMPLE, LONG_EXAMPLE, Output, left_in, name_in, read_output, read_outputs, refuse_games_in_site, refuse_links, refuse_shared_sites,
     refuse_unknown, removed, told_of, without_those,
 )  # fmt: skip
 from live.doors.dgt_round import VALUED, parse
 from live.game.file_names import OF_AN_OUTPUT, check_name
-from live.out.named_output import read_output
 from live.run.refused import Refused
-from live.table.settings import TEMPLATE, words_of
+from live.round.tournament import TEMPLATE, words_of
 
 from decided.table import refused, same
 

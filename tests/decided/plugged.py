@@ -11,7 +11,7 @@ from unittest import mock
 from live.line import serial_line
 from live.run.called import in_front
 from live.table.pairings import Pairing, Pairings
-from live.table.sources import without_twice
+from live.table.hall import without_twice
 
 from decided.table import same
 

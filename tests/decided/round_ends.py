@@ -5,9 +5,8 @@ from typing import List, Optional, Tuple
 from live.child.reply import Answer, Refused as NotDone, refusal
 from live.game.answers import RESULT, Said, meaning
 from live.game.typed import ALL_WAYS
-from live.out.leaving import stays_for, until_clock_in
-from live.round.leaving import Question, question, told
-from live.round.ways import told_of_answer
+from live.doors.audience import stays_for, until_clock_in
+from live.round.commands import Question, question, told, told_of_answer
 from live.run.refused import DONE, REFUSED
 from live.words.message import Message, linked
 

@@ -3,11 +3,8 @@
 from typing import List, Optional, Tuple
 
 from decided.table import refused, same
-from live.out.going_out import read_hold
-from live.out.running import Clocks
-from live.out.seen import Ply
-from live.out.shot import Shot
-from live.out.steady import Steady
+from live.out.delay import Steady, read_hold
+from live.out.shot import Clocks, Ply, Shot
 from live.run.refused import Refused
 
 

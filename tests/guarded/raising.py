@@ -26,7 +26,7 @@ from typing import Any, Dict, Iterator, Optional, Set, Tuple
 sys.dont_write_bytecode = sys.pycache_prefix is None
 TOP = pathlib.Path(__file__).resolve().parents[2]
 LIVE = str(TOP / "live") + os.sep
-PAGES = tuple(f"live.show.{name}" for name in ("doors", "http", "kept_pages", "page", "round_page", "serving"))
+PAGES = {f"live.show.{name}" for name in ("address", "http", "page", "serving", "view")}
 PAUSE = 0.1  # seconds between two errors
 TURNS = 2  # of the loop between two errors: what was raised has been told by then, however slow the machine is
 FIRST = "board 1"
@@ -184,9 +184,10 @@ def named(one: object) -> str:
         board = getattr(getattr(part, "pairing", None), "board", None)
         if board is not None:
             return f"board {board}"
-    if kind.__module__ in PAGES:
+    begins = type(getattr(getattr(one, "_begins", None), "__self__", None))  # what is begun again
+    if PAGES & {kind.__module__, begins.__module__}:
         return "page"
-    return "typed" if (kind.__module__, kind.__name__) == ("live.show.terminal", "Typed") else ""
+    return "typed" if (kind.__module__, kind.__name__) == ("live.show.typed", "Typed") else ""
 
 
 def put_back_at_each_turn(raising: Raising) -> None:

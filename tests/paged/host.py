@@ -15,14 +15,13 @@ from typing import Any, Callable, Counter, Dict, List, Mapping, Optional, Sequen
 
 sys.dont_write_bytecode = True
 sys.path[:0] = [str(pathlib.Path(__file__).resolve().parents[number]) for number in (2, 1)]
-from live.out.running import Clocks  # noqa: E402
-from live.out.seen import Shows, board_text  # noqa: E402
-from live.out.shot import Shot  # noqa: E402
-from live.out.view import Player, SpectatorBoard  # noqa: E402
+from live.out.shot import Clocks, Ply, Shot  # noqa: E402
+from live.out.spectators import Player, RoundView, Shows, SpectatorBoard  # noqa: E402
+from live.show.view import BoardView  # noqa: E402
 from live.run.loop import Loop, Watch  # noqa: E402
 from live.show import page, serving  # noqa: E402
 from live.show.address import Address, Door, names_of, read_address  # noqa: E402
-from live.show.page import ARBITER, SPECTATORS, BoardView, Page, Ply, RoundView  # noqa: E402
+from live.show.page import ARBITER, SPECTATORS, Page  # noqa: E402
 from paged.web import EMBEDDED, SpectatorsGiven, Work  # noqa: E402
 
 
@@ -47,7 +46,7 @@ class CountingLoop(Loop):
 
     def count(self) -> None:
         """From here on what the page does is counted."""
-        answer, take = serving.Reader._answer, serving.Server._take
+        answer, take, text = serving.Reader._answer, serving.Server._take, BoardView.text
 
         def answers(reader: serving.Reader, request: Any) -> None:
             self.answers[reader] += 1
@@ -58,7 +57,7 @@ class CountingLoop(Loop):
 
         def texts(board: BoardView, offset: float, before: Optional[BoardView] = None) -> bytes:
             self.texts += 1
-            return board_text(board, offset, before)
+            return text(board, offset, before)
 
         setattr(serving.Reader, "_answer", answers)
         setattr(serving.Server, "_take", takes)

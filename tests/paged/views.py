@@ -4,15 +4,14 @@ import json
 import pathlib
 import re
 from types import SimpleNamespace
-from typing import Dict, List, Optional, Tuple, cast
+from typing import List, Optional, Tuple, cast
 
 from decided.table import same
 
-from live.out.running import Clocks
-from live.out.seen import BoardView, Ply, board_text, round_text
-from live.out.shot import Shot
-from live.out.view import Player, SpectatorBoard, said_of_matches
-from live.show.round_page import IN_THE_TERMINAL, Game, view_of
+from live.game.options import Options
+from live.out.shot import Clocks, Ply, Shot
+from live.out.spectators import Player, SpectatorBoard, round_text, said_of_matches
+from live.show.view import IN_THE_TERMINAL, Attended, BoardView, view_of
 from live.words.message import Message
 
 TOP = pathlib.Path(__file__).resolve().parents[2]
@@ -27,31 +26,27 @@ class Stand:
     def __init__(self, trouble: str, words: str, advice: str = "") -> None:
         parts = {"fens": (), "plies": (), "differing": (), "result": "*", "pgn": b"", "trouble": trouble}
         self.board, self.number, self.name, self._words = SimpleNamespace(**parts), 5, "05", words
-        self.advice = advice
-        self.tags: Dict[str, str] = {}
+        self.advice, self.options = advice, Options()
 
     def standing(self) -> Tuple[str, Optional[float], bool]:
         return self._words, None, True
-
-    def player_name(self, option: str) -> str:
-        return option
 
 
 def nothing_private() -> None:
     """Why a board isn't recorded may have a folder's path or the login name: the screen has it, and the page hasn't."""
     for reason in REASONS:
-        view = view_of(cast(Game, Stand(reason, f"NOT RECORDED: {reason}")))
-        text = board_text(view, 0.0)
+        view = view_of(cast(Attended, Stand(reason, f"NOT RECORDED: {reason}")))
+        text = view.text(0.0, None)
         same(f"{reason}: nothing of it", [word for word in (b"/home", b"/dev", b"anna", b"sudo") if word in text], [])
         same(f"{reason}: that it isn't recorded", (view.state.startswith("NOT RECORDED"), view.alarm), (True, True))
-    same("any other state is shown", view_of(cast(Game, Stand("", "WRONG: e2"))).state, "WRONG: e2")
+    same("any other state is shown", view_of(cast(Attended, Stand("", "WRONG: e2"))).state, "WRONG: e2")
 
 
 def what_to_do() -> None:
     """The page says what the terminal says, and where lines are typed."""
     look = Message("advice.look", how=Message("typed.line", line="5 ok"))
     for advice, expected in (("Plug it in", "Plug it in"), ("", ""), (look, f"{look}. {IN_THE_TERMINAL}")):
-        same(advice, view_of(cast(Game, Stand("", "WRONG: e2", advice))).mend, expected)
+        same(advice, view_of(cast(Attended, Stand("", "WRONG: e2", advice))).mend, expected)
 
 
 PUBLISHED = '[Event "Club"]\n[Site "Zürich \\"Süd\\""]\n[Date "2024.05.31"]\n[TimeControl "5400+30"]\n\n1. e4 *\n'.encode()

@@ -7,9 +7,7 @@ from typing import List
 
 from live.game import times
 from live.game.began import summed, this_start
-from live.out.running import Clocks
-from live.out.seen import Ply
-from live.out.shot import Shot
+from live.out.shot import Clocks, Ply, Shot
 from played.stage import bytes_of
 
 QUEUED = "queued"  # a folder beside the games
@@ -18,13 +16,13 @@ QUEUED = "queued"  # a folder beside the games
 NOTES = """
 import json, os, pathlib, time
 from live.game import timed
-from live.out import broadcast
+from live.out import delay
 from live.run import loop
 loop.Loop.now = staticmethod(lambda: time.monotonic() + float(ahead.read_text()))
 timed.milliseconds = lambda: int((loop.Loop.counting() + float(ahead.read_text())) * 1000)
 loop.Counting.__call__ = lambda self: timed.milliseconds()
 def notes(name):
-    real, noted = getattr(broadcast.OneGame, name), {}
+    real, noted = getattr(delay.OneGame, name), {}
     def called(self, *words):
         real(self, *words)
         shots = [entry.shot for entry in self.waiting.known]
@@ -36,7 +34,7 @@ def notes(name):
                 [shot.result, [[ply.san, ply.clock] for ply in shot.moves], shot.text.decode(), vars(shot.clocks), shot.forfeit] for shot in shots
             ]))
             new.replace(file)
-    setattr(broadcast.OneGame, name, called)
+    setattr(delay.OneGame, name, called)
 notes("take")
 notes("tell")
 """

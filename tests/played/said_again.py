@@ -14,7 +14,7 @@ from live.game.files import Paths
 from live.game.game import put_options
 from live.game.options import Options
 from live.game.times import HEADED
-from live.out.said_again import MARGIN, said_again
+from live.out.again import MARGIN, said_again
 from play_board import BLACK, KING
 from played import TOP
 from played.back import answered

@@ -13,7 +13,7 @@ from played.stage import rest, same, stop, until, until_dumped, until_line
 from rounds.hall import Hall
 from rounds.rounds import boards_of
 
-from live.show.round_page import IN_THE_TERMINAL
+from live.show.view import IN_THE_TERMINAL
 
 KING_AT = "e1"
 

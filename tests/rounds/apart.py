@@ -129,7 +129,7 @@ RAISES = """
 import os, runpy, sys
 sys.dont_write_bytecode = True
 sys.path.insert(0, {top!r})
-from live.out import broadcast
+from live.out import broadcast, delay
 def raising(whose, name, of):
     real = getattr(whose, name)
     def called(self, *words):
@@ -139,10 +139,10 @@ def raising(whose, name, of):
             raise ValueError("an error in one output")
         return real(self, *words)
     setattr(whose, name, called)
-for name in ("_wait", "text", "_make_folder"):
-    raising(broadcast.Broadcast, name, lambda one: str(one._place))
-for name in ("take", "look"):
-    raising(broadcast.OneGame, name, lambda one: one.name)
+for whose, name in ((broadcast.Broadcast, "_wait"), (broadcast.Broadcast, "text"), (broadcast.Carrier, "make_folder")):
+    raising(whose, name, lambda one: str(one._place))
+for name in ("take", "show"):
+    raising(delay.OneGame, name, lambda one: one.name)
 sys.argv = sys.argv[1:]
 runpy.run_path(sys.argv[0], run_name="__main__")
 """
@@ -156,7 +156,7 @@ def errors_of_one(folder: pathlib.Path) -> None:
     script.write_text(RAISES.format(top=str(TOP), raises=str(raises)))
     live = hall.record(*round_.options("", "agency", "public"), typed=True, start=[sys.executable, script, *round_.clock.start[1:]])
     hall.begun(live)
-    for ply, place in enumerate(("_wait", "text", "take", "look"), 1):
+    for ply, place in enumerate(("_wait", "text", "take", "show"), 1):
         for name in ("", "agency", "public"):
             round_.until_out(name, ply - 1)
         raises.write_text(place)

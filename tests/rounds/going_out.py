@@ -31,10 +31,10 @@ sys.dont_write_bytecode = True
 ahead, longest, sys.argv = pathlib.Path(sys.argv[1]), pathlib.Path(sys.argv[2]), sys.argv[3:]
 sys.path.insert(0, {top!r})
 {notes}
-from live.out import publishing
-publishing.EACH, publishing.PAUSES = 0.1, (0.1, 0.2)
-run = publishing.run
-publishing.run = lambda words, path, _: run(words, path, float(longest.read_text()))
+from live.out import publish
+publish.EACH, publish.PAUSES = 0.1, (0.1, 0.2)
+run = publish.run
+publish.run = lambda words, path, _: run(words, path, float(longest.read_text()))
 runpy.run_path(sys.argv[0], run_name="__main__")
 """
 # Puts a file to an address, with a token that it reads itself.

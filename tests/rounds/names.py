@@ -14,7 +14,7 @@ from rounds.hall import ROUND, Hall
 from rounds.witness import served
 
 from live.game.tags import pairs_of
-from live.show.columns import width_of
+from live.show.terminal import width_of
 
 PLAYERS = [("Иванов, Пётр", "王浩然"), ("Γεωργίου, Νίκος", "이세돌"), ("Jörg Müller", "Åse Lund")]
 CORRECTED = [("Jorg Muller", "Ben Oto"), ("Jörg Müller", "Ben Ott")]  # one is recorded in other letters, the other as it is

@@ -25,7 +25,7 @@ from rounds.hall import Hall, games_of, quits
 from rounds.witness import served as asked
 from rounds.witness import texts_of
 
-from live.out.site import list_page, page_files
+from live.show.site import list_page, page_files
 
 
 def state_of(folder: pathlib.Path) -> "dict[str, object]":

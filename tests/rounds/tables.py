@@ -7,7 +7,7 @@ from live.game.options import Options
 from live.run.descriptors import Room, room
 from live.run.refused import Refused
 from live.table.pairings import Pairing, read_pairings
-from live.table.table import Columns, RowView, head, row, screen
+from live.show.table import Columns, RowView, head, row, screen
 from played.stage import same
 
 LINE = "1,/dev/ttyUSB0,Jörg,Ben"

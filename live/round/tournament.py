@@ -1,4 +1,6 @@
-"""A tournament in a folder: its settings, its hall's boards, the tables of its rounds as they come, and a folder for each round."""
+"""A tournament in a folder: its settings, its hall's boards, the tables of its rounds as they come, and a folder for each round; where
+the games of a round without a tournament are kept. The settings are lines of `NAME = VALUE`, each an option of dgt_round or a tag of what
+is published."""
 
 from __future__ import annotations
 
@@ -6,21 +8,23 @@ import contextlib
 import os
 import pathlib
 import re
+import shlex
 from dataclasses import dataclass
-from typing import Callable, List, Optional, Tuple
+from typing import Callable, Dict, List, Optional, Sequence, Tuple
 
 from live.child.program import Program
 from live.game import files
-from live.game.files import text_of
-from live.game.options import TAG
+from live.game.options import RECOVER, STRICT, TAG
+from live.game.tags import known_name
 from live.line import serial_line
 from live.line.numbers import ask
+from live.out.outputs import OUTPUT as OPTION, read_name, read_output
 from live.run.called import DGT_ROUND
-from live.run.refused import FAILED, REFUSED, Refused
-from live.table import settings
-from live.table.encodings import encoding_in, loose_text
-from live.table.sheets import LARGEST
-from live.table.sources import BOARDS
+from live.run.refused import ARGUMENTS, FAILED, REFUSED, Refused
+from live.table.encoding import encoding_in, known_encoding, loose_text, text_of
+from live.table.hall import BOARDS
+from live.table.pairings import NO, YES, shown
+from live.table.sheet import LARGEST, normal
 from live.table.trf import head_of, is_report
 from live.words.message import Message, linked
 
@@ -31,6 +35,32 @@ NUMBER = re.compile("[0-9]{1,3}")
 BOARDS_HEADER = "board;device;serial;rotated"
 ROUND_HEADER = "board;white;white title;white elo;white fide id;black;black title;black elo;black fide id;result"
 MOST_LISTED = 5  # files
+PLACE = {"site": "place"}  # as the template has it: a site is also a folder of files
+ALSO = {"place": "site", "tournament": "event", "dates": "date"}  # other names that arbiters use for some
+FOR_A_ROUND = re.compile(r"(.*\D)\s+(\d{1,3})")  # `date 3`
+PATH = re.compile(r"~|\.{0,2}/")  # how a folder begins
+NAMED = re.compile(r"output(?:\s+(\S.*?))??(?:\s+(\d{1,3}))?", re.IGNORECASE)  # `output agency`, `output agency 3`
+TEMPLATE = """\
+# The settings of the tournament, for all its rounds. A line is NAME = VALUE; one that begins with # isn't read.
+# With the number of a round behind the name a line is for that round alone: date 2 = 01.06.2024
+event =
+place =
+date 1 =
+date 2 =
+date 3 =
+# 90+30 is 90 minutes and 30 seconds a move; 40/90+30:30+30 are 40 moves in the first 90 minutes
+time control =
+# If a table isn't Unicode and its names look wrong: windows-1250 for Central Europe, windows-1251 for Cyrillic
+encoding =
+# Show the games to browsers: 8000 on this computer, 0.0.0.0:8000 in the whole network
+page =
+# The folder of a site of files, which any web host can serve
+web =
+# Minutes by which what goes out is late, and the command that takes it there
+delay =
+publish =
+# More of these, each with a name, minutes and a command of its own: output agency = 3, /home/anna/agency.sh
+"""
 
 
 @dataclass(frozen=True)
@@ -64,7 +94,7 @@ class Tournament:
     def encoding(self) -> str:
         """The encoding that the settings have now; empty if they have none."""
         try:
-            return settings.encoding_set(files.beginning(self.settings, LARGEST + 1), self.number)
+            return encoding_set(files.beginning(self.settings, LARGEST + 1), self.number)
         except OSError:
             return ""
         except Refused as refused:
@@ -89,11 +119,11 @@ class Tournament:
     def _set(self, options: Tuple[str, ...], encoding: str) -> List[str]:
         path = self.settings
         try:
-            return settings.words_of(files.beginning(path, LARGEST + 1), self.number, options, encoding)
+            return words_of(files.beginning(path, LARGEST + 1), self.number, options, encoding)
         except FileNotFoundError:
             return []
         except OSError as error:
-            raise Refused(FAILED, Message("file.unreadable", path=path, why=text_of(error))) from None
+            raise Refused(FAILED, Message("file.unreadable", path=path, why=files.text_of(error))) from None
         except Refused as refused:
             raise Refused(REFUSED, linked("colon", (str(path), refused.lines[0])), *refused.lines[1:]) from None
 
@@ -102,7 +132,7 @@ class Tournament:
         try:
             names = sorted(path for path in self.folder.iterdir() if path.is_file())
         except OSError as error:
-            raise Refused(FAILED, Message("file.unreadable", path=self.folder, why=text_of(error))) from None
+            raise Refused(FAILED, Message("file.unreadable", path=self.folder, why=files.text_of(error))) from None
         tables = [path for path in names if path.suffix.lower() in TABLES and self._is_named(path) and not _is_report(path)]
         reports = [path for path in names if path.suffix.lower() in REPORTS and _is_report(path)]
         pairs = [path for path in tables if not _is_empty(path)]
@@ -174,12 +204,12 @@ def made(folder: pathlib.Path, find: Callable[[], Program]) -> List[str]:
     """Makes the missing files of a tournament. Returns what to do with them. `find` finds the program, if boards are plugged in."""
     try:
         folder.mkdir(exist_ok=True)
-        contents = {SETTINGS: settings.TEMPLATE, BOARDS: boards_text(find), "round1.csv": ROUND_HEADER + "\n"}
+        contents = {SETTINGS: TEMPLATE, BOARDS: boards_text(find), "round1.csv": ROUND_HEADER + "\n"}
         new = [name for name in contents if not os.path.lexists(folder / name)]
         for name in new:
             files.put_in_place(folder / name, contents[name].encode("utf-8"))
     except OSError as error:
-        raise Refused(FAILED, Message("tournament.not_made", folder=folder, why=text_of(error))) from None
+        raise Refused(FAILED, Message("tournament.not_made", folder=folder, why=files.text_of(error))) from None
     boards = Message("tournament.has_boards_plugged") if contents[BOARDS].count("\n") > 1 else Message("tournament.has_boards")
     has = (
         (SETTINGS, Message("tournament.has_settings")),
@@ -203,3 +233,92 @@ def boards_text(find: Callable[[], Program]) -> str:
     for board, (number, name) in enumerate(sorted(places, key=lambda place: (not place[0], place)), 1):
         lines.append(f"{board};{name};{number};")
     return "\n".join(lines) + "\n"
+
+
+def words_of(content: bytes, round_number: int, options: Sequence[str], encoding: str = "") -> List[str]:
+    """The settings of a round as words of a command line that has these options with a value. Refused if a line isn't a setting: a
+    delay that isn't understood must not be ignored. If they aren't Unicode, they are in this encoding, or in the one that they set."""
+    if len(content) > LARGEST:
+        raise Refused(REFUSED, Message("file.too_large", largest=LARGEST // 1024))
+    known = {normal(option): option for option in options if option != TAG}
+    for_all: Dict[str, str] = {}
+    for_this: Dict[str, str] = {}
+    outputs: Dict[Tuple[str, str], int] = {}  # the lines of outputs, by name and round
+    text = text_of(content, encoding or encoding_set(content, round_number))
+    for number, line in enumerate(re.split("\r\n|\r|\n", text), 1):
+        if not line.strip() or line.lstrip().startswith("#"):
+            continue
+        name, equals, value = (part.strip() for part in line.partition("="))
+        if not equals:
+            raise Refused(REFUSED, Message("settings.no_equals", line=number, text=shown(line.strip())))
+        named = NAMED.fullmatch(name) if normal(OPTION) in known else None
+        of_round = named or FOR_A_ROUND.fullmatch(name)
+        word = normal(of_round.group(1) or "" if of_round else name)
+        word = ALSO.get(word, word)
+        tag = known_name(word)
+        its_round = of_round.group(2) or "" if of_round else ""
+        if named:
+            word, typed = _output(number, named.group(1) or "", value)
+            other = outputs.setdefault((word, its_round), number)
+            if other != number:
+                raise Refused(REFUSED, Message("settings.output_twice", line=number, output=word, other=other))
+        elif word == normal(RECOVER):
+            if value.lower() not in YES + NO:
+                raise Refused(REFUSED, Message("settings.yes_or_no", line=number, name=name, value=shown(value)))
+            typed, value = (RECOVER if value.lower() in YES else STRICT), value and "yes"
+        elif word == "site" and PATH.match(value):
+            raise Refused(REFUSED, Message("settings.folder", line=number, name=name, value=shown(value)))
+        elif word in known and known[word] != "--round":
+            typed = f"{known[word]}={value}"
+        elif tag and normal(tag) not in ("round", "board", "white", "black"):
+            typed = f"{TAG}={tag}={value}"
+        else:
+            names = [option[2:].replace("-", " ") for option in known.values() if option != "--round"]
+            there = Message("settings.there_are", names=", ".join(sorted(PLACE.get(name, name) for name in names)))
+            raise Refused(REFUSED, Message("settings.unknown", line=number, name=shown(name), there=there))
+        if value and its_round and int(its_round) == round_number:
+            for_this[word] = typed
+        elif value and not its_round:
+            for_all[word] = typed
+    return list({**for_all, **for_this}.values())
+
+
+def encoding_set(content: bytes, round_number: int) -> str:
+    """The encoding that the settings set for a round; empty if they set none. Refused if there is none of that name."""
+    for behind in (rf"[^\S\r\n]+0*{round_number}", ""):
+        own = re.search(rf"(?im)^[^\S\r\n]*encoding{behind}[^\S\r\n]*=[^\S\r\n]*(\S+)", loose_text(content))
+        if own:
+            return known_encoding(own.group(1))
+    return ""
+
+
+def _output(line: int, name: str, value: str) -> Tuple[str, str]:
+    """The setting's name of an output, and what would be typed for it. Refused if it isn't understood, for whatever round it is."""
+    try:
+        name = read_name(name)
+        if value:
+            read_output(f"{name}={value}")
+    except Refused as refused:
+        raise Refused(REFUSED, Message("pairs.of_line", line=line, why=refused.lines[0])) from None
+    return f"output {name}", f"{OPTION}={name}={value}"
+
+
+def refuse_exchanged(file: str, folder: str) -> None:
+    """Refuses the folder in front of the table."""
+    table = pathlib.Path(folder)
+    if folder and not pathlib.Path(file).is_file() and (table.is_file() or table.suffix.lower() in TABLES):
+        raise Refused(ARGUMENTS, Message("place.exchanged", folder=folder, dgt_round=DGT_ROUND, words=shlex.join([folder, file])))
+
+
+def folder_of_table(table: pathlib.Path) -> pathlib.Path:
+    """The folder of a round's games: it is named after their table."""
+    return table.with_suffix("") if table.suffix else table.with_name(f"{table.name}-games")
+
+
+def another_folder(folder: str) -> str:
+    """A folder for another round: `round4` beside `round3`, `club-2` beside `club`."""
+    if not os.path.basename(folder).strip("."):
+        return "round2"  # beside what is here, or above
+    stem = folder.rstrip("0123456789")
+    number = folder[len(stem) :]
+    return stem + str(int(number) + 1).zfill(len(number)) if number else f"{stem}-2"

@@ -14,7 +14,7 @@ import subprocess
 import sys
 import time
 from dataclasses import dataclass
-from typing import Callable, Optional, Protocol, Sequence, Tuple
+from typing import Callable, Optional, Sequence, Tuple
 
 from live.game.files import AnyPath
 from live.run.beside import Worker
@@ -157,18 +157,11 @@ def _status(status: int) -> str:
     return Message("command.status", status=status) if status > 0 else Message("command.signal", signal=-status)
 
 
-class HearsPublisher(Protocol):
-    """Gets the results of the runs."""
-
-    def published(self, trouble: str) -> None:
-        """A run has ended, with what went wrong, or nothing."""
-
-
 class Publisher:
-    """Runs the command."""
+    """Runs the command. `told` gets what went wrong in each run, or nothing."""
 
-    def __init__(self, loop: Turns, words: Sequence[str], path: AnyPath, hears: HearsPublisher) -> None:
-        self._loop, self._words, self._path, self._hears = loop, tuple(words), path, hears
+    def __init__(self, loop: Turns, words: Sequence[str], path: AnyPath, told: Callable[[str], None]) -> None:
+        self._loop, self._words, self._path, self._told = loop, tuple(words), path, told
         self._worker = Worker(loop)
         self._plan = Plan()
         self._timer: Optional[Timer] = None
@@ -194,7 +187,7 @@ class Publisher:
 
     def _ended(self, trouble: str) -> None:
         self._plan.ended(self._loop.now(), not trouble)
-        self._hears.published(trouble)
+        self._told(trouble)
         if self._done and (trouble or not self._plan.wanted):
             self._finished()
         else:

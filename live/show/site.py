@@ -18,15 +18,14 @@ from typing import Any, Callable, Dict, FrozenSet, List, Mapping, Sequence, Tupl
 from live.board.state import trouble_of
 from live.game.files import new_of, put_in_place
 from live.game.making_pgn import Made
-from live.out.matches import printed
-from live.out.seen import RoundView, json_text, pgn_path, round_pgn, round_text
-from live.out.view import SpectatorBoard
+from live.out.broadcast import Broadcast
+from live.out.spectators import RoundView, SpectatorBoard, json_text, pgn_path, printed, round_pgn, round_text
+from live.out.texts import outcome
 from live.run.beside import Worker
-from live.run.guard import Guard, traced
+from live.run.guard import Guard, Restarted
 from live.run.loop import Turns
 from live.run.refused import REFUSED, Refused
-from live.show.doors import Title
-from live.show.page import FOLDER, SPECTATORS, index_of
+from live.show.page import FOLDER, SPECTATORS, Title, index_of
 from live.words.message import Message
 
 LOOK = 1.0  # seconds between two checks
@@ -176,15 +175,13 @@ def kept_rounds(folder: pathlib.Path) -> Dict[str, Mapping[str, object]]:
 
 
 class SiteFiles:
-    """Keeps a round's part of the site up to date, and the list. `written` is called when something has changed, also by
-    `finish`."""
+    """Keeps a round's part of the site up to date, as a broadcast shows it, and the list. `says` gets lines for the screen, `trouble`
+    errors that should never happen."""
 
     def __init__(
-        self, loop: Turns, folder: pathlib.Path, title: Title, boards: Callable[[], Sequence[SpectatorBoard]],
-        matches: Callable[[], Matches], says: Callable[[str], None], trouble: Callable[[str], None]
-    ) -> None:  # fmt: skip
-        self._loop, self._folder, self._title, self._says, self._trouble = loop, folder, title, says, trouble
-        self._boards, self._matches = boards, matches
+        self, loop: Turns, folder: pathlib.Path, title: Title, broadcast: Broadcast, says: Callable[[str], None], trouble: Callable[[str], None]
+    ) -> None:
+        self._loop, self._folder, self._title, self._broadcast, self._says = loop, folder, title, broadcast, says
         number = title.round if re.fullmatch("[0-9]{1,3}", title.round) else ""
         self._round = f"round{number}"
         self._state = f"{self._round}/{STATE}"
@@ -194,25 +191,19 @@ class SiteFiles:
         self._renewed_at = -RENEWED
         self._told = ""
         self._closed = False
-        self.written: Callable[[], None] = lambda: None
-        self._begin()
+        self._part = Restarted(loop, self._begin, trouble, AGAIN)
 
-    def _begin(self) -> None:
-        self._guard = Guard(self._loop, self._broke, lambda error: self._trouble(traced(error)))
-        self._worker = Worker(self._guard)
-        self._guard.opened(self._worker.close)
-        self._guard.after(0, self._look)
-
-    def _broke(self, error: Exception) -> None:
-        self._trouble(traced(error))
-        self._loop.after(AGAIN, lambda: None if self._closed else self._begin())
+    def _begin(self, guard: Guard) -> None:
+        self._guard, self._worker = guard, Worker(guard)
+        guard.opened(self._worker.close)
+        guard.after(0, self._look)
 
     def _texts(self, renews: bool) -> Texts:
         """The files that have changed; with them, or if it is to be renewed, the state."""
-        boards = self._boards()
+        boards = self._broadcast.boards
         if not boards:
             return {}
-        of_round = round_texts(self._round, self._title, boards, self._matches(), self._offset)
+        of_round = round_texts(self._round, self._title, boards, self._broadcast.matches, self._offset)
         self._games = frozenset(self._round + pgn_path(board.number) for board in boards)
         self._written = {name: text for name, text in self._written.items() if name in self._games or not GAME.fullmatch(name)}
         texts = of_round if self._written else {**page_files(), **of_round}
@@ -239,7 +230,7 @@ class SiteFiles:
         """Writes these files; the state has the time."""
         state = self._state
         of_now = {name: stamped(text, time.time(), ended) if name == state else text for name, text in texts.items()}
-        return written(self._folder, self._title.event, self._round, of_now, self._games)
+        return outcome(lambda: write(self._folder, self._title.event, self._round, of_now, self._games))
 
     def _take(self, texts: Texts, made: Made, now: float) -> None:
         if made.trouble:
@@ -250,7 +241,7 @@ class SiteFiles:
             self._renewed_at = now
             if self._told:
                 self._says(Message("site.written_again", folder=self._folder))
-            self.written()
+            self._broadcast.other_changed()
         self._told = made.trouble
 
     def finish(self) -> None:
@@ -260,7 +251,7 @@ class SiteFiles:
         self._closed = True
         self._worker.close()
         self._worker.wait()
-        self._guard.end()
+        self._part.end()
         texts = self._texts(True)
         if texts:
             self._take(texts, self._write(texts, True), self._loop.now())
@@ -271,27 +262,21 @@ class SiteFiles:
         return [Message("site.unwritten", folder=self._folder, why=self._told)] if self._told else []
 
 
-def written(folder: pathlib.Path, event: str, this_round: str, texts: Texts, games: FrozenSet[str]) -> Made:
+def write(folder: pathlib.Path, event: str, this_round: str, texts: Texts, games: FrozenSet[str]) -> str:
     """Marks the folder, if it may have a site, and writes these files, each whole, and the list behind them. Last the games of boards that
-    are no longer in the round go, which nothing names any more. Returns the outcome."""
-    try:
-        why = why_no_site(folder)
-        if why:
-            return Made(why)
-        os.makedirs(folder, exist_ok=True)
-        if not (folder / MARK).exists():
-            put_in_place(folder / MARK, MARKED)
-        os.makedirs(folder / this_round, exist_ok=True)
-        for name, text in texts.items():
-            put_in_place(folder / name, text)
-        put_in_place(folder / "index.html", list_page(event, kept_rounds(folder)))
-        for path in (folder / this_round).iterdir():
-            name = f"{this_round}/{path.name}"
-            if GAME.fullmatch(name) and name not in games:
-                path.unlink()
-        return Made()
-    except OSError as error:
-        return Made.of_error(error)
-    except Exception as error:  # it is one file of many
-        return Made(f"{type(error).__name__}: {error}")
-
+    are no longer in the round go, which nothing names any more. Returns why the folder may have no site."""
+    why = why_no_site(folder)
+    if why:
+        return why
+    os.makedirs(folder, exist_ok=True)
+    if not (folder / MARK).exists():
+        put_in_place(folder / MARK, MARKED)
+    os.makedirs(folder / this_round, exist_ok=True)
+    for name, text in texts.items():
+        put_in_place(folder / name, text)
+    put_in_place(folder / "index.html", list_page(event, kept_rounds(folder)))
+    for path in (folder / this_round).iterdir():
+        name = f"{this_round}/{path.name}"
+        if GAME.fullmatch(name) and name not in games:
+            path.unlink()
+    return ""

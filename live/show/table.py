@@ -1,12 +1,18 @@
-"""A round on the screen: a row for each board, and the last messages below. Pure: the time is passed in."""
+"""A round on the screen: on a terminal a table, with a row for each board and the last messages below, which is redrawn; lines elsewhere."""
 
 from __future__ import annotations
 
 import math
+import os
+import time
 from dataclasses import dataclass
-from typing import List, Optional, Sequence, Tuple
+from typing import Callable, List, Optional, Sequence, Tuple
 
-from live.show.columns import CUT, fitted, folded, seen, split_at, width_of
+from live.game.log import time_of
+from live.run.guard import traced
+from live.run.loop import Loop, Timer
+from live.show.terminal import CUT, Painter, Terminal, fitted, folded, seen, split_at, width_of
+from live.table.pairings import listed_numbers
 from live.words.message import Message, has, linked, plural
 
 WIDTH = 80  # columns of a usual terminal
@@ -17,9 +23,13 @@ STEP = 8  # columns by which the room for the state grows
 INDENT = " " * 4  # the space for a cable's name
 MESSAGES = 3  # lines that messages always have
 MOST_MESSAGES = 20  # lines that they have if there is room: in a tall window no message of the start is pushed out
-MOST_LISTED = 8  # boards, or ranges of boards, whose numbers are listed
 LONGEST_ROW = 3  # lines of a row that explains a trouble
 NOT_RECORDED = Message("state.not_recorded")
+NARROWEST = 40  # columns of a terminal: if it has fewer, the rows are broken
+KEPT = 200  # messages
+DRAWS_EACH = 0.1  # seconds
+TICK = 1.0
+PRINTED = 2.0  # seconds that a slow reader has for the last lines
 
 
 @dataclass(frozen=True)
@@ -161,22 +171,6 @@ def boards_are(numbers: Sequence[int]) -> str:
     return Message("table.boards_are", boards=listed_numbers(numbers))
 
 
-def listed_numbers(numbers: Sequence[int]) -> str:
-    """`1 to 4, 7 and 9`; of many only some."""
-    runs: List[List[int]] = []
-    for number in numbers:
-        if runs and runs[-1][-1] + 1 == number:
-            runs[-1].append(number)
-        else:
-            runs.append([number])
-    parts: List[str] = []
-    for run in runs:
-        parts += [Message("table.from_to", first=run[0], last=run[-1])] if len(run) > 2 else [str(number) for number in run]
-    if len(parts) > MOST_LISTED:
-        parts = [*parts[: MOST_LISTED - 2], "..", parts[-1]]
-    return linked("and", filter(None, (linked("comma", parts[:-1]), parts[-1])))
-
-
 def title_line(title: str, rows: Sequence[RowView], width: int) -> str:
     """What is recorded, and how many boards, alarms and wrong lines of the file there are."""
     boards = [view for view in rows if view.is_board and not view.is_of_all]
@@ -224,3 +218,103 @@ def listing(title: str, rows: Sequence[RowView], messages: Sequence[str], height
     room = max(1, height - 4)
     below = last_messages(messages, width - 1, room)
     return [title_line(title, rows, width), *below, *[""] * (room - len(below)), Message("table.enter")]
+
+
+def terminal_of_lines(loop: Loop) -> Optional[Terminal]:
+    """Where lines are printed; None if a table can be drawn."""
+    if os.isatty(1) and os.environ.get("TERM", "dumb") != "dumb":
+        return None
+    return Terminal(loop)
+
+
+class Display:
+    """Shows the rows and the last messages; without a table, only the messages, as lines."""
+
+    def __init__(
+        self,
+        loop: Loop,
+        title: str,
+        views: Callable[[], List[RowView]],
+        terminal: Optional[Terminal],
+        trouble: Callable[[str], None],
+    ) -> None:
+        self._loop, self._title, self._views, self._terminal, self._trouble = loop, title, views, terminal, trouble
+        self._told = ""  # the last reported reason why the table couldn't be drawn
+        self._painter = None if terminal else Painter(loop)
+        self._messages: List[str] = []
+        self._listed: List[str] = []  # shown instead of the table, until a line is typed
+        self._draws: Optional[Timer] = None
+        self._tick = loop.after(TICK, self._each_second)
+
+    def say(self, text: str) -> None:
+        """A line for the screen."""
+        line = f"{time_of(time.time())}  {text}"
+        self._messages = [*self._messages[1 - KEPT :], line]
+        if self._terminal:
+            self._terminal.line(line)
+
+    def list_messages(self) -> None:
+        """Shows the messages of before."""
+        if self._painter:
+            self._listed = list(self._messages)
+            self.changed()
+        elif self._terminal:
+            for line in self._messages[:]:
+                self._terminal.line(line)
+
+    def show_long(self, text: str) -> None:
+        """Shows a long text, on a terminal instead of the table."""
+        self.say(text)
+        if self._painter:
+            self._listed = [self._messages[-1]]
+
+    def changed(self) -> None:
+        """What is shown has changed: it is drawn soon."""
+        if self._painter and self._draws is None:
+            self._draws = self._loop.after(DRAWS_EACH, self._draw)
+
+    @property
+    def shows(self) -> Optional[Painter]:
+        """What shows a half-typed line, if anything does."""
+        if self._painter:
+            self._painter.edits = os.isatty(0)
+        return self._painter
+
+    def forget(self) -> None:
+        """Draws everything again: somebody has typed a line."""
+        self._listed = []
+        if self._painter:
+            self._painter.forget()
+
+    def _draw(self) -> None:
+        self._draws = None
+        try:
+            self._draw_now()
+        except Exception as error:  # it is drawn again each second
+            text = traced(error)
+            if text != self._told:
+                self._told = text
+                self._trouble(text)
+
+    def _draw_now(self) -> None:
+        if self._painter:
+            columns, lines = self._painter.size()
+            title = f"{time_of(time.time())}  {self._title}"
+            now = self._loop.now()
+            if self._listed:
+                self._painter.draw(listing(title, self._views(), self._listed, lines, max(NARROWEST, columns)))
+                return
+            self._painter.draw(screen(title, self._views(), self._messages, now, lines, max(NARROWEST, columns)))
+
+    def _each_second(self) -> None:
+        self._tick = self._loop.after(TICK, self._each_second)
+        if self._painter and self._draws is None:
+            self._draw()
+
+    def close(self, last: str) -> None:
+        """Shows the last line, and closes."""
+        if self._painter:
+            self._painter.end(last)
+        elif self._terminal:
+            self._terminal.line(last)
+            self._terminal.end(PRINTED)

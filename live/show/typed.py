@@ -1,14 +1,20 @@
-"""A line that is typed on a terminal: what each key makes of it, and what of it is shown. Pure: bytes go in, as they come."""
+"""What is typed: lines, and on a terminal keys that edit a line, and what each of them makes of it."""
 
 from __future__ import annotations
 
+import os
 import re
+import stat
 from dataclasses import dataclass, replace
-from typing import List, Optional, Tuple
+from typing import Callable, List, Optional, Tuple, Union
 
-from live.run.refused import printable
-from live.show.columns import split_at, width_of
+from live.run.loop import Loop
+from live.run.refused import REFUSED, Refused
+from live.show.terminal import Painter, Terminal, edits, leave_keys
+from live.words.message import Message
 
+LONGEST = 4096  # bytes of a typed line
+PAUSE = 1.0  # seconds until a terminal is tried again that can't be read now
 KEPT = 100  # lines of the history
 ESCAPE = 0x1B
 SEQUENCE = re.compile(rb"\x1b(?:\[([0-?]*)[ -/]*([@-~])|O([A-DFHMP-S]))")
@@ -19,6 +25,7 @@ NUMBERED = {"1": "home", "7": "home", "4": "end", "8": "end", "3": "delete"}  # 
 CONTROLS = {1: "home", 2: "left", 4: "delete", 5: "end", 6: "right", 8: "rubout", 0x7F: "rubout", 11: "to the end", 14: "down", 16: "up",
             21: "to the start", 23: "a word"}  # fmt: skip
 ENTERS, INTERRUPT, END_OF_INPUT, TAB = (10, 13), 3, 4, 9
+Shows = Union[Terminal, Painter]  # shows what is typed
 
 
 @dataclass(frozen=True)
@@ -88,7 +95,7 @@ class Line:
 
 
 @dataclass(frozen=True)
-class Typed:
+class Entered:
     """What was typed: a line; or that somebody interrupts, or ends the input, on an empty line."""
 
     line: Optional[str] = None
@@ -96,7 +103,7 @@ class Typed:
     ends: bool = False
 
 
-def after(line: Line, came: bytes, longest: int) -> Tuple[Line, List[Typed]]:
+def after(line: Line, came: bytes, longest: int) -> Tuple[Line, List[Entered]]:
     """The line after these bytes, and what was typed meanwhile. Of a line with more bytes than the longest one, some are left out."""
     data, found, at = line.rest + came, [], 0
     line = replace(line, rest=b"")
@@ -111,13 +118,13 @@ def after(line: Line, came: bytes, longest: int) -> Tuple[Line, List[Typed]]:
             else:
                 at += 1  # the key Esc alone, before a letter
         elif byte in ENTERS:
-            found.append(Typed(line.text))
+            found.append(Entered(line.text))
             line, at = line.entered(), at + 1
         elif byte == INTERRUPT:
-            found += [] if line.text else [Typed(interrupts=True)]
+            found += [] if line.text else [Entered(interrupts=True)]
             line, at = line.emptied(), at + 1
         elif byte == END_OF_INPUT and not line.text:
-            found.append(Typed(ends=True))
+            found.append(Entered(ends=True))
             at += 1
         elif byte in CONTROLS:
             line, at = line.pressed(CONTROLS[byte]), at + 1
@@ -151,11 +158,112 @@ def size_of(data: bytes, at: int) -> int:
     return size if len(letter) == size else 0
 
 
-def part_shown(text: str, place: int, room: int) -> Tuple[str, int]:
-    """The part of a line that is shown in so many columns, around the place in it, and the column of that."""
-    letters = [printable(letter) for letter in text]
-    begin, column = place, 0
-    while begin and column + width_of(letters[begin - 1]) <= max(0, room - 1):
-        begin -= 1
-        column += width_of(letters[begin])
-    return split_at("".join(letters[begin:]), room)[0], column
+class Typed:
+    """Standard input: one call for each typed line. At its end nothing more is typed, and `ended` is called. An error in a call ends
+    nothing: `refused` gets it. On a terminal a line can be edited if something `shows` it; then Ctrl-C clears it, and on an empty line
+    `interrupted` is called."""
+
+    def __init__(
+        self,
+        loop: Loop,
+        heard: Callable[[str], None],
+        refused: Callable[[str, Exception], None],
+        ended: Callable[[], None] = lambda: None,
+        shows: Optional[Shows] = None,
+        interrupted: Callable[[], None] = lambda: None,
+    ) -> None:
+        self._loop, self._heard, self._refused, self._ended = loop, heard, refused, ended
+        self._shows, self._interrupted = shows if os.isatty(0) else None, interrupted
+        self._number: Optional[int] = None
+        self._text = b""
+        self._line = Line()
+        try:
+            mode = os.fstat(0).st_mode
+        except OSError:
+            return
+        if stat.S_ISREG(mode) or not (os.isatty(0) or stat.S_ISFIFO(mode) or stat.S_ISSOCK(mode)):
+            return
+        self._number = 0
+        self._watch()
+
+    def _watch(self) -> None:
+        if self._number is None:
+            return
+        if self._shows and not edits(self._number):
+            self._shows = None
+        try:
+            self._loop.watch(self._number, self._readable)
+        except Exception as error:
+            self._later(error)
+
+    def _later(self, error: Exception) -> None:
+        """It can't be read now, for example because another process group has the terminal: it is tried again."""
+        self._loop.after(PAUSE, self._watch)
+        if not isinstance(error, OSError):
+            self._refused("", error)
+
+    def _readable(self) -> None:
+        assert self._number is not None
+        try:
+            part = os.read(self._number, 4096)
+        except BlockingIOError:
+            return
+        except Exception as error:
+            self._later(error)
+            self._loop.forget(self._number)
+            return
+        if not part:
+            self._end()
+        elif self._shows:
+            self._edit(part, self._shows)
+        else:
+            self._take(part)
+
+    def _end(self) -> None:
+        self.close()
+        leave_keys()
+        self._ended()
+
+    def _edit(self, part: bytes, shows: Shows) -> None:
+        """Keys were pressed."""
+        self._line, found = after(self._line, part, LONGEST)
+        for typed in found:
+            if typed.line is not None:
+                shows.entered(typed.line)
+                self._hear(typed.line.encode("utf-8", "surrogateescape"))
+            elif typed.interrupts:
+                self._guarded("Ctrl-C", self._interrupted)
+            else:
+                self._end()
+                return
+        shows.typing(self._line.text, self._line.place)
+
+    def _guarded(self, text: str, call: Callable[[], None]) -> None:
+        try:
+            call()
+        except Exception as error:
+            self._refused(text, error)
+
+    def _take(self, part: bytes) -> None:
+        """Whole lines were typed, or parts of them."""
+        lines: List[bytes]
+        *lines, self._text = (self._text + part).split(b"\n")
+        self._text = self._text[: LONGEST + 1]  # if there is more of it, none of it counts
+        for line in lines:
+            self._hear(line)
+
+    def _hear(self, line: bytes) -> None:
+        text = line.decode("utf-8", "surrogateescape").strip()
+
+        def hears() -> None:
+            if len(line) > LONGEST:
+                raise Refused(REFUSED, Message("screen.line_too_long", most=format(LONGEST, ",")))
+            self._heard(text)
+
+        self._guarded(text, hears)
+
+    def close(self) -> None:
+        """Reads nothing further."""
+        if self._number is not None:
+            self._loop.forget(self._number)
+            self._number = None
