@@ -10,7 +10,7 @@ from typing import Callable, Optional, Sequence, Tuple
 
 from live.board.single import QUITS, Single
 from live.child.program import Program
-from live.doors.calls import Call
+from live.doors.dgt_live import Call
 from live.game.file_names import has_delay
 from live.game.files import LOCK_PATIENCE, Paths, open_regular
 from live.game.game import end_mark, kept_tags
@@ -37,17 +37,17 @@ class Audience:
     def __init__(self, loop: Loop, program: Program, call: Call, given: Options) -> None:
         self._loop, self._program, self._call, self._given = loop, program, call, given
         self._paths = paths = Paths(call.name)
-        if not call.series and (call.delay is not None or has_delay(paths)):
+        if not call.series and (call.out.delay is not None or has_delay(paths)):
             hold(paths)
         # whether spectators haven't seen all of a game that is over
         self.is_unseen = not call.series and is_unseen(paths) and end_mark(paths) is not None
         where, are_kept = pages_of(paths, call.pages)
         self._pages = TwoPages(loop, where, are_kept)
         self._to_keep = None if are_kept else call.pages
-        self._delay = delay_of(paths, None, [paths]) if call.delay is None else call.delay
+        self._delay = delay_of(paths, None, [paths]) if call.out.delay is None else call.out.delay
         kept = kept_out(paths)
-        self._told_of_kept = told_of_kept(kept, call.hold, bool(call.publish))
-        self._hold = next((seconds for seconds in (call.hold, kept.hold) if seconds is not None), HOLD)
+        self._told_of_kept = told_of_kept(kept, call.out.hold, bool(call.out.publish))
+        self._hold = next((seconds for seconds in (call.out.hold, kept.hold) if seconds is not None), HOLD)
         self._late = minutes(self._delay) if self._delay else ""
         self._event = os.path.basename(call.name)
         self._title = Title(given.event or self._event, given.round or "", self._late)
@@ -55,8 +55,8 @@ class Audience:
     def join(self, single: Single) -> None:
         """From now on the game of this board is shown. The call ends when spectators have seen it."""
         call, paths, delay = self._call, self._paths, self._delay
-        goes_out = delay or call.publish or self._given.tags or kept_tags(paths) or os.path.lexists(paths.broadcast)
-        place, out = paths.broadcast if goes_out else None, GoingOut(delay, call.publish, hold=self._hold)
+        goes_out = delay or call.out.publish or self._given.tags or kept_tags(paths) or os.path.lexists(paths.broadcast)
+        place, out = paths.broadcast if goes_out else None, GoingOut(delay, call.out.publish, hold=self._hold)
         self._broadcast = broadcast = Broadcast(
             self._loop, self._program, out, place, lambda: [single] if single.is_open else [], single.say, single.trouble, paths.name
         )
@@ -64,10 +64,10 @@ class Audience:
         self._pages.show(self._title, ArbiterView(self._event, lambda: [single], single.trouble), broadcast)
 
         def opened() -> None:
-            if call.delay is not None:  # not sooner: a call that is refused keeps none
-                keep_delay(paths, call.delay, [paths])
+            if call.out.delay is not None:  # not sooner: a call that is refused keeps none
+                keep_delay(paths, call.out.delay, [paths])
             try:
-                keep_out(paths, call.hold, bool(call.publish))
+                keep_out(paths, call.out.hold, bool(call.out.publish))
                 if self._to_keep:
                     keep_pages(paths, self._to_keep)
             except Refused as refused:  # it is recorded anyway
@@ -97,7 +97,7 @@ class Audience:
             greeting.append(Message("delay.over_unseen", name=self._paths.name))
         if self._late:
             late = Message("delay.game", late=self._late)
-            greeting.append(Message("delay.as_before", delay=late) if self._call.delay is None else late)
+            greeting.append(Message("delay.as_before", delay=late) if self._call.out.delay is None else late)
         return (*greeting, *self._told_of_kept)
 
     def hears(self, text: str) -> bool:

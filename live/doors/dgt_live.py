@@ -5,23 +5,25 @@ from __future__ import annotations
 
 import importlib
 import os
-from typing import Any, Callable, Sequence
+from dataclasses import dataclass
+from typing import Any, Callable, Optional, Sequence, Tuple
 
 from live.board.plan import Plan, numbered
 from live.board.reasons import Rules
 from live.board.single import Choice, Single
 from live.child.program import Program
-from live.doors import calls
-from live.doors.calls import Call
-from live.doors.door import Outcome, through
+from live.child.reply import BACK
+from live.doors.options import LIVE, Outcome, Outgoing, out_given, pages_given, read, through
 from live.game import files
 from live.game.file_names import check_name, has_delay
 from live.game.files import Paths
 from live.game.game import kept_tags
 from live.game.opening import checked
 from live.game.options import Options
+from live.run.called import DGT_LIVE
 from live.run.loop import Loop, Signals
 from live.run.refused import DONE, FAILED, Refused
+from live.show.address import Pages
 from live.show.screen import Screen
 from live.show.terminal import Terminal
 from live.show.typed import Typed
@@ -53,6 +55,56 @@ OPTION says how the board lies, how the game begins, and what its tags say:
 Set up the pieces: dgt_live /dev/ttyUSB0 game --white Anna --black Ben
 """
 PRINTED = 2.0  # seconds that a slow terminal has for the last lines
+
+
+@dataclass(frozen=True)
+class Call:
+    """What a command line asks for. Without a device nothing is recorded."""
+
+    device: str = ""
+    name: str = ""
+    options: Options = Options()  # of the game, as they were typed
+    series: bool = False
+    once: bool = False
+    asks: str = ""  # --help, --version, --devices or --pack
+    typed: Tuple[str, ...] = ()  # lines for an existing game
+    pages: Optional[Pages] = None
+    out: Outgoing = Outgoing()
+
+    @property
+    def shows(self) -> bool:
+        """Whether an existing game is only shown."""
+        return not self.device and bool(self.pages and self.pages.any) and self.options == Options()
+
+
+def parse(arguments: Sequence[str]) -> Call:
+    """What the arguments ask for. Refused with status 2 if they make no sense."""
+    given = read(LIVE, arguments)
+    plain, series = given.plain, given.has("--series")
+    for option in ("--help", "--version"):
+        if given.has(option):
+            return Call(asks=option)
+    words, pages, out = given.of_game(), pages_given(given), out_given(given)
+    if given.has("--devices"):
+        if len(arguments) > 1:
+            raise given.refused(Message("option.devices_alone"))
+        return Call(asks="--devices")
+    if given.has("--pack"):
+        if len(arguments) != 2 or not "".join(plain):
+            raise given.refused(Message("option.pack_alone"))
+        return Call(name=plain[0], asks="--pack")
+    options = Options.of_words(words)
+    typed = tuple(value if name == "--add" else f"{BACK} {value}" for name, value in given.options if name in ("--add", "--back"))
+    reads_otherwise = bool(words) and options.lies_as(Options()) and not options.unrotated
+    has_name = not typed and len(plain) == 1 and not series
+    wanted = 1 if typed or (has_name and (reads_otherwise or (pages and pages.any and not words))) else 2
+    if len(plain) > wanted:
+        raise given.refused(Message("option.quotes", word=plain[wanted]))
+    if len(plain) < wanted or not plain[-1]:
+        raise given.refused(Message("option.name_after_add") if typed else Message("option.device_and_name", dgt_live=DGT_LIVE))
+    if typed and (words or series):
+        raise given.refused(Message("option.add_alone"))
+    return Call(plain[0] if wanted == 2 else "", plain[-1], options, series, given.has("--once"), typed=typed, pages=pages, out=out)
 
 
 def record(call: Call, program: Program, signals: Signals) -> Outcome:
@@ -108,7 +160,7 @@ def is_watched(call: Call, given: Options) -> bool:
     """Whether somebody else sees the game."""
     paths = Paths(call.name)
     left = (paths.broadcast, paths.pages)
-    is_asked = call.pages or call.delay is not None or call.publish or given.tags or kept_tags(paths)
+    is_asked = call.pages or call.out.delay is not None or call.out.publish or given.tags or kept_tags(paths)
     return bool(is_asked) or has_delay(paths) or any(map(os.path.lexists, left))
 
 
@@ -121,11 +173,11 @@ def main(arguments: Sequence[str], here: str) -> int:
     """Does what the arguments ask for. Returns the status."""
 
     def call(signals: Signals) -> Outcome:
-        asked = calls.parse(arguments)
-        if asked.help:
+        asked = parse(arguments)
+        if asked.asks == "--help":
             print(HELP, end="")
             return DONE, ()
-        if asked.version:
+        if asked.asks == "--version":
             print("dgt_live", Program.find(here).version())
             return DONE, ()
         if not asked.device and not asked.shows:

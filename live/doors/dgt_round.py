@@ -6,33 +6,28 @@ import os
 import pathlib
 import shlex
 from dataclasses import dataclass, replace
-from typing import Dict, List, Optional, Sequence, Tuple
+from typing import List, Optional, Sequence, Tuple
 
 from live.child.program import Program
-from live.doors import calls
-from live.doors.calls import refuse_both, refuse_hosts
-from live.doors.door import Outcome, through
+from live.doors.options import ROUNDS, SEE_HELP, Outcome, Outgoing, out_given, pages_given, read, through, with_values
 from live.game.file_names import ROUND, is_of_an_output
 from live.game.files import LOCK_PATIENCE, Paths, text_of
 from live.game.game import keep_options, kept_options
 from live.game.opening import recordable, turned, unknown
-from live.game.options import RECOVER, STRICT, TAG, UNKNOWN, Options, as_typed, assigned, meant, no_option, typed_tag, typed_value, with_help, without_help
-from live.out.delay import (
-    HOLD, GoingOut, delay_of, in_home, keep_out, kept_out, minutes, read_command, read_delay, read_hold, told_of_kept as told_of_kept_out,
-)  # fmt: skip
+from live.game.options import RECOVER, STRICT, UNKNOWN, Options, as_typed, assigned
+from live.out.delay import HOLD, GoingOut, delay_of, in_home, keep_out, kept_out, minutes, told_of_kept as told_of_kept_out
 from live.out.outputs import (
-    OUTPUT as OUTPUT, Output, held, left_in, name_in, read_outputs, refuse_games_in_site, refuse_links, refuse_shared_sites, refuse_unknown, removed,
+    OUTPUT, Output, held, left_in, name_in, read_outputs, refuse_games_in_site, refuse_links, refuse_shared_sites, refuse_unknown, removed,
     sites_given, told_of, without_those,
 )  # fmt: skip
 from live.out.texts import RESULTS, TournamentFiles, all_text, results_text
 from live.round.round import Round, first_pairings, refuse_another_round
 from live.round.row import Hall
 from live.round.tournament import Tournament, folder_of_table, made, refuse_exchanged, tournament_of
-from live.run.called import DGT_ROUND
 from live.run.lock import locked
 from live.run.loop import Loop, Signals
 from live.run.refused import ARGUMENTS, DONE, FAILED, REFUSED, Refused
-from live.show.address import Pages, keep_pages, pages_of, read_pages
+from live.show.address import Pages, keep_pages, pages_of
 from live.show.page import Title, TwoPages
 from live.show.site import SiteFiles, refuse_no_site
 from live.show.table import terminal_of_lines
@@ -42,10 +37,8 @@ from live.table.hall import Source
 from live.table.trf import MATCHES, read_matches
 from live.words.message import Message, linked
 
-SEE_HELP = Message("help.round", dgt_round=DGT_ROUND)
 TAGS = ("--event", "--site", "--date", "--round")
-NEW, EMBED, WEB = "--new", "--embed", "--web"
-VALUED = (*TAGS, TAG, "--page", "--page-host", "--arbiter-page", EMBED, WEB, "--delay", "--publish", "--hold", OUTPUT, ENCODING, MATCHES)
+VALUED = with_values(ROUNDS)
 HELP = """\
 usage: dgt_round FILE [FOLDER] [OPTION..]     a round of its own
        dgt_round CUP ROUND [OPTION..]         a round of a tournament
@@ -81,19 +74,15 @@ class Asked:
     folder: str = ""
     options: Options = Options()  # of all games
     pages: Pages = Pages()
-    delay: Optional[float] = None  # seconds; None leaves it as it was
-    publish: Tuple[str, ...] = ()  # a command
+    out: Outgoing = Outgoing()
     web: str = ""  # the folder of the static site
-    hold: Optional[float] = None  # seconds for which a last ply must stand before it goes out; None leaves it as it was
     outputs: Tuple[Output, ...] = ()  # beside the first one
     known: Tuple[str, ...] = ()  # the names of outputs that the tournament's settings have
     encoding: str = ""  # of tables that aren't Unicode; empty if none is given
     is_encoding_typed: bool = False  # and not set
     no_matches: bool = False  # the teams of a report play none
     tournament: Optional[Tournament] = None  # the one whose round is played
-    new: bool = False  # the files of a tournament are to be made
-    help: bool = False
-    version: bool = False
+    asks: str = ""  # --help, --version or --new, for the files of a tournament
 
 
 def parse(arguments: Sequence[str]) -> Asked:
@@ -105,67 +94,32 @@ def parse(arguments: Sequence[str]) -> Asked:
 
 def each_read(arguments: Sequence[str]) -> Asked:
     """The same, wherever their sites are."""
-    left = list(arguments)
-    plain: List[str] = []
-    words: List[str] = []
-    values: Dict[str, str] = {}
-    hosts: List[str] = []
-    outputs: List[str] = []
-    is_new = False
-    while left:
-        word = left.pop(0)
-        typed, equals, value = word.partition("=")
-        option = meant(typed)
-        if word in calls.HELP:
-            return Asked(help=True)
-        if word in calls.VERSION:
-            return Asked(version=True)
-        if word in (RECOVER, STRICT):
-            words.append(word)
-        elif word == NEW:
-            is_new = True
-        elif option in VALUED:
-            value = value if equals else typed_value(typed, left, SEE_HELP)
-            if option == "--page-host":
-                hosts.append(value)
-            elif option == OUTPUT:
-                outputs.append(value)
-            elif option == TAG:
-                words.append(assigned(TAG, typed_tag(value, SEE_HELP)))
-            else:
-                values[option] = value
-        elif word.startswith("-") and len(word) > 1:
-            raise no_option(word, SEE_HELP)
-        else:
-            plain.append(word)
-    refuse_both(words, SEE_HELP)
-    if not plain or not plain[0]:
-        raise Refused(ARGUMENTS, with_help(Message("option.file"), SEE_HELP))
-    if len(plain) > 2:
-        raise Refused(ARGUMENTS, with_help(Message("option.quotes", word=plain[2]), SEE_HELP))
-    page, arbiter_page = (values.pop(option, None) for option in ("--page", "--arbiter-page"))
-    refuse_hosts(page or arbiter_page, hosts, SEE_HELP)
-    embed, web = values.pop(EMBED, None), in_home(values.pop(WEB, ""))
+    given = read(ROUNDS, arguments)
+    for option in ("--help", "--version"):
+        if given.has(option):
+            return Asked(asks=option)
+    words = [word for word in given.of_game() if word.partition("=")[0] not in TAGS]
+    if not given.plain or not given.plain[0]:
+        raise given.refused(Message("option.file"))
+    if len(given.plain) > 2:
+        raise given.refused(Message("option.quotes", word=given.plain[2]))
+    embed, encoding = given.last("--embed"), given.last(ENCODING)
     if embed and not embed.isascii():
-        raise Refused(ARGUMENTS, Message("option.embed", option=EMBED, value=repr(embed), how=told_of_letters(embed)))
-    if embed and not page:
-        raise Refused(ARGUMENTS, with_help(Message("option.embed_without_page", option=EMBED), SEE_HELP))
-    delay, publish, hold, encoding = (values.pop(option, None) for option in ("--delay", "--publish", "--hold", ENCODING))
-    no_matches = read_matches(values.pop(MATCHES, ""))
-    words += [assigned(option, value) for option, value in values.items()]
+        raise Refused(ARGUMENTS, Message("option.embed", option="--embed", value=repr(embed), how=told_of_letters(embed)))
+    if embed and not given.last("--page"):
+        raise given.refused(Message("option.embed_without_page", option="--embed"))
+    words += [assigned(option, value) for option in TAGS for value in given.all(option)[-1:]]
     return Asked(
-        plain[0],
-        "".join(plain[1:]),
+        given.plain[0],
+        "".join(given.plain[1:]),
         Options.of_words(words),
-        read_pages(page, arbiter_page, hosts, embed),
-        None if delay is None else read_delay(delay),
-        () if publish is None else read_command(publish),
-        web,
-        None if hold is None else read_hold(hold),
-        read_outputs(outputs),
+        pages_given(given) or Pages(),
+        out_given(given),
+        in_home(given.last("--web") or ""),
+        read_outputs(given.all(OUTPUT)),
         encoding=known_encoding(encoding) if encoding else "",
-        no_matches=no_matches,
-        new=is_new,
+        no_matches=read_matches(given.last(MATCHES) or ""),
+        asks="--new" if given.has("--new") else "",
     )
 
 
@@ -179,6 +133,12 @@ def told_of_letters(site: str) -> str:
         return Message("option.embed_copy")
 
 
+def without_help(message: str) -> str:
+    """A complaint without where the options are explained."""
+    is_linked = isinstance(message, Message) and message.places.get("last") == SEE_HELP[ROUNDS]
+    return str(message.places["front"]) if isinstance(message, Message) and is_linked else message
+
+
 def of_tournament(arguments: Sequence[str], tournament: Tournament, typed: Asked) -> Asked:
     """The round of a tournament: what its settings say, and what is typed in addition. A relative path of a site in the settings
     begins at the tournament's folder."""
@@ -189,7 +149,7 @@ def of_tournament(arguments: Sequence[str], tournament: Tournament, typed: Asked
     try:
         with_sites_in(each_read([*words, str(table)]), tournament.folder, Asked())
     except Refused as refused:
-        raise Refused(REFUSED, linked("colon", (str(tournament.settings), without_help(refused.lines[0], SEE_HELP)))) from None
+        raise Refused(REFUSED, linked("colon", (str(tournament.settings), without_help(refused.lines[0])))) from None
     known = tuple(filter(None, map(name_in, words)))
     words = without_those(words, [output.name for output in typed.outputs])
     asked = each_read([assigned("--round", str(tournament.number)), *words, *arguments])
@@ -281,26 +241,26 @@ def play(asked: Asked, program: Program, signals: Signals) -> Outcome:
     of_others = refuse_another_round(source, read, hall)
     where, are_kept = pages_of(files, asked.pages)
     pages = TwoPages(loop, where, are_kept)
-    delay = delay_of(files, asked.delay, [Paths(str(folder / pairing.file_name)) for pairing in read.boards])
+    delay = delay_of(files, asked.out.delay, [Paths(str(folder / pairing.file_name)) for pairing in read.boards])
     late = minutes(delay) if delay else ""
     kept_before = kept_out(files)
-    hold = next((seconds for seconds in (asked.hold, kept_before.hold) if seconds is not None), HOLD)
+    hold = next((seconds for seconds in (asked.out.hold, kept_before.hold) if seconds is not None), HOLD)
     shown = given.written("--event") or file.stem
     event = "" if given.event == UNKNOWN else given.written("--event")
     title = linked("comma", filter(None, (event, given.round and Message("round.number", number=given.round)))) or file.stem
     told_of_removed = [removed(folder, output) for output in asked.outputs if not output.out]
     told_of_named = [*filter(None, told_of_removed), *told_of(folder, asked.outputs, left_in(folder))]
-    hall = replace(hall, out=GoingOut(delay, asked.publish, hold=hold), outputs=held(asked.outputs, hold))
+    hall = replace(hall, out=GoingOut(delay, asked.out.publish, hold=hold), outputs=held(asked.outputs, hold))
     games = Round(loop, source, read, title, hall, of_others)
     for line in filter(None, (told_of_place, told)):
         games.say(line)
     if late:
         spectators = Message("delay.round", late=late)
-        games.say(Message("delay.as_before", delay=spectators) if asked.delay is None else spectators)
-    for line in (*told_of_kept_out(kept_before, asked.hold, bool(asked.publish)), *told_of_named):
+        games.say(Message("delay.as_before", delay=spectators) if asked.out.delay is None else spectators)
+    for line in (*told_of_kept_out(kept_before, asked.out.hold, bool(asked.out.publish)), *told_of_named):
         games.say(line)
     try:
-        keep_out(files, asked.hold, bool(asked.publish))
+        keep_out(files, asked.out.hold, bool(asked.out.publish))
         if given.only(TAGS) != kept:
             keep_options(files, given.only(TAGS))
         if not are_kept and (where.any or where.ends):
@@ -364,13 +324,13 @@ def main(arguments: Sequence[str], here: str) -> int:
 
     def answered(signals: Signals) -> Outcome:
         asked = parse(arguments)
-        if asked.help:
+        if asked.asks == "--help":
             print(HELP, end="")
             return DONE, ()
-        if asked.version:
+        if asked.asks == "--version":
             print("dgt_round", Program.find(here).version())
             return DONE, ()
-        if asked.new:
+        if asked.asks == "--new":
             print("\n".join(made(pathlib.Path(asked.file), lambda: Program.find(here))))
             return DONE, ()
         tournament = tournament_of(asked.file, asked.folder)

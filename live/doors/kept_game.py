@@ -10,8 +10,8 @@ from live.child import control
 from live.child.program import Program
 from live.child.refusal import is_recorded
 from live.child.reply import OK, REOPENS, Answer
-from live.doors.calls import Call
-from live.doors.door import Outcome
+from live.doors.dgt_live import Call
+from live.doors.options import Outcome
 from live.game import files, packing
 from live.game.changing import add_by_name, told_of_round, told_of_series
 from live.game.file_names import check_name, has_delay
@@ -148,10 +148,10 @@ def list_devices(here: str) -> Outcome:
 
 def done(call: Call, here: str) -> Outcome:
     """Does what a call asks for that records nothing."""
-    if call.devices:
+    if call.asks == "--devices":
         return list_devices(here)
     check_name(call.name)
-    if call.packs:
+    if call.asks == "--pack":
         return pack(call, here)
     program = Program.find(here)
     return add(call, program) if call.typed else remake(call, program)

@@ -6,7 +6,6 @@ import dataclasses
 from dataclasses import dataclass
 from typing import Callable, Dict, List, Mapping, Optional, Sequence, Tuple
 
-from live.game.tags import Malformed, pair_of
 from live.run.called import DGT_LIVE
 from live.run.refused import ARGUMENTS, REFUSED, Refused
 from live.words.message import Message, linked
@@ -307,23 +306,9 @@ def with_help(message: str, see_help: str = SEE_HELP) -> str:
     return linked("colon", (message, see_help))
 
 
-def without_help(message: str, see_help: str) -> str:
-    """The same without that."""
-    is_linked = isinstance(message, Message) and message.places.get("last") == see_help
-    return str(message.places["front"]) if isinstance(message, Message) and is_linked else message
-
-
 def sorted_pairs(tags: Mapping[str, str]) -> Tuple[Tuple[str, str], ...]:
     """In order of their names."""
     return tuple(sorted(tags.items()))
-
-
-def typed_tag(text: str, see_help: str = SEE_HELP) -> str:
-    """`NAME=VALUE` as it was typed, with the name and the value as PGN has them."""
-    try:
-        return "=".join(pair_of(text))
-    except Malformed as error:
-        raise Refused(ARGUMENTS, with_help(Message("option.malformed_tag", tag=TAG, why=error.message), see_help)) from None
 
 
 def value_of(option: str, left: List[str], see_help: str = SEE_HELP) -> str:
@@ -331,15 +316,6 @@ def value_of(option: str, left: List[str], see_help: str = SEE_HELP) -> str:
     if not left:
         raise Refused(ARGUMENTS, with_help(Message("option.wants_value", option=option), see_help))
     return left.pop(0)
-
-
-def typed_value(option: str, left: List[str], see_help: str = SEE_HELP) -> str:
-    """The next word as somebody typed it. One that looks like an option is refused: a value may have been forgotten."""
-    value = value_of(option, left, see_help)
-    if value[:2] == "--" and value[2:3].isalpha():
-        what = Message("option.wants_value_not", option=option, value=value)
-        raise Refused(ARGUMENTS, Message("option.as_a_text", what=what, typed=assigned(option, value)))
-    return value
 
 
 def assigned(option: str, value: str) -> str:
@@ -360,8 +336,3 @@ def as_typed(words: Sequence[str]) -> List[str]:
         option = PLACE if option == SITE else option
         typed += [option, value] if value and not value.startswith("-") else [option + equals + value]
     return typed
-
-
-def no_option(word: str, see_help: str = SEE_HELP) -> Refused:
-    """The answer to an unknown option, which may also be a name that begins with `-`."""
-    return Refused(ARGUMENTS, with_help(Message("option.unknown_or_name", word=word), see_help))

@@ -27,6 +27,7 @@ NO_SENTENCES: Dict[str, Tuple[str, ...]] = {
     "live/line/protocol.py": ("not eight",),  # only who programs sees it
     "live/doors/dgt_live.py": ("usage:",),  # its --help
     "live/doors/dgt_round.py": ("usage:",),
+    "live/doors/options.py": ("'NAME = MINUTES",),  # what the value of an option is called
     "live/game/answers.py": ("input: too long",),  # what dgt_replay prints
     "live/game/way_back.py": ("as it is",),  # a value, as the next ones
     "live/run/guard.py": ("Traceback", '  File "'),  # as Python prints where an error was raised

@@ -87,7 +87,7 @@ def as_typed() -> None:
     many = refused("nine", Refused, read_outputs, [f"a{number} = 0" for number in range(9)])
     same("too many", many, "9 outputs are given, and there can be 8: let one command carry to several places")
     asked = parse(["t.csv", "--output", "hall = 0, a", "--output=public=15,web /srv/b", "--web", "/srv/a", "--delay", "5"])
-    same("all of them", (asked.web, asked.delay, [output.name for output in asked.outputs]), ("/srv/a", 300.0, ["hall", "public"]))
+    same("all of them", (asked.web, asked.out.delay, [output.name for output in asked.outputs]), ("/srv/a", 300.0, ["hall", "public"]))
     same("none", parse(["t.csv"]).outputs, ())
     words = ["--event=--output=a=1", "--output=agency=3, x", "--output=hall=0", "--tag=A=b"]
     same("names", [name_in(word) for word in words], [None, "agency", "hall", None])

@@ -2,7 +2,7 @@
 and what is told of that."""
 
 from live.child.report import Line, Recovered, line_of
-from live.doors.calls import parse
+from live.doors.dgt_live import parse
 from live.game.making_pgn import told_of_reading, told_of_result
 from live.game.options import Options
 from live.run.refused import Refused

@@ -2,7 +2,7 @@
 
 from decided.table import refused, same
 
-from live.doors import calls, dgt_round
+from live.doors import dgt_live, dgt_round
 from live.run.refused import Refused
 from live.show.address import Pages, names_of, read_address, read_names, read_pages
 
@@ -91,13 +91,13 @@ def named() -> None:
 def options() -> None:
     live = ["--page-host", "a.example", "/dev/null", "game"]
     for what, call, words in [
-        ("dgt_live", calls.parse, live),
+        ("dgt_live", dgt_live.parse, live),
         ("dgt_round", dgt_round.parse, ["round.csv", "--page-host=a.example"]),
     ]:
         said = refused(f"{what} --page-host without --page", Refused, call, words)
         same(f"{what} says what lacks", "--page PORT" in said, True)
-    served = calls.parse([*live, "--page=8000", "--page-host=b.example,c.example"]).pages
-    same("dgt_live: no page", calls.parse(["/dev/null", "game"]).pages, None)
+    served = dgt_live.parse([*live, "--page=8000", "--page-host=b.example,c.example"]).pages
+    same("dgt_live: no page", dgt_live.parse(["/dev/null", "game"]).pages, None)
     assert served
     same("dgt_live: more than one", [served.names.allow(f"{name}.example") for name in "abcd"], [True, True, True, False])
     pages = dgt_round.parse(["round.csv", "--page", "8000", "--page-host", "a.example", "--page-host=b.example,c.example"]).pages

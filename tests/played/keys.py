@@ -61,7 +61,7 @@ def no_more_keys(folder: pathlib.Path) -> None:
 
 
 BROKEN = """
-from live.doors.door import through
+from live.doors.options import through
 from live.show.terminal import edits
 
 def breaks(signals):
