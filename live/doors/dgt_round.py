@@ -21,7 +21,7 @@ from live.out.outputs import (
     sites_given, told_of, without_those,
 )  # fmt: skip
 from live.out.texts import RESULTS, TournamentFiles, all_text, results_text
-from live.round.round import Round, first_pairings, refuse_another_round
+from live.round.round import Round, refuse_another_round
 from live.round.row import Hall
 from live.round.tournament import Tournament, folder_of_table, made, refuse_exchanged, tournament_of
 from live.run.lock import locked
@@ -227,7 +227,7 @@ def play(asked: Asked, program: Program, signals: Signals) -> Outcome:
     source.in_tournament = asked.tournament is not None
     if asked.tournament and not asked.is_encoding_typed:
         source.encoding_set = asked.tournament.encoding
-    read = first_pairings(source)
+    read = source.read_first()
     told_of_place = ""
     if not asked.folder:
         asked = replace(asked, folder=str(folder_of_table(file)))

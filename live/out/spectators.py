@@ -5,7 +5,7 @@ from __future__ import annotations
 
 import json
 from dataclasses import dataclass
-from typing import Any, Dict, FrozenSet, Iterable, List, Mapping, Optional, Protocol, Sequence, Set, Tuple
+from typing import Dict, FrozenSet, Iterable, List, Mapping, Optional, Sequence, Set, Tuple
 
 from live.game.forfeits import score_of
 from live.game.tags import Tags, pairs_of
@@ -83,42 +83,6 @@ class SpectatorBoard:
         }
         if before:
             values["kept"] = {"moves": moves, "positions": positions}
-        return json_text(values)
-
-
-class Shows(Protocol):
-    """A board as a page shows it."""
-
-    @property
-    def number(self) -> int:
-        """Each board has its own."""
-
-    @property
-    def pgn(self) -> bytes:
-        """The game."""
-
-    def text(self, offset: float, before: Any) -> bytes:
-        """The JSON text. `before` is the view that the page has, if any. `offset` turns the loop's time into seconds since 1970."""
-
-
-@dataclass(frozen=True)
-class RoundView:
-    """All boards, in the order in which they are shown, and what is common to them. Each has a number of its own."""
-
-    event: str
-    boards: Tuple[Shows, ...] = ()
-    said: Tuple[Tuple[str, object], ...] = ()
-
-    @property
-    def values(self) -> Dict[str, object]:
-        """Everything except the boards."""
-        return {"event": self.event, **dict(self.said)}
-
-    @property
-    def header(self) -> bytes:
-        """The same in JSON, with the boards' numbers."""
-        values = self.values
-        values["numbers"] = [board.number for board in self.boards]
         return json_text(values)
 
 

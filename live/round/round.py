@@ -29,7 +29,7 @@ from live.out.outputs import Outputs
 from live.out.spectators import UNKNOWN as NOT_KNOWN, Paired, matches_of, round_pgn, told_of_matches
 from live.out.texts import FORFEIT, Published, Result
 from live.round.commands import Leaving, all_ways, is_command, said_of, told_of_answer, ways
-from live.round.row import Earlier, Hall, Row, earlier_game, was_forfeited
+from live.round.row import Earlier, Hall, Line, News, Row, earlier_game, was_forfeited
 from live.round.tournament import another_folder
 from live.run.beside import Worker
 from live.run.called import DGT_ROUND
@@ -40,35 +40,13 @@ from live.show.table import NOT_RECORDED, Display, RowView, boards_are, boards_c
 from live.show.typed import Typed
 from live.table.encoding import is_question
 from live.table.hall import Source, not_plugged_in, with_some, without_twice
-from live.table.pairings import EXAMPLE, Pairing, Pairings, Wrong, told_of_wrong
+from live.table.pairings import Pairing, Pairings, Wrong, told_of_wrong
 from live.words.message import Message, linked
 
 OPENS = 5.0  # seconds that all games may take to be opened
 SHOWN = 1.0  # seconds after which a board that is heard again has shown how it stands
 HIGHEST = 6  # digits of a number that may be a board's
 SCORE = re.compile(r"\d\s*[-–—−:/]\s*\d", re.ASCII)  # and not a board's number
-
-
-def first_pairings(source: Source) -> Pairings:
-    """Reads the table with which a round begins, and looks for boards that it names by serial number. Refused if it names no
-    board."""
-    file = source.file
-    try:
-        read = source.read()
-        if source.wants:
-            source.found(source.look())
-            read = source.read()
-    except FileNotFoundError:
-        raise Refused(FAILED, Message("round.no_file", file=file, dgt_round=DGT_ROUND)) from None
-    except OSError as error:
-        raise Refused(FAILED, Message("round.unreadable", file=file, why=text_of(error))) from None
-    except Refused as refused:
-        raise Refused(REFUSED, linked("colon", (str(file), refused.lines[0])), *refused.lines[1:]) from None
-    if read.absent and not read.boards and not read.wrong:
-        raise Refused(REFUSED, Message("round.no_device_in", file=file, boards=source.boards))
-    if not read.boards and not read.wrong:
-        raise Refused(REFUSED, Message("round.no_board_in", file=file, example=EXAMPLE))
-    return read
 
 
 def with_forfeited(read: Pairings, hall: Hall) -> Pairings:
@@ -220,7 +198,7 @@ class Round:
             if pairing.board in self.rows:
                 self.rows[pairing.board].take(pairing)
             else:
-                row = self.rows[pairing.board] = Row(self._loop, self._hall, pairing, self)
+                row = self.rows[pairing.board] = Row(self._loop, self._hall, pairing, self._hears, self._of_number)
                 row.held = held.get(pairing.board)
                 row.begin()
         pairs = [Paired(row.number, row.pairing.teams) for row in self.boards()]
@@ -309,17 +287,30 @@ class Round:
         pairs = ((number, pairing) for number, pairing in sorted(found.items()) if number not in self.rows)
         return [Paired(number, pairing.teams if pairing else ("", ""), pairing.result if pairing else NOT_KNOWN, False) for number, pairing in pairs]
 
-    def owner(self, number: str) -> Optional[Board]:
+    def _hears(self, number: int, news: Union[News, Line]) -> None:
+        """What has happened at the board with this number."""
+        if isinstance(news, Line):
+            (self.say_of_table if news.is_of_table else self.say)(news.text)
+        elif news is News.CHANGED:
+            self.changed(number)
+        elif news is News.REMADE:
+            self.remade(number)
+        elif news is News.CAME_BACK:
+            self._is_back(number)
+        else:
+            self._numbered(number)
+
+    def _of_number(self, number: str) -> Optional[Board]:
         """The board that has this serial number, unless its game is over."""
         return next((row.board for row in self.boards() if row.serial == number and goes_on(row.board)), None)
 
-    def numbered(self, number: int) -> None:
+    def _numbered(self, number: int) -> None:
         """The serial number of this board has just become known: perhaps other boards have the same."""
         same = same_number({row.number: row.serial for row in self.boards() if goes_on(row.board)}, number)
         for one in same:
             self.rows[one].board.shares_number([other for other in same if other != one])
 
-    def came_back(self, number: int) -> None:
+    def _is_back(self, number: int) -> None:
         """This board was away, and is there again: perhaps on the cable of another one that was away too."""
         if not self._came_back:
             self._loop.after(SHOWN, self._suspect)
@@ -395,7 +386,7 @@ class Round:
         """A pair whose board isn't found isn't played, so it needs none."""
         self._wrong = [line for line in self._wrong if line != not_plugged_in(pairing)]
         self._right.add(pairing.board)
-        row = self.rows[pairing.board] = Row(self._loop, self._hall, pairing, self)
+        row = self.rows[pairing.board] = Row(self._loop, self._hall, pairing, self._hears, self._of_number)
         row.begin_with(text, functools.partial(self._answered, row))
         self.remade()
 

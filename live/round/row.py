@@ -2,9 +2,10 @@
 
 from __future__ import annotations
 
+import enum
 import functools
 from dataclasses import dataclass
-from typing import Callable, List, Optional, Protocol, Tuple
+from typing import Callable, List, NamedTuple, Optional, Tuple, Union
 
 from live.board.advice import Moves, all_of
 from live.board.board import Board
@@ -58,38 +59,32 @@ class Hall:
     outputs: Tuple[Output, ...] = ()  # beside that
 
 
-class HearsRow(Protocol):
-    """Gets the events of a board of a round."""
+class News(enum.Enum):
+    """What has happened at a board, for its round."""
 
-    def changed(self, number: int) -> None:
-        """The row of this board has changed."""
+    CHANGED = enum.auto()  # what its row shows has changed
+    REMADE = enum.auto()  # the text of its game has changed
+    CAME_BACK = enum.auto()  # it was away, and is there again
+    NUMBERED = enum.auto()  # its serial number has just become known
 
-    def remade(self, number: int) -> None:
-        """The PGN of this board has changed."""
 
-    def owner(self, number: str) -> Optional[Board]:
-        """The board that has this serial number."""
+class Line(NamedTuple):
+    """A line for the screen; one that is about the table is in the round's log too."""
 
-    def came_back(self, number: int) -> None:
-        """This board was away, and is there again."""
+    text: str
+    is_of_table: bool = False
 
-    def numbered(self, number: int) -> None:
-        """The serial number of this board has just become known."""
 
-    def say(self, text: str) -> None:
-        """A line for the screen."""
-
-    def say_of_table(self, text: str) -> None:
-        """A line about the table, which the round's log has too."""
+Tells = Callable[[int, Union[News, Line]], None]  # gets what happens at the board with this number
 
 
 class RowScreen(Screen):
     """Reports about one board, with its number: as lines of a pipe, or below the table."""
 
-    def __init__(self, number: int, terminal: Optional[Terminal], hears: HearsRow) -> None:
+    def __init__(self, number: int, terminal: Optional[Terminal], tells: Tells) -> None:
         super().__init__(terminal)
-        self._number, self._hears = number, hears
-        self.on_change = functools.partial(hears.changed, number)
+        self._number, self._tells = number, tells
+        self.on_change = functools.partial(tells, number, News.CHANGED)
         self._has_table = terminal is None
         self._held: Optional[List[Tuple[str, ...]]] = None  # what is said while a typed line is obeyed
         self._of_table = False  # whether that line is a result of the table
@@ -116,7 +111,7 @@ class RowScreen(Screen):
         """Shows this in a line of a pipe, or below the table."""
         self.show(text, *more)
         if self._has_table and not any(has(text, key) for key in UNSAID):
-            self._hears.say(linked("colon", (str(self._number), linked("space", [text, *more]))))
+            self._tells(self._number, Line(linked("colon", (str(self._number), linked("space", [text, *more])))))
 
     def obeys(self, of_table: bool) -> None:
         """A line that was typed, or is of the table, is obeyed from now on: what is said meanwhile is held back."""
@@ -175,7 +170,7 @@ class RowScreen(Screen):
 
     def hint(self, text: str) -> None:
         if self._has_table:
-            self._hears.say(linked("colon", (str(self._number), text)))
+            self._tells(self._number, Line(linked("colon", (str(self._number), text))))
 
 
 def typed_for(number: int, line: str) -> str:
@@ -248,16 +243,17 @@ def was_forfeited(hall: Hall, pairing: Pairing) -> bool:
 
 
 class Row:
-    """A board of the round."""
+    """A board of the round. `of_number` finds the one that has a serial number."""
 
-    def __init__(self, loop: Turns, hall: Hall, pairing: Pairing, hears: HearsRow) -> None:
-        self._loop, self._hall, self._hears = loop, hall, hears
+    def __init__(self, loop: Turns, hall: Hall, pairing: Pairing, tells: Tells, of_number: Callable[[str], Optional[Board]]) -> None:
+        self._loop, self._hall, self._of_number = loop, hall, of_number
+        self._tells: Callable[[Union[News, Line]], None] = functools.partial(tells, pairing.board)
         self.pairing = pairing
         paths = Paths(f"{hall.folder}/{pairing.file_name}")
-        self._screen = RowScreen(pairing.board, hall.terminal, hears)
+        self._screen = RowScreen(pairing.board, hall.terminal, tells)
         self._screen.needs_board = self._is_played
-        self.came_back = functools.partial(hears.came_back, pairing.board)
-        self.numbered = functools.partial(hears.numbered, pairing.board)
+        self.came_back: Callable[[], None] = functools.partial(self._tells, News.CAME_BACK)
+        self.numbered: Callable[[], None] = functools.partial(self._tells, News.NUMBERED)
         self.board = Board(loop, hall.program, self._screen, paths, self)
         self.board.called = Message("round.board", board=pairing.board)
         self._screen.is_settled = lambda: bool(self.board.forfeit) or self.board.result == self.pairing.result
@@ -323,11 +319,11 @@ class Row:
         if self._begun_with and not self.board.is_new:
             self._loop.after(0, self._begun_with)
             self._begun_with = None
-        self._hears.changed(self.number)
+        self._tells(News.CHANGED)
 
     def remade(self) -> None:
         """The text of its game has changed."""
-        self._hears.remade(self.number)
+        self._tells(News.REMADE)
 
     def ended(self, why: Optional[Exception]) -> bool:
         """Its recording has ended, or couldn't begin. It is tried again unless the game is over."""
@@ -340,7 +336,7 @@ class Row:
 
     def owner(self, number: str) -> Optional[Board]:
         """The other board that has this serial number."""
-        board = self._hears.owner(number)
+        board = self._of_number(number)
         return None if board is self.board else board
 
     # Its line is read again.
@@ -353,7 +349,7 @@ class Row:
             self.held = None
         self._wants_result = True
         if before.result == self.board.forfeit != "" and not pairing.result:
-            self._hears.say_of_table(Message("row.no_forfeit", number=self.number, reopens=REOPENS))
+            self._tells(Line(Message("row.no_forfeit", number=self.number, reopens=REOPENS), True))
         if same_but_for_result(before, pairing) and not self._lacks_names:
             self._loop.after(0, self._apply_result)
             if not self.board.is_recorded and not self.board.is_over:
@@ -368,7 +364,7 @@ class Row:
         """Its game has the names of its line; or it hasn't, and gets them at the next `r`, or as it is opened."""
         self._lacks_names = answer[0] != DONE
         if self._lacks_names and self.board.is_recorded:
-            self._hears.say_of_table(linked("space", (str(self.number), answer[1])))
+            self._tells(Line(linked("space", (str(self.number), answer[1])), True))
         elif self._lacks_names:
             self._begins_otherwise()
 
@@ -393,7 +389,7 @@ class Row:
         if wanted and wanted not in (self.board.forfeit, self.board.result):
             if self.board.result != "*":
                 stays = Message("row.result_stays", wanted=wanted, result=self.board.result)
-                self._hears.say_of_table(Message("row.to_change", number=self.number, stays=stays, wanted=wanted))
+                self._tells(Line(Message("row.to_change", number=self.number, stays=stays, wanted=wanted), True))
             else:
                 self._gets_result = True
                 self.add(wanted, self._has_result, of_table=True)
@@ -401,7 +397,7 @@ class Row:
     def _has_result(self, answer: Answer) -> None:
         """What its line says was added, or refused."""
         self._gets_result = False
-        self._hears.say(linked("colon", (str(self.number), answer[1])))
+        self._tells(Line(linked("colon", (str(self.number), answer[1]))))
 
     def _is_played(self) -> bool:
         """Whether its game is played: it isn't forfeited, and its line doesn't say so of a game without moves."""

@@ -22,16 +22,16 @@ import pathlib
 import secrets
 import time
 from dataclasses import dataclass
-from typing import Callable, Dict, List, Optional, Tuple
+from typing import Any, Callable, Dict, List, Optional, Tuple
 
 from live.out.broadcast import Broadcast
-from live.out.spectators import RoundView, Shows, json_text, pgn_path, round_pgn, round_text
+from live.out.spectators import json_text, pgn_path, round_pgn, round_text
 from live.run.guard import Guard, Restarted
 from live.run.loop import Loop, Timer, Turns
 from live.run.refused import Refused
 from live.show.address import HERE, HIGHEST_PORT, Address, Door, Names, Pages
 from live.show.serving import PART, Content, Server
-from live.show.view import ArbiterView
+from live.show.view import ArbiterView, Board, RoundView
 from live.words.message import ENGLISH, Message, used_in
 
 PAUSE = 0.1  # seconds between two changes that readers see
@@ -74,9 +74,9 @@ SPECTATORS = Site("spectators.html", (*SHARED, "spectators.css", "spectators.js"
 class Shown:
     """A board as readers have it since a change."""
 
-    def __init__(self, board: Shows, change: int, page: Page, before: Optional[Shown]) -> None:
+    def __init__(self, board: Board, change: int, page: Page, before: Optional[Shown]) -> None:
         self.board, self.change = board, change
-        self._before = before.board if before else None
+        self._before: Any = before.board if before else None  # of the same kind
         self._identifier = f"{page.epoch}-{change}"
         self._offset = page.offset
         self._whole = b""

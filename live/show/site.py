@@ -19,13 +19,14 @@ from live.board.state import trouble_of
 from live.game.files import new_of, put_in_place
 from live.game.making_pgn import Made
 from live.out.broadcast import Broadcast
-from live.out.spectators import RoundView, SpectatorBoard, json_text, pgn_path, printed, round_pgn, round_text
+from live.out.spectators import SpectatorBoard, json_text, pgn_path, printed, round_pgn, round_text
 from live.out.texts import outcome
 from live.run.beside import Worker
 from live.run.guard import Guard, Restarted
 from live.run.loop import Turns
 from live.run.refused import REFUSED, Refused
 from live.show.page import FOLDER, SPECTATORS, Title, index_of
+from live.show.view import RoundView
 from live.words.message import Message
 
 LOOK = 1.0  # seconds between two checks

@@ -1,15 +1,15 @@
-"""What the arbiter's page shows of a board, as a value, and its JSON text."""
+"""What a page shows, as a value: a round; and of a board, what the arbiter's page does, with its JSON text."""
 
 from __future__ import annotations
 
 from dataclasses import dataclass, field
-from typing import Callable, Dict, Iterable, Mapping, Optional, Protocol, Tuple
+from typing import Callable, Dict, Iterable, Mapping, Optional, Protocol, Tuple, Union
 
 from live.board.advice import wants_a_line
 from live.game.course import clocks_of
 from live.game.options import PLAYERS
 from live.out.shot import Game, Ply
-from live.out.spectators import RoundView, json_text, pgn_path, same_front, sheet_of
+from live.out.spectators import SpectatorBoard, json_text, pgn_path, same_front, sheet_of
 from live.run.guard import traced
 from live.words.message import Message, linked
 
@@ -75,6 +75,30 @@ class BoardView:
         }
         if before:
             values["kept"] = {"moves": moves, "positions": positions}
+        return json_text(values)
+
+
+Board = Union[BoardView, SpectatorBoard]  # as a page shows it
+
+
+@dataclass(frozen=True)
+class RoundView:
+    """All boards, in the order in which they are shown, and what is common to them. Each has a number of its own."""
+
+    event: str
+    boards: Tuple[Board, ...] = ()
+    said: Tuple[Tuple[str, object], ...] = ()
+
+    @property
+    def values(self) -> Dict[str, object]:
+        """Everything except the boards."""
+        return {"event": self.event, **dict(self.said)}
+
+    @property
+    def header(self) -> bytes:
+        """The same in JSON, with the boards' numbers."""
+        values = self.values
+        values["numbers"] = [board.number for board in self.boards]
         return json_text(values)
 
 

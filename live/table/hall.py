@@ -13,9 +13,10 @@ from live.game import files
 from live.line import serial_line
 from live.line.line import same_line
 from live.line.numbers import ask
-from live.run.refused import REFUSED, Refused
+from live.run.called import DGT_ROUND
+from live.run.refused import FAILED, REFUSED, Refused
 from live.table.encoding import told_of_reading
-from live.table.pairings import Pairing, Pairings, Wrong, device_twice, listed_numbers, read_pairings
+from live.table.pairings import EXAMPLE, Pairing, Pairings, Wrong, device_twice, listed_numbers, read_pairings
 from live.table.sheet import LARGEST
 from live.table.trf import is_report, read_report
 from live.words.message import Message, linked, plural
@@ -161,6 +162,27 @@ class Source:
             read = joined(self._hall(), self.boards.name, read, self.file.name)
         self.wants = [serial for serial in serials_wanted(read) if serial not in self._plugged]
         return placed(read, self._plugged)
+
+    def read_first(self) -> Pairings:
+        """Reads the table with which a round begins, and looks for boards that it names by serial number. Refused if it names no
+        board."""
+        file = self.file
+        try:
+            read = self.read()
+            if self.wants:
+                self.found(self.look())
+                read = self.read()
+        except FileNotFoundError:
+            raise Refused(FAILED, Message("round.no_file", file=file, dgt_round=DGT_ROUND)) from None
+        except OSError as error:
+            raise Refused(FAILED, Message("round.unreadable", file=file, why=files.text_of(error))) from None
+        except Refused as refused:
+            raise Refused(REFUSED, linked("colon", (str(file), refused.lines[0])), *refused.lines[1:]) from None
+        if read.absent and not read.boards and not read.wrong:
+            raise Refused(REFUSED, Message("round.no_device_in", file=file, boards=self.boards))
+        if not read.boards and not read.wrong:
+            raise Refused(REFUSED, Message("round.no_board_in", file=file, example=EXAMPLE))
+        return read
 
     def _hall(self) -> Pairings:
         try:

@@ -16,8 +16,8 @@ from typing import Any, Callable, Counter, Dict, List, Mapping, Optional, Sequen
 sys.dont_write_bytecode = True
 sys.path[:0] = [str(pathlib.Path(__file__).resolve().parents[number]) for number in (2, 1)]
 from live.out.shot import Clocks, Ply, Shot  # noqa: E402
-from live.out.spectators import Player, RoundView, Shows, SpectatorBoard  # noqa: E402
-from live.show.view import BoardView  # noqa: E402
+from live.out.spectators import Player, SpectatorBoard  # noqa: E402
+from live.show.view import Board, BoardView, RoundView  # noqa: E402
 from live.run.loop import Loop, Watch  # noqa: E402
 from live.show import page, serving  # noqa: E402
 from live.show.address import Address, Door, names_of, read_address  # noqa: E402
@@ -128,7 +128,7 @@ def board_of(values: SpectatorsGiven, _: float) -> BoardView:
 class Host:
     def __init__(self, address: Address, limits: Mapping[str, float]) -> None:
         spectators = "spectators" in limits
-        self.board_of: Callable[[SpectatorsGiven, float], Shows] = board_of
+        self.board_of: Callable[[SpectatorsGiven, float], Board] = board_of
         if spectators:
             self.board_of = spectators_board_of
         for name, value in limits.items():
@@ -138,7 +138,7 @@ class Host:
         embed = EMBEDDED if "embedded" in limits else ""
         door = Door(address, names_of("Hall.club.example", ["chess.example.org"]), embed=embed)
         self.page = Page(self.loop, door, SPECTATORS if spectators else ARBITER, self.trouble)
-        self.boards: Dict[int, Shows] = {}
+        self.boards: Dict[int, Board] = {}
         self.text = b""
         os.set_blocking(0, False)
         self.loop.watch(0, self.read)
