@@ -471,7 +471,8 @@ def mypy(folder: pathlib.Path) -> None:
 
 
 def tsc(folder: pathlib.Path) -> None:
-    """TypeScript's checker has no complaint about the modules of web/ and those that they import; it has one about a text for a number."""
+    """TypeScript's checker has no complaint about the modules of both pages and those that they import; it has one about a text for a
+    number."""
     complains_of_nothing("node-typescript", "--project", TOP / "web" / "jsconfig.json")
     (folder / "wrong.js").write_text(f"import {{ isLong }} from '{TOP}/web/kept/limit.js';\n\nisLong('1', 2);\n")
     wrong = folder / "jsconfig.json"

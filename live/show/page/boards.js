@@ -1,25 +1,41 @@
 // All boards in a grid, and one of them large if the page's address names it: `#3`. Each page adds what only it
 // shows.
 
+import { Card } from './card.js';
 import { outcomeOf, spokenPly } from './chess.js';
 import { drawPieces, say } from './diagram.js';
+import { GameView } from './game.js';
 import { fit, placeAfter } from './grid.js';
 import { linked, message } from './message.js';
 import { Stream } from './stream.js';
 
-const at = (name) => document.getElementById(name);
+/**
+ * @typedef {import('./card.js').Board} Board
+ * @typedef {import('./message.js').Words} Words
+ * @typedef {import('./stream.js').How} How
+ */
+
+/**
+ * The element with this identifier, which the page has.
+ * @type {(name: string) => HTMLElement}
+ */
+export const at = (name) => /** @type {HTMLElement} */ (document.getElementById(name));
 const UNNAMED = message('show.title');
 const SECOND = 1000;
 
 export class Boards {
   constructor() {
+    /** @type {Map<number, Card>} */
     this.cards = new Map();
+    /** @type {number | null} */
     this.focused = null; // the board whose card gets the focus when the large one is closed
     this.scrolled = 0;
+    /** @type {number | null} */
     this.open = null; // the number of the board that is large
     this.asked = false;
     this.columns = 1;
     this.sizes = 0; // the frame in which the cards are sized anew
+    /** @type {How} */
     this.how = 'connecting';
     drawPieces();
     this.large = this.largeOf(() => this.stream.now(), () => this.showLine());
@@ -33,14 +49,40 @@ export class Boards {
     this.stream = new Stream((number, before) => this.changed(number, before), (how) => this.connected(how));
   }
 
-  // What each page says in its own way. A page also has `cardOf(number, now)`, which makes a board's card, `largeOf(now,
-  // stepped)`, which makes the large view of a board, and `line(how)`, the page's state in words.
+  // What each page says in its own way.
+
+  /**
+   * A board's card.
+   * @type {(number: number, now: () => number) => Card}
+   */
+  cardOf(number, now) {
+    return new Card(number, now);
+  }
+
+  /**
+   * The large view of a board.
+   * @type {(now: () => number, stepped: () => void) => GameView}
+   */
+  largeOf(now, stepped) {
+    return new GameView(now, stepped);
+  }
+
+  /**
+   * The page's state in words.
+   * @type {(how: How | 'back') => Words}
+   */
+  line(how) {
+    return how;
+  }
 
   /** The round has changed. */
   titled() {}
 
-  /** What a screen reader reads out about a board, besides its moves and its result: a list of words. */
-  troubles() {
+  /**
+   * What a screen reader reads out about a board, besides its moves and its result: a list of words.
+   * @type {(board: Board, before: Board) => Words[]}
+   */
+  troubles(board, before) {
     return [];
   }
 
@@ -57,23 +99,25 @@ export class Boards {
   /** A second has gone by. */
   tick() {
     for (const board of this.stream.list()) {
-      if (this.cards.has(board.number)) this.cards.get(board.number).showClocks(board);
+      const card = this.cards.get(board.number);
+      if (card) card.showClocks(board);
     }
     if (this.open !== null && this.large.board) this.large.showClocks();
   }
 
   // What has changed.
 
+  /** @type {(number?: number, before?: Board) => void} */
   changed(number, before) {
     if (number === undefined) {
       this.arrange();
       return;
     }
-    const board = this.stream.boards.get(number);
+    const board = /** @type {Board} */ (this.stream.boards.get(number));
     if (this.cards.has(number) !== this.listed.includes(number)) this.arrange();
     const card = this.cards.get(number);
     if (card) card.show(board);
-    if (!before || ['teams', 'federations'].some((what) => String(before[what]) !== String(board[what]))) this.sizeSoon();
+    if (!before || [[before.teams, board.teams], [before.federations, board.federations]].some(([was, is]) => String(was) !== String(is))) this.sizeSoon();
     if (this.open === number) this.large.show(board);
     if (before) this.announce(board, before);
     this.showTitle();
@@ -91,16 +135,27 @@ export class Boards {
     return [this.listed.length];
   }
 
-  /** What is in the grid: the boards' cards. */
+  /**
+   * What is in the grid: the boards' cards.
+   * @type {HTMLElement[]}
+   */
   get laid() {
-    return this.listed.map((number) => this.cards.get(number).root);
+    return this.cardsOf(this.listed).map((card) => card.root);
+  }
+
+  /**
+   * The cards of boards that have one.
+   * @type {(numbers: number[]) => Card[]}
+   */
+  cardsOf(numbers) {
+    return numbers.flatMap((number) => this.cards.get(number) || []);
   }
 
   /** Gives each board its card, in the order in which they are shown. */
   arrange() {
     const { numbers } = this.stream;
     const { listed } = this;
-    const focused = document.activeElement;
+    const focused = /** @type {HTMLElement | null} */ (document.activeElement);
     for (const [number, card] of this.cards) {
       if (!listed.includes(number)) {
         card.root.remove();
@@ -115,11 +170,13 @@ export class Boards {
       const place = at('boards').children[index] || null;
       if (place !== root) at('boards').insertBefore(root, place);
     });
-    while (at('boards').children.length > laid.length) at('boards').lastElementChild.remove();
+    while (at('boards').children.length > laid.length) at('boards').children[laid.length].remove();
     for (const number of listed) {
-      if (this.stream.boards.has(number)) this.cards.get(number).show(this.stream.boards.get(number));
+      const board = this.stream.boards.get(number);
+      const card = this.cards.get(number);
+      if (board && card) card.show(board);
     }
-    if (at('boards').contains(focused)) focused.focus({ preventScroll: true }); // a card that is moved loses it
+    if (focused && at('boards').contains(focused)) focused.focus({ preventScroll: true }); // a card that is moved loses it
     say(at('event'), this.name);
     at('none').hidden = numbers.length > 0;
     this.titled();
@@ -134,8 +191,12 @@ export class Boards {
     return String(linked('comma', [event || UNNAMED, ...(said.round ? [message('round.number', { number: said.round })] : [])]));
   }
 
-  /** What a screen reader reads out: the moves of the large board, and the results of all. */
+  /**
+   * What a screen reader reads out: the moves of the large board, and the results of all.
+   * @type {(board: Board, before: Board) => void}
+   */
   announce(board, before) {
+    /** @type {Words[]} */
     const words = [];
     const count = board.moves.length;
     const isNew = count > before.moves.length || (count > 0 && before.moves[count - 1].san !== board.moves[count - 1].san);
@@ -157,6 +218,7 @@ export class Boards {
     if (document.title !== whole) document.title = whole;
   }
 
+  /** @type {(how: How) => void} */
   connected(how) {
     this.how = how;
     this.showLine();
@@ -188,7 +250,10 @@ export class Boards {
     }
   }
 
-  /** Shows one board large. */
+  /**
+   * Shows one board large.
+   * @type {(board: Board) => void}
+   */
   show(board) {
     if (this.open === null) this.scrolled = window.scrollY;
     this.open = board.number;
@@ -203,7 +268,10 @@ export class Boards {
     this.showLine();
   }
 
-  /** Shows the grid, or makes room for what is shown elsewhere. */
+  /**
+   * Shows the grid, or makes room for what is shown elsewhere.
+   * @type {(elsewhere: boolean) => void}
+   */
   showAll(elsewhere) {
     this.focused = this.open === null ? this.focused : this.open;
     this.open = null;
@@ -211,8 +279,9 @@ export class Boards {
     document.body.classList.remove('one');
     at('boards').hidden = elsewhere || this.stream.numbers.length === 0;
     this.size();
-    if (this.asked && !elsewhere && this.cards.has(this.focused)) {
-      this.cards.get(this.focused).link.focus({ preventScroll: true });
+    const card = this.focused === null ? undefined : this.cards.get(this.focused);
+    if (this.asked && !elsewhere && card) {
+      card.link.focus({ preventScroll: true });
       window.scrollTo(0, this.scrolled);
     }
     this.showTitle();
@@ -221,6 +290,7 @@ export class Boards {
 
   // Keys.
 
+  /** @type {(event: KeyboardEvent) => void} */
   press(event) {
     if (event.ctrlKey || event.altKey || event.metaKey || event.defaultPrevented) return;
     const { numbers } = this.stream;
@@ -232,10 +302,11 @@ export class Boards {
     }
   }
 
+  /** @type {(key: string) => boolean} */
   pressOnGrid(key) {
     if (at('boards').hidden) return false;
-    const links = this.listed.map((number) => this.cards.get(number).link);
-    const next = placeAfter(key, links.indexOf(document.activeElement), this.groups, this.columns);
+    const links = this.cardsOf(this.listed).map((card) => card.link);
+    const next = placeAfter(key, links.findIndex((link) => link === document.activeElement), this.groups, this.columns);
     if (next === undefined) return false;
     if (links[next]) links[next].focus();
     return true;

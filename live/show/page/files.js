@@ -1,5 +1,10 @@
 // Where the words of a page without a recorder come from: a file, which is asked for now and then.
 
+/**
+ * @typedef {import('./source.js').Hear} Hear
+ * @typedef {{ written?: number, ended?: boolean }} Writing
+ */
+
 const EACH = 5000; // milliseconds
 const STALE = 90000; // milliseconds: the recorder writes its file anew every 30 seconds
 
@@ -9,6 +14,7 @@ const STALE = 90000; // milliseconds: the recorder writes its file anew every 30
  */
 export class Age {
   constructor() {
+    /** @type {number | undefined} */
     this.written = undefined; // seconds since 1970, by the clock of who wrote it
     this.isEnded = false;
     this.isKnown = false; // false as long as nothing tells how old the file is
@@ -16,7 +22,10 @@ export class Age {
     this.came = -Infinity;
   }
 
-  /** The file came at `now`, when the server's clock showed `date`, which is NaN if it tells none. Both are in milliseconds. */
+  /**
+   * The file came at `now`, when the server's clock showed `date`, which is NaN if it tells none. Both are in milliseconds.
+   * @type {(writing: Writing, date: number, now: number) => void}
+   */
   take({ written, ended }, date, now) {
     const isFirst = now - this.came > STALE;
     if (written !== undefined && (isFirst || written !== this.written)) {
@@ -29,6 +38,7 @@ export class Age {
     this.came = now;
   }
 
+  /** @type {(now: number) => import('./stream.js').How} */
   how(now) {
     if (this.isEnded) return 'ended';
     if (now - this.changed > STALE) return 'stopped';
@@ -37,6 +47,10 @@ export class Age {
 }
 
 export class Files {
+  /**
+   * @param {Hear} hear
+   * @param {() => void} told
+   */
   constructor(hear, told) {
     this.hear = hear;
     this.told = told;
@@ -44,6 +58,8 @@ export class Files {
     this.wanted = 0;
     this.isLost = false;
     this.timer = 0;
+    this.header = ''; // what was heard of the round
+    /** @type {Map<number, string>} */
     this.texts = new Map(); // of the boards, as they were last
     this.age = new Age();
   }
@@ -67,6 +83,7 @@ export class Files {
 
   look() {}
 
+  /** @type {() => import('./stream.js').How} */
   how() {
     return this.age.how(performance.now());
   }
@@ -81,7 +98,7 @@ export class Files {
       const answer = await fetch('state.json', { cache: 'no-cache' });
       if (!answer.ok) throw new Error(String(answer.status));
       const { written, ended, ...state } = await answer.json();
-      this.age.take({ written, ended }, Date.parse(answer.headers.get('Date')), performance.now());
+      this.age.take({ written, ended }, Date.parse(answer.headers.get('Date') || ''), performance.now());
       this.take(state);
       this.isLost = false;
     } catch {
@@ -90,6 +107,7 @@ export class Files {
     this.told();
   }
 
+  /** @type {(state: { boards: import('./card.js').Board[] }) => void} */
   take({ boards, ...round }) {
     this.heard = performance.now();
     this.hear('beat', { now: Date.now() / 1000 });

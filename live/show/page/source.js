@@ -4,6 +4,12 @@
 // answer from the leading one takes the lock from it: a browser may have stopped a tab that nobody sees. Browsers have locks
 // only for HTTPS and for their own computer. Without them, each visible tab has its own connection, and a hidden one none.
 
+/**
+ * @typedef {(kind: string, data: any) => void} Hear gets a beat, the round or a board
+ * @typedef {[kind: string, data: unknown]} Word
+ * @typedef {{ asks: string } | { to?: string, words: Word[], age: number, isLost: boolean }} Passed among tabs
+ */
+
 const NAME = 'round';
 const DEAD = 12000; // milliseconds without a message, after which the connection is made anew
 const AGAIN = 2000; // milliseconds until the next try, if the browser has given up
@@ -14,7 +20,12 @@ const KINDS = ['beat', 'round', 'board'];
 export const SHARES = Boolean(window.BroadcastChannel && navigator.locks && window.top === window.self);
 
 export class Source {
-  /** `hear(kind, data)` is called for each word, `told()` after some; `known()` is all that was heard, as a list of words. */
+  /**
+   * `hear(kind, data)` is called for each word, `told()` after some; `known()` is all that was heard, as a list of words.
+   * @param {Hear} hear
+   * @param {() => void} told
+   * @param {() => Word[]} known
+   */
   constructor(hear, told, known) {
     this.hear = hear;
     this.told = told;
@@ -25,10 +36,14 @@ export class Source {
     this.wanted = 0; // since when this tab wants to hear something
     this.asked = 0; // when it last asked the leading tab
     this.isLost = false;
+    /** @type {EventSource | null} */
     this.events = null; // the connection, if this tab has one
     this.begun = 0; // when it was made
+    /** @type {BroadcastChannel | null} */
     this.channel = null;
+    /** @type {AbortController | null} */
     this.lock = null; // what ends the wait for the lock
+    /** @type {((value?: unknown) => void) | null} */
     this.release = null; // gives the lock back
     this.tries = 0;
     this.waits = 0;
@@ -68,9 +83,17 @@ export class Source {
     else this.ask();
   }
 
-  /** What a page is that hears something. */
+  /**
+   * What a page is that hears something.
+   * @type {() => import('./stream.js').How}
+   */
   how() {
     return 'live';
+  }
+
+  /** When the recorder wrote last, if it no longer writes: a page that is connected knows of no such time. */
+  get stands() {
+    return undefined;
   }
 
   /** Call this now and then. */
@@ -113,7 +136,10 @@ export class Source {
 
   // The tabs among themselves.
 
-  /** Leads as soon as no other tab does, or at once if it `takes` the lock. */
+  /**
+   * Leads as soon as no other tab does, or at once if it `takes` the lock.
+   * @type {(takes: boolean) => void}
+   */
   lead(takes) {
     if (this.lock) this.lock.abort();
     const lock = new AbortController();
@@ -133,6 +159,7 @@ export class Source {
     });
   }
 
+  /** @type {(message: { to?: string, words: Word[] }) => void} */
   post(message) {
     if (this.channel) this.channel.postMessage({ ...message, age: performance.now() - this.heard, isLost: this.isLost });
   }
@@ -141,14 +168,15 @@ export class Source {
   ask() {
     window.clearTimeout(this.waits);
     this.asked = performance.now();
-    this.channel.postMessage({ asks: this.name });
+    if (this.channel) this.channel.postMessage({ asks: this.name });
     this.waits = window.setTimeout(() => {
       if (!this.events && !document.hidden) this.lead(true);
     }, ANSWER);
   }
 
+  /** @type {(message: Passed) => void} */
   take(message) {
-    if (message.asks) {
+    if ('asks' in message) {
       if (this.events) this.post({ to: message.asks, words: this.heard === -Infinity ? [] : this.known() });
     } else if (!this.events && (!message.to || message.to === this.name)) {
       window.clearTimeout(this.waits);

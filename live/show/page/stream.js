@@ -3,6 +3,15 @@
 import { Files } from './files.js';
 import { SHARES, Source } from './source.js';
 
+/**
+ * @typedef {import('./card.js').Board} Board
+ * @typedef {{ teams: string[], points: number[] | null, boards: number[], why?: string }} Match
+ * @typedef {{ round?: string, late?: string, notice?: string, matches?: Match[] }} Said of a round, besides its event
+ * @typedef {Said & { event: string, numbers: number[] }} Round
+ * @typedef {Board & { kept?: { moves: number, positions: number } }} Sent without the moves and positions that the page has
+ * @typedef {'connecting' | 'live' | 'silent' | 'lost' | 'stopped' | 'ended' | 'hidden'} How
+ */
+
 const FILES = 'files' in document.documentElement.dataset; // whether there is no recorder behind the page
 const SILENT = FILES ? 20000 : 4000; // milliseconds without a word, after which the page says so: a beat comes every two or three seconds
 const LOOK = 500;
@@ -14,17 +23,24 @@ export class Stream {
    * with 'connecting', 'live', 'silent' if nothing comes, 'lost' if there is no connection, 'stopped' or 'ended' if what comes is
    * no longer renewed, and 'hidden' if nobody sees the page: a browser slows its timers then, so it couldn't say in time that
    * nothing comes.
+   * @param {(number?: number, before?: Board) => void} changed
+   * @param {(how: How) => void} connected
    */
   constructor(changed, connected) {
     this.changed = changed;
     this.tell = connected;
+    /** @type {Map<number, Board>} */
     this.boards = new Map();
     this.event = '';
+    /** @type {number[]} */
     this.numbers = [];
+    /** @type {Said} */
     this.said = {}; // what else is said of the round
     this.offset = 0;
     this.sleeps = 0;
-    this.source = new (FILES ? Files : Source)((kind, data) => this.hear(kind, data), () => this.say(), () => this.known());
+    /** @type {import('./source.js').Hear} */
+    const hear = (kind, data) => this.hear(kind, data);
+    this.source = FILES ? new Files(hear, () => this.say()) : new Source(hear, () => this.say(), () => this.known());
     document.addEventListener('visibilitychange', () => this.seen(!document.hidden));
     window.addEventListener('pageshow', () => this.seen(!document.hidden));
     window.addEventListener('pagehide', () => this.source.end());
@@ -44,18 +60,25 @@ export class Stream {
     return this.source.stands;
   }
 
+  /** @type {import('./source.js').Hear} */
   hear(kind, data) {
     if (kind === 'beat') this.offset = data.now - performance.now() / 1000;
     else if (kind === 'round') this.takeRound(data);
     else this.takeBoard(data);
   }
 
-  /** All that is known, as it was heard. */
+  /**
+   * All that is known, as it was heard.
+   * @type {() => import('./source.js').Word[]}
+   */
   known() {
     const round = { ...this.said, event: this.event, numbers: this.numbers };
-    return [['beat', { now: this.now() }], ['round', round], ...this.list().map((board) => ['board', board])];
+    /** @type {import('./source.js').Word[]} */
+    const boards = this.list().map((board) => ['board', board]);
+    return [['beat', { now: this.now() }], ['round', round], ...boards];
   }
 
+  /** @type {(round: Round) => void} */
   takeRound(round) {
     const { event, numbers, ...said } = round;
     this.event = event;
@@ -67,7 +90,10 @@ export class Stream {
     this.changed();
   }
 
-  /** A board comes whole, or only with what is new in it. */
+  /**
+   * A board comes whole, or only with what is new in it.
+   * @type {(board: Sent) => void}
+   */
   takeBoard(board) {
     const before = this.boards.get(board.number);
     if (board.kept) {
@@ -85,7 +111,7 @@ export class Stream {
 
   /** The known boards, in order. */
   list() {
-    return this.numbers.map((number) => this.boards.get(number)).filter((board) => board);
+    return this.numbers.flatMap((number) => this.boards.get(number) || []);
   }
 
   look() {
@@ -103,6 +129,7 @@ export class Stream {
     else this.tell(now - wanted > SILENT ? 'silent' : 'connecting');
   }
 
+  /** @type {(isSeen: boolean) => void} */
   seen(isSeen) {
     window.clearTimeout(this.sleeps);
     if (isSeen) this.source.begin();
