@@ -20,7 +20,7 @@ from live.out.outputs import (
     OUTPUT, Output, held, left_in, name_in, read_outputs, refuse_games_in_site, refuse_links, refuse_shared_sites, refuse_unknown, removed,
     sites_given, told_of, without_those,
 )  # fmt: skip
-from live.out.texts import RESULTS, TournamentFiles, all_text, results_text
+from live.out.publish import RESULTS, TournamentFiles, all_text, results_text
 from live.round.round import Round, refuse_another_round
 from live.round.row import Hall
 from live.round.tournament import Tournament, folder_of_table, made, refuse_exchanged, tournament_of

@@ -32,8 +32,7 @@ from live.game.options import Options
 from live.game.tags import published
 from live.game.times import HEADED, OF_BYTES, OVER, Call
 from live.out.delay import Said, delay_of
-from live.out.shot import STANDS, Clocks, Played, Ply, Shot, Shots
-from live.out.spectators import Paired, Player, SpectatorBoard, round_pgn
+from live.out.spectators import STANDS, Clocks, Paired, Played, Player, Ply, Shot, Shots, SpectatorBoard, round_pgn
 from live.run.beside import Worker
 from live.run.loop import Turns
 from live.run.refused import Refused

@@ -15,10 +15,8 @@ from live.game.files import AnyPath, Paths, folder_of, remove, sync_folder
 from live.game.forfeits import NO_RESULT
 from live.out.again import Keeper, WentOut, games_before, read_shown, said_again, shown_beside
 from live.out.delay import GoingOut, OneGame, Said, Waiting
-from live.out.publish import Publisher
-from live.out.shot import Game, Shot
-from live.out.spectators import UNKNOWN, Paired, SpectatorBoard, round_pgn, said_of_matches
-from live.out.texts import Published
+from live.out.publish import Published, Publisher
+from live.out.spectators import UNKNOWN, Game, Paired, Shot, SpectatorBoard, round_pgn, said_of_matches
 from live.run.beside import Worker
 from live.run.guard import Guard, Restarted, traced
 from live.run.loop import Loop, Timer

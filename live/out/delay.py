@@ -19,8 +19,7 @@ from live.game.files import NO_SUCH_FILE, Paths, beginning, existing, not_writte
 from live.game.forfeits import told_to_readers
 from live.game.options import PLAYERS
 from live.game.tags import SIDES, published
-from live.out.shot import NOTHING, OTHER, Game, Shot, Shots, played
-from live.out.spectators import Player, SpectatorBoard
+from live.out.spectators import NOTHING, OTHER, Game, Player, Shot, Shots, SpectatorBoard, played
 from live.run.refused import ARGUMENTS, FAILED, REFUSED, Refused
 from live.words.message import Message, linked
 

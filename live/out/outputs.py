@@ -15,8 +15,7 @@ from live.game.file_names import OF_AN_OUTPUT
 from live.game.files import new_of, remove, text_of
 from live.out.broadcast import Broadcast
 from live.out.delay import GoingOut, in_home, minutes, read_command, seconds_in
-from live.out.shot import Game
-from live.out.spectators import Paired
+from live.out.spectators import Game, Paired
 from live.run.guard import traced
 from live.run.loop import Loop
 from live.run.refused import ARGUMENTS, REFUSED, Refused

@@ -1,17 +1,33 @@
-"""What a spectator gets of a round: its boards as values and in JSON, their games as PGN, and the matches of its teams. It has no
-message of the recorder. Pure."""
+"""What a spectator gets: a game at one moment with its moves, positions, text and clocks; the boards of a round as values and in JSON, their
+games as PGN, and the matches of its teams. It has no message of the recorder. Pure: times are passed in.
+
+A running clock is sent once, with the time at which it showed that, and a browser counts on from there. It is sent again only
+if that would be wrong: after a move, or if a clock was stopped, set or started. A reading may come late, if this process was held
+up, but never early. So a clock that shows more than the browser's count may have been read late; if it shows less, the browser is
+behind."""
 
 from __future__ import annotations
 
+import functools
 import json
+import re
 from dataclasses import dataclass
-from typing import Dict, FrozenSet, Iterable, List, Mapping, Optional, Sequence, Set, Tuple
+from typing import Dict, FrozenSet, Iterable, List, Mapping, NamedTuple, Optional, Protocol, Sequence, Set, Tuple
 
+from live.board.board import Board
+from live.child.report import Clock, Move
+from live.game.course import clocks_of
 from live.game.forfeits import score_of
+from live.game.options import Options
 from live.game.tags import Tags, pairs_of
-from live.out.shot import Shot
 from live.words.message import Message, linked, plural
 
+RESULT = re.compile(rb'^\[Result "[^"]*"\]$', re.MULTILINE)
+WRONG = 2  # seconds that a clock may show more than the browser's count
+BEHIND = 1  # seconds that it may show less
+STANDS = 3.0  # seconds without another reading, after which a clock counts as stopped
+WHITE, BLACK = "w", "b"
+OTHER = {WHITE: BLACK, BLACK: WHITE, "": ""}
 SHEET = {"date": "Date", "place": "Site", "control": "TimeControl"}  # what a score sheet has of a game's tags
 NOT_GIVEN = ("?", "????.??.??", "-")
 NO_TAGS: Mapping[str, str] = {}
@@ -22,6 +38,200 @@ MOST_TOLD = 5  # matches that are named one by one
 MOST_ODD = 4  # of so many boards one may have a misspelt team
 
 Teams = FrozenSet[str]
+
+
+@dataclass(frozen=True)
+class Ply:
+    """A ply of the game: its SAN, its player's clock after it, and whether it was reported as a correction."""
+
+    san: str
+    clock: str = ""
+    kind: str = "move"  # or "correction"
+
+
+@dataclass(frozen=True)
+class Clocks:
+    """Both clocks, whose clock runs (`w`, `b`, or empty), and since when it has run from these times."""
+
+    white: str = ""
+    black: str = ""
+    runs: str = ""
+    at: float = 0.0
+
+    @property
+    def times(self) -> Tuple[str, str]:
+        """What both show."""
+        return self.white, self.black
+
+
+STANDING = Clocks()
+
+
+@dataclass(frozen=True)
+class Shot:
+    """`positions` are FENs, of the start and after each ply; `text` is the text of NAME.pgn."""
+
+    result: str = "*"
+    moves: Tuple[Ply, ...] = ()
+    positions: Tuple[str, ...] = ()
+    text: bytes = b""
+    clocks: Clocks = STANDING
+    forfeit: str = ""  # how it was forfeited, if it was
+
+    @property
+    def says_nothing(self) -> bool:
+        """Whether the game has neither a move nor a result, nor its text."""
+        return not self.forfeit and not self.moves and self.result == "*" and self.text.partition(b"\n\n")[2].strip() in (b"", b"*")
+
+    @property
+    def plies(self) -> Tuple[str, ...]:
+        """Its plies, without their times."""
+        return tuple(ply.san for ply in self.moves)
+
+    @property
+    def to_move(self) -> str:
+        """The side to move; empty if the position isn't known."""
+        side = "".join(self.positions[-1].split(" ")[1:2]) if self.positions else ""
+        return side if side in OTHER else ""
+
+    def has_game_of(self, other: Shot) -> bool:
+        """Whether both are the same game: its moves and its result."""
+        return (self.plies, self.result, self.forfeit) == (other.plies, other.result, other.forfeit)
+
+    def unplayed(self) -> Shot:
+        """The game before its first move."""
+        head = RESULT.sub(b'[Result "*"]', self.text.partition(b"\n\n")[0])
+        return Shot(positions=self.positions[:1], text=head + b"\n\n*\n\n" if self.text else b"")
+
+
+NOTHING = Shot()
+
+
+class Game(Protocol):
+    """What is read of a board and its game."""
+
+    board: Board
+
+    @property
+    def number(self) -> int:
+        """Its board's number."""
+
+    @property
+    def name(self) -> str:
+        """The name of its files."""
+
+    @property
+    def options(self) -> Options:
+        """The options that have its players' names and all its tags."""
+
+
+class Played(NamedTuple):
+    """A game as it is now. Its lists only grow at their ends, or are replaced."""
+
+    plies: List[Move]
+    fens: List[str]  # of the start and after each ply
+    result: str
+    pgn: bytes
+    forfeit: str
+    clock: Optional[Clock]
+    clock_at: float  # when that came
+
+    @property
+    def seen(self) -> Tuple[object, ...]:
+        """Shows whether it has changed since it was last seen."""
+        lists: Tuple[Sequence[object], ...] = (self.plies, self.fens)
+        return (*((id(each), len(each), each[-1:]) for each in lists), self.pgn, self.forfeit)
+
+
+def played(board: Board) -> Played:
+    """The game of a board as it is now."""
+    return Played(board.plies, board.fens, board.result, board.pgn, board.forfeit, board.clock, board.clock_at)
+
+
+class Shots:
+    """Takes snapshots of one game."""
+
+    def __init__(self) -> None:
+        self._seen: Tuple[object, ...] = ()
+        self._shot = NOTHING
+        self._running = Running()
+        self._clocks = STANDING
+
+    def take(self, game: Played, now: float) -> Shot:
+        """The game as it is now. Returns the same shot as before if nothing is new."""
+        seen = game.seen
+        clocks = self._running.look(now, game.clock, game.clock_at, self._shot.result == "*")
+        if seen != self._seen or clocks is not self._clocks:
+            self._seen, self._clocks = seen, clocks
+            plies = game.plies[: max(0, len(game.fens) - 1)]
+            moves = tuple(Ply(ply.san, ply.clock) for ply in plies)
+            shown = Clocks(*clocks_of(plies)) if clocks is STANDING else clocks
+            self._shot = Shot(game.result, moves, tuple(game.fens), game.pgn, shown, game.forfeit)
+        return self._shot
+
+
+@functools.lru_cache(maxsize=1024)
+def seconds_of(text: str) -> Optional[int]:
+    """`1:29:55` in seconds; None if it isn't a time."""
+    parts = text.split(":")
+    if not all(part.isascii() and part.isdigit() and len(part) < 6 for part in parts):
+        return None
+    seconds = 0
+    for part in parts:
+        seconds = 60 * seconds + int(part)
+    return seconds
+
+
+@dataclass
+class Running:
+    """Follows the clocks of one game. `told` are the ones from which a browser counts."""
+
+    told: Clocks = STANDING
+    _read: Optional[Clock] = None
+    _came_at: float = 0.0  # when that was read
+    _heard_at: float = 0.0  # when it was first looked at
+    _side: str = ""  # whose clock was running last
+
+    def look(self, now: float, read: Optional[Clock], came_at: float, goes_on: bool) -> Clocks:
+        """The clocks have shown this since then, and the game is in play or over. Returns the clocks from which a browser counts."""
+        if read is None:
+            return self.told
+        if self._read is None or read != self._read:
+            self._side = side_between(self._read, read) or self._side
+            self._read, self._came_at, self._heard_at = read, came_at, now
+        runs = self._side if goes_on and now < self._heard_at + STANDS else ""
+        if not counts_to(self.told, self._came_at, read, runs):
+            self.told = Clocks(read.white, read.black, runs, self._came_at if runs else 0.0)
+        return self.told
+
+
+def side_between(before: Optional[Clock], now: Clock) -> str:
+    """Whose clock runs, by two readings: the only one that went down; or the other one, if this one got time added for its move."""
+    if before is None:
+        return ""
+    down: List[str] = []
+    up: List[str] = []
+    for side, one, other in ((WHITE, before.white, now.white), (BLACK, before.black, now.black)):
+        first, second = seconds_of(one), seconds_of(other)
+        if first is not None and second is not None and first != second:
+            (down if second < first else up).append(side)
+    if len(down) == 1:
+        return down[0]
+    return OTHER[up[0]] if len(up) == 1 and not down else ""
+
+
+def counts_to(told: Clocks, came_at: float, read: Clock, runs: str) -> bool:
+    """Whether a browser that got this showed the new reading when it came, or nearly."""
+    if told.runs != runs:
+        return False
+    for side, text, before in ((WHITE, read.white, told.white), (BLACK, read.black, told.black)):
+        is_seconds, was_seconds = seconds_of(text), seconds_of(before)
+        if is_seconds is None or was_seconds is None or side != runs:
+            if text != before:
+                return False
+        elif not -BEHIND <= is_seconds - max(0.0, was_seconds - (came_at - told.at)) <= WRONG:
+            return False
+    return True
 
 
 @dataclass(frozen=True)

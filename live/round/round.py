@@ -26,8 +26,8 @@ from live.game.typed import MESSAGES, MOVES, refuse_no_text
 from live.out.broadcast import Broadcast
 from live.out.delay import clock_in
 from live.out.outputs import Outputs
+from live.out.publish import FORFEIT, Published, Result
 from live.out.spectators import UNKNOWN as NOT_KNOWN, Paired, matches_of, round_pgn, told_of_matches
-from live.out.texts import FORFEIT, Published, Result
 from live.round.commands import Leaving, all_ways, is_command, said_of, told_of_answer, ways
 from live.round.row import Earlier, Hall, Line, News, Row, earlier_game, was_forfeited
 from live.round.tournament import another_folder

@@ -19,8 +19,8 @@ from live.board.state import trouble_of
 from live.game.files import new_of, put_in_place
 from live.game.making_pgn import Made
 from live.out.broadcast import Broadcast
+from live.out.publish import outcome
 from live.out.spectators import SpectatorBoard, json_text, pgn_path, printed, round_pgn, round_text
-from live.out.texts import outcome
 from live.run.beside import Worker
 from live.run.guard import Guard, Restarted
 from live.run.loop import Turns

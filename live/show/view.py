@@ -8,8 +8,7 @@ from typing import Callable, Dict, Iterable, Mapping, Optional, Protocol, Tuple,
 from live.board.advice import wants_a_line
 from live.game.course import clocks_of
 from live.game.options import PLAYERS
-from live.out.shot import Game, Ply
-from live.out.spectators import SpectatorBoard, json_text, pgn_path, same_front, sheet_of
+from live.out.spectators import Game, Ply, SpectatorBoard, json_text, pgn_path, same_front, sheet_of
 from live.run.guard import traced
 from live.words.message import Message, linked
 

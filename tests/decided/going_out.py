@@ -22,8 +22,7 @@ from live.out.delay import (
     with_given,
 )  # fmt: skip
 from live.out.publish import Plan, last_line, run
-from live.out.shot import Clocks, Ply, Running, Shot, seconds_of, side_between
-from live.out.spectators import Player, SpectatorBoard, round_pgn
+from live.out.spectators import Clocks, Player, Ply, Running, Shot, SpectatorBoard, round_pgn, seconds_of, side_between
 from live.run.refused import Refused
 
 from decided.table import refused, same

@@ -4,7 +4,7 @@ from typing import List, Optional, Tuple
 
 from decided.table import refused, same
 from live.out.delay import Steady, read_hold
-from live.out.shot import Clocks, Ply, Shot
+from live.out.spectators import Clocks, Ply, Shot
 from live.run.refused import Refused
 
 

@@ -15,8 +15,7 @@ from typing import Any, Callable, Counter, Dict, List, Mapping, Optional, Sequen
 
 sys.dont_write_bytecode = True
 sys.path[:0] = [str(pathlib.Path(__file__).resolve().parents[number]) for number in (2, 1)]
-from live.out.shot import Clocks, Ply, Shot  # noqa: E402
-from live.out.spectators import Player, SpectatorBoard  # noqa: E402
+from live.out.spectators import Clocks, Player, Ply, Shot, SpectatorBoard  # noqa: E402
 from live.show.view import Board, BoardView, RoundView  # noqa: E402
 from live.run.loop import Loop, Watch  # noqa: E402
 from live.show import page, serving  # noqa: E402

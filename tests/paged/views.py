@@ -9,8 +9,7 @@ from typing import List, Optional, Tuple, cast
 from decided.table import same
 
 from live.game.options import Options
-from live.out.shot import Clocks, Ply, Shot
-from live.out.spectators import Player, SpectatorBoard, round_text, said_of_matches
+from live.out.spectators import Clocks, Player, Ply, Shot, SpectatorBoard, round_text, said_of_matches
 from live.show.view import IN_THE_TERMINAL, Attended, BoardView, view_of
 from live.words.message import Message
 

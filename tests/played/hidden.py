@@ -7,7 +7,7 @@ from typing import List
 
 from live.game import times
 from live.game.began import summed, this_start
-from live.out.shot import Clocks, Ply, Shot
+from live.out.spectators import Clocks, Ply, Shot
 from played.stage import bytes_of
 
 QUEUED = "queued"  # a folder beside the games

@@ -6,7 +6,7 @@ import pathlib
 import re
 from typing import List
 
-from live.out.shot import Shot
+from live.out.spectators import Shot
 from played import words
 from played.boards import Board
 from played.hidden import hidden_shots, started_again

@@ -236,8 +236,8 @@ import runpy, sys
 sys.dont_write_bytecode = True
 seconds, sys.argv = float(sys.argv[1]), sys.argv[2:]
 sys.path.insert(0, {top!r})
-from live.out import publish, texts
-texts.LOOKS, publish.EACH = seconds, 0.1
+from live.out import publish
+publish.LOOKS, publish.EACH = seconds, 0.1
 runpy.run_path(sys.argv[0], run_name="__main__")
 """
 CARRIES = """\
