@@ -78,8 +78,7 @@ class Asked:
     web: str = ""  # the folder of the static site
     outputs: Tuple[Output, ...] = ()  # beside the first one
     known: Tuple[str, ...] = ()  # the names of outputs that the tournament's settings have
-    encoding: str = ""  # of tables that aren't Unicode; empty if none is given
-    is_encoding_typed: bool = False  # and not set
+    encoding: str = ""  # of tables that aren't Unicode; empty if none is typed
     no_matches: bool = False  # the teams of a report play none
     tournament: Optional[Tournament] = None  # the one whose round is played
     asks: str = ""  # --help, --version or --new, for the files of a tournament
@@ -154,10 +153,8 @@ def of_tournament(arguments: Sequence[str], tournament: Tournament, typed: Asked
     words = without_those(words, [output.name for output in typed.outputs])
     asked = each_read([assigned("--round", str(tournament.number)), *words, *arguments])
     asked = with_sites_in(asked, tournament.folder, typed)
-    is_typed = bool(encoding_in(arguments))
-    return replace(
-        asked, file=str(table), folder=tournament.games, known=known, tournament=tournament, is_encoding_typed=is_typed
-    )
+    typed_encoding = encoding_in(arguments)  # what is set is read anew each time
+    return replace(asked, file=str(table), folder=tournament.games, known=known, tournament=tournament, encoding=typed_encoding)
 
 
 def with_sites_in(asked: Asked, folder: pathlib.Path, typed: Asked) -> Asked:
@@ -225,7 +222,7 @@ def play(asked: Asked, program: Program, signals: Signals) -> Outcome:
     file = pathlib.Path(asked.file)
     source = Source(program, file, round_of(asked.options.round), encoding=asked.encoding, no_matches=asked.no_matches)
     source.in_tournament = asked.tournament is not None
-    if asked.tournament and not asked.is_encoding_typed:
+    if asked.tournament and not asked.encoding:
         source.encoding_set = asked.tournament.encoding
     read = source.read_first()
     told_of_place = ""

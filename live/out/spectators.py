@@ -269,18 +269,10 @@ class SpectatorBoard:
 
     def text(self, offset: float, before: Optional[SpectatorBoard], folder: str = "/") -> bytes:
         """The JSON text; `kept` counts the moves and positions that are left out because the page has them. Its PGN is in this folder."""
-        shot, had = self.shot, before.shot if before else None
-        moves = same_front(had.moves, shot.moves) if had else 0
-        positions = same_front(had.positions, shot.positions) if had else 0
-        clocks = shot.clocks
+        shot, clocks = self.shot, self.shot.clocks
         values: Dict[str, object] = {
             "number": self.number,
-            "white": self.white.name,
-            "black": self.black.name,
-            "titles": (self.white.title, self.black.title),
-            "ratings": (self.white.rating, self.black.rating),
-            "teams": (self.white.team, self.black.team),
-            "federations": (self.white.federation, self.black.federation),
+            **players_of(self.white, self.black),
             "result": shot.result,
             "forfeit": score_of(shot.forfeit),
             "clocks": (clocks.white, clocks.black),
@@ -288,12 +280,30 @@ class SpectatorBoard:
             "at": round(clocks.at + self.delay + offset, 1) if clocks.runs else None,
             "pgn": pgn_path(self.number, folder),
             **sheet_of(self.pgn),
-            "moves": [{"san": ply.san, "clock": ply.clock} for ply in shot.moves[moves:]],
-            "positions": shot.positions[positions:],
         }
-        if before:
-            values["kept"] = {"moves": moves, "positions": positions}
-        return json_text(values)
+        had = (before.shot.moves, before.shot.positions) if before else None
+        return board_text(values, ("san", "clock"), shot.moves, shot.positions, had)
+
+
+Had = Optional[Tuple[Sequence[Ply], Sequence[str]]]  # the moves and the positions that a page has, if it has any of a board
+
+
+def board_text(values: Mapping[str, object], of_ply: Sequence[str], moves: Sequence[Ply], positions: Sequence[str], had: Had) -> bytes:
+    """A board in JSON: these values, its moves with what is said of each, and its positions. Unchanged ones at the front are left out if
+    the page has them, and `kept` counts them."""
+    kept = {"moves": same_front(had[0], moves), "positions": same_front(had[1], positions)} if had else {"moves": 0, "positions": 0}
+    plies = [{name: getattr(ply, name) for name in of_ply} for ply in moves[kept["moves"] :]]
+    whole: Dict[str, object] = {**values, "moves": plies, "positions": positions[kept["positions"] :]}
+    if had:
+        whole["kept"] = kept
+    return json_text(whole)
+
+
+def players_of(white: Player, black: Player) -> Dict[str, object]:
+    """Both players as JSON has them."""
+    both = {"titles": "title", "ratings": "rating", "teams": "team", "federations": "federation"}
+    pairs = {name: (getattr(white, what), getattr(black, what)) for name, what in both.items()}
+    return {"white": white.name, "black": black.name, **pairs}
 
 
 def sheet_of(pgn: bytes, tags: Mapping[str, str] = NO_TAGS) -> Dict[str, str]:

@@ -123,7 +123,7 @@ class Restarted:
 
     def __init__(self, loop: Turns, begins: Callable[[Guard], None], trouble: Callable[[str], None], pause: float) -> None:
         self._loop, self._begins, self._trouble, self._pause = loop, begins, trouble, pause
-        self._closed = False
+        self.closed = False
         self._begin()
 
     def _begin(self) -> None:
@@ -135,7 +135,7 @@ class Restarted:
         self._loop.after(self._pause, self._begin_again)
 
     def _begin_again(self) -> None:
-        if self._closed:
+        if self.closed:
             return
         try:
             self._begin()
@@ -145,5 +145,5 @@ class Restarted:
 
     def end(self) -> None:
         """Ends it for good."""
-        self._closed = True
+        self.closed = True
         self.guard.end()

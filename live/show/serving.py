@@ -70,7 +70,7 @@ class Reader:
 
     def __init__(self, server: Server, line: socket.socket, host: str) -> None:
         self._server, self._line = server, line
-        self.host = host  # its machine's address
+        self.host = host  # its machine's address; empty if there was no place for it
         self._received = bytearray()
         self.unsent: Deque[memoryview] = collections.deque()
         self._keeps = True
@@ -79,7 +79,6 @@ class Reader:
         self._stream: Optional[Stream] = None
         self._dropped: Optional[int] = None  # bytes that came after the last request
         self.is_known = False  # whether it has given the password
-        self.is_turned_away = False  # whether there was no place for it
         self.ends_at = server.loop.now() + WHOLE
         self._watch()
 
@@ -327,15 +326,14 @@ class Server:
         if not has_room and len(self.readers) - len(self._served()) >= room.turned_away:
             turn_away(line, self.fields)
             return
-        reader = Reader(self, line, host)
+        reader = Reader(self, line, host if has_room else "")
         self.readers[reader] = None
         if not has_room:
-            reader.is_turned_away = True
             self.guard(reader, lambda: reader.complain(503))
 
     def _served(self, host: str = "") -> List[Reader]:
         """The readers that have a place, all or those behind an address."""
-        return [reader for reader in self.readers if not reader.is_turned_away and host in ("", reader.host)]
+        return [reader for reader in self.readers if reader.host and host in ("", reader.host)]
 
     def _make_place(self, readers: Iterable[Reader]) -> None:
         """Ends one of these that gives way, the oldest of those that go first, if any does."""

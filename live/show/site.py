@@ -185,17 +185,15 @@ class SiteFiles:
         self._loop, self._folder, self._title, self._broadcast, self._says = loop, folder, title, broadcast, says
         number = title.round if re.fullmatch("[0-9]{1,3}", title.round) else ""
         self._round = f"round{number}"
-        self._state = f"{self._round}/{STATE}"
         self._offset = time.time() - loop.now()
         self._written: Texts = {}  # each state without its time
         self._games: FrozenSet[str] = frozenset()  # the files of the round's games
         self._renewed_at = -RENEWED
         self._told = ""
-        self._closed = False
         self._part = Restarted(loop, self._begin, trouble, AGAIN)
 
     def _begin(self, guard: Guard) -> None:
-        self._guard, self._worker = guard, Worker(guard)
+        self._worker = Worker(guard)
         guard.opened(self._worker.close)
         guard.after(0, self._look)
 
@@ -210,26 +208,26 @@ class SiteFiles:
         texts = of_round if self._written else {**page_files(), **of_round}
         changed = {name for name, text in texts.items() if self._written.get(name) != text}
         if changed or renews:
-            changed.add(self._state)
+            changed.add(f"{self._round}/{STATE}")
         return {name: text for name, text in texts.items() if name in changed}
 
     def _look(self) -> None:
         """Writes what has changed, and looks again."""
         texts = self._texts(self._loop.now() >= self._renewed_at + RENEWED)
         if not texts:
-            self._guard.after(LOOK, self._look)
+            self._part.guard.after(LOOK, self._look)
             return
         now = self._loop.now()
 
         def done(made: Made) -> None:
             self._take(texts, made, now)
-            self._guard.after(AGAIN if made.trouble else LOOK, self._look)
+            self._part.guard.after(AGAIN if made.trouble else LOOK, self._look)
 
         self._worker.do(lambda: self._write(texts, False), done)
 
     def _write(self, texts: Texts, ended: bool) -> Made:
         """Writes these files; the state has the time."""
-        state = self._state
+        state = f"{self._round}/{STATE}"
         of_now = {name: stamped(text, time.time(), ended) if name == state else text for name, text in texts.items()}
         return outcome(lambda: write(self._folder, self._title.event, self._round, of_now, self._games))
 
@@ -247,9 +245,8 @@ class SiteFiles:
 
     def finish(self) -> None:
         """Writes it a last time."""
-        if self._closed:
+        if self._part.closed:
             return
-        self._closed = True
         self._worker.close()
         self._worker.wait()
         self._part.end()

@@ -2,13 +2,14 @@
 
 from __future__ import annotations
 
-from dataclasses import dataclass, field
+from dataclasses import dataclass, field, replace
 from typing import Callable, Dict, Iterable, Mapping, Optional, Protocol, Tuple, Union
 
 from live.board.advice import wants_a_line
 from live.game.course import clocks_of
 from live.game.options import PLAYERS
-from live.out.spectators import Game, Ply, SpectatorBoard, json_text, pgn_path, same_front, sheet_of
+from live.game.tags import SIDES
+from live.out.spectators import Game, Player, Ply, SpectatorBoard, board_text, json_text, pgn_path, players_of, sheet_of
 from live.run.guard import traced
 from live.words.message import Message, linked
 
@@ -18,28 +19,27 @@ NOT_PUBLISHED = Message("page.not_published")
 
 
 @dataclass(frozen=True)
-class BoardView:
-    """A board and its game.
+class Standing:
+    """How a board stands, in words without a time; since when, in the time of `Loop.now`; and what an arbiter does about it."""
 
-    `positions` are FENs: of the start and after each ply, as far as they are known. `state` is in words, without a time;
-    `since` is when it began, in the time of `Loop.now`. `mend` is what an arbiter does about it. The clocks are White's and
-    Black's, empty if unknown; so are titles, ratings, teams and federations.
-    """
-
-    number: int
-    name: str
-    white: str = ""
-    black: str = ""
-    titles: Tuple[str, str] = ("", "")
-    ratings: Tuple[str, str] = ("", "")
-    teams: Tuple[str, str] = ("", "")
-    federations: Tuple[str, str] = ("", "")
-    result: str = "*"
     state: str = ""
     since: Optional[float] = None
     alarm: bool = False
     mend: str = ""
     differing: Tuple[str, ...] = ()
+
+
+@dataclass(frozen=True)
+class BoardView:
+    """A board and its game. `positions` are FENs: of the start and after each ply, as far as they are known. The clocks are White's and
+    Black's, empty if unknown."""
+
+    number: int
+    name: str
+    white: Player = Player()
+    black: Player = Player()
+    result: str = "*"
+    standing: Standing = Standing()
     clocks: Tuple[str, str] = ("", "")
     moves: Tuple[Ply, ...] = ()
     positions: Tuple[str, ...] = ()
@@ -47,34 +47,23 @@ class BoardView:
     tags: Mapping[str, str] = field(default_factory=dict)  # those that are published in other letters, or that `pgn` hasn't
 
     def text(self, offset: float, before: Optional[BoardView]) -> bytes:
-        """The JSON text. With `before`, which the page has, unchanged moves and positions at the front are left out, and `kept` counts
-        them. `offset` turns the loop's time into seconds since 1970."""
-        moves = same_front(before.moves, self.moves) if before else 0
-        positions = same_front(before.positions, self.positions) if before else 0
+        """The JSON text, for a page that has the earlier view. `offset` turns the loop's time into seconds since 1970."""
+        standing = self.standing
         values: Dict[str, object] = {
             "number": self.number,
             "name": self.name,
-            "white": self.white,
-            "black": self.black,
-            "titles": self.titles,
-            "ratings": self.ratings,
-            "teams": self.teams,
-            "federations": self.federations,
+            **players_of(self.white, self.black),
             "result": self.result,
-            "state": self.state,
-            "since": None if self.since is None else round(self.since + offset, 1),
-            "alarm": self.alarm,
-            "mend": self.mend,
-            "differing": self.differing,
+            "state": standing.state,
+            "since": None if standing.since is None else round(standing.since + offset, 1),
+            "alarm": standing.alarm,
+            "mend": standing.mend,
+            "differing": standing.differing,
             "clocks": self.clocks,
             "pgn": pgn_path(self.number),
             **sheet_of(self.pgn, self.tags),
-            "moves": [{"san": ply.san, "clock": ply.clock, "kind": ply.kind} for ply in self.moves[moves:]],
-            "positions": self.positions[positions:],
         }
-        if before:
-            values["kept"] = {"moves": moves, "positions": positions}
-        return json_text(values)
+        return board_text(values, ("san", "clock", "kind"), self.moves, self.positions, (before.moves, before.positions) if before else None)
 
 
 Board = Union[BoardView, SpectatorBoard]  # as a page shows it
@@ -138,31 +127,22 @@ class ArbiterView:
 
 def view_of(game: Attended) -> BoardView:
     """A game as it is shown. Each move is shown with its position."""
-    board, tags = game.board, dict(game.options.tags)
+    board, options = game.board, game.options
     words, since, alarm = game.standing()
     plies = board.plies[: max(0, len(board.fens) - 1)]
-    white, black = map(game.options.written, PLAYERS)
-    titles, ratings, teams, federations = (
-        (tags.get(f"White{what}", ""), tags.get(f"Black{what}", "")) for what in ("Title", "Elo", "Team", "Fed")
-    )
+    tags = dict(options.tags)
+    white, black = (replace(Player.of_tags(tags, side, ""), name=options.written(option)) for side, option in zip(SIDES, PLAYERS))
+    mend = linked("stop", (game.advice, IN_THE_TERMINAL)) if wants_a_line(game.advice) else game.advice
     return BoardView(
-        number=game.number,
-        name=game.name,
-        white=white,
-        black=black,
-        titles=titles,
-        ratings=ratings,
-        teams=teams,
-        federations=federations,
-        result=board.result,
-        state=NOT_RECORDED if board.trouble else words,
-        since=since,
-        alarm=alarm,
-        mend=linked("stop", (game.advice, IN_THE_TERMINAL)) if wants_a_line(game.advice) else game.advice,
-        differing=board.differing,
-        clocks=clocks_of(plies),
-        moves=tuple(Ply(ply.san, ply.clock, "correction" if ply.corrects else "move") for ply in plies),
-        positions=tuple(board.fens),
-        pgn=board.pgn,
-        tags=tags,
+        game.number,
+        game.name,
+        white,
+        black,
+        board.result,
+        Standing(NOT_RECORDED if board.trouble else words, since, alarm, mend, board.differing),
+        clocks_of(plies),
+        tuple(Ply(ply.san, ply.clock, "correction" if ply.corrects else "move") for ply in plies),
+        tuple(board.fens),
+        board.pgn,
+        tags,
     )

@@ -16,7 +16,7 @@ from typing import Any, Callable, Counter, Dict, List, Mapping, Optional, Sequen
 sys.dont_write_bytecode = True
 sys.path[:0] = [str(pathlib.Path(__file__).resolve().parents[number]) for number in (2, 1)]
 from live.out.spectators import Clocks, Player, Ply, Shot, SpectatorBoard  # noqa: E402
-from live.show.view import Board, BoardView, RoundView  # noqa: E402
+from live.show.view import Board, BoardView, RoundView, Standing  # noqa: E402
 from live.run.loop import Loop, Watch  # noqa: E402
 from live.show import page, serving  # noqa: E402
 from live.show.address import Address, Door, names_of, read_address  # noqa: E402
@@ -79,44 +79,34 @@ class CountedLine:
         return call
 
 
+def players_of(values: SpectatorsGiven) -> Tuple[Player, Player]:
+    """White and Black, of JSON."""
+    more = (values.get(what, ("", "")) for what in ("titles", "ratings", "teams", "federations"))
+    white, black = (Player(*parts) for parts in zip((values["white"], values["black"]), *more))
+    return white, black
+
+
 def spectators_board_of(values: SpectatorsGiven, now: float) -> SpectatorBoard:
     """A board as spectators see it, of JSON."""
-    players = [
-        Player(*parts)
-        for parts in zip(
-            (values["white"], values["black"]),
-            *(values.get(what, ("", "")) for what in ("titles", "ratings", "teams", "federations")),
-        )
-    ]
     white, black = values["clocks"]
     clocks = Clocks(white, black, values.get("runs", ""), now - values.get("ago", 0.0))
     moves = tuple(Ply(*move[:2]) for move in values["moves"])
     pgn = values["pgn"].encode()
     shot = Shot(values["result"], moves, tuple(values["positions"]), pgn, clocks)
-    return SpectatorBoard(values["number"], players[0], players[1], shot, pgn)
-
-
-def pair_of(texts: Sequence[str]) -> Tuple[str, str]:
-    white, black = texts
-    return white, black
+    return SpectatorBoard(values["number"], *players_of(values), shot, pgn)
 
 
 def board_of(values: SpectatorsGiven, _: float) -> BoardView:
     """A board, of JSON."""
+    white, black = players_of(values)
     white_clock, black_clock = values["clocks"]
     return BoardView(
         number=values["number"],
         name=values["name"],
-        white=values["white"],
-        black=values["black"],
-        teams=pair_of(values.get("teams", ("", ""))),
-        federations=pair_of(values.get("federations", ("", ""))),
+        white=white,
+        black=black,
         result=values["result"],
-        state=values["state"],
-        since=values["since"],
-        alarm=values["alarm"],
-        mend=values["mend"],
-        differing=tuple(values["differing"]),
+        standing=Standing(values["state"], values["since"], values["alarm"], values["mend"], tuple(values["differing"])),
         clocks=(white_clock, black_clock),
         moves=tuple(Ply(*move) for move in values["moves"]),
         positions=tuple(values["positions"]),

@@ -37,15 +37,15 @@ def nothing_private() -> None:
         view = view_of(cast(Attended, Stand(reason, f"NOT RECORDED: {reason}")))
         text = view.text(0.0, None)
         same(f"{reason}: nothing of it", [word for word in (b"/home", b"/dev", b"anna", b"sudo") if word in text], [])
-        same(f"{reason}: that it isn't recorded", (view.state.startswith("NOT RECORDED"), view.alarm), (True, True))
-    same("any other state is shown", view_of(cast(Attended, Stand("", "WRONG: e2"))).state, "WRONG: e2")
+        same(f"{reason}: that it isn't recorded", (view.standing.state.startswith("NOT RECORDED"), view.standing.alarm), (True, True))
+    same("any other state is shown", view_of(cast(Attended, Stand("", "WRONG: e2"))).standing.state, "WRONG: e2")
 
 
 def what_to_do() -> None:
     """The page says what the terminal says, and where lines are typed."""
     look = Message("advice.look", how=Message("typed.line", line="5 ok"))
     for advice, expected in (("Plug it in", "Plug it in"), ("", ""), (look, f"{look}. {IN_THE_TERMINAL}")):
-        same(advice, view_of(cast(Attended, Stand("", "WRONG: e2", advice))).mend, expected)
+        same(advice, view_of(cast(Attended, Stand("", "WRONG: e2", advice))).standing.mend, expected)
 
 
 PUBLISHED = '[Event "Club"]\n[Site "Zürich \\"Süd\\""]\n[Date "2024.05.31"]\n[TimeControl "5400+30"]\n\n1. e4 *\n'.encode()
