@@ -17,7 +17,7 @@ from live.game.game import end_mark, kept_tags
 from live.game.options import Options
 from live.out.again import is_unseen
 from live.out.broadcast import Broadcast
-from live.out.delay import HOLD, GoingOut, clock_in, delay_of, keep_delay, keep_out, kept_out, minutes, told_of_kept
+from live.out.delay import GoingOut, clock_in, delay_of, keep_delay, keep_out, kept_out, told_of_kept
 from live.run.lock import locked
 from live.run.loop import Loop
 from live.run.refused import REFUSED, Refused
@@ -44,24 +44,22 @@ class Audience:
         where, are_kept = pages_of(paths, call.pages)
         self._pages = TwoPages(loop, where, are_kept)
         self._to_keep = None if are_kept else call.pages
-        self._delay = delay_of(paths, None, [paths]) if call.out.delay is None else call.out.delay
+        delay = delay_of(paths, None, [paths]) if call.out.delay is None else call.out.delay
         kept = kept_out(paths)
-        self._told_of_kept = told_of_kept(kept, call.out.hold, bool(call.out.publish))
-        self._hold = next((seconds for seconds in (call.out.hold, kept.hold) if seconds is not None), HOLD)
-        self._late = minutes(self._delay) if self._delay else ""
-        self._event = os.path.basename(call.name)
-        self._title = Title(given.event or self._event, given.round or "", self._late)
+        self._told = told_of_kept(kept, call.out.hold, bool(call.out.publish))
+        self._out = GoingOut(delay, call.out.publish, hold=kept.hold_with(call.out.hold))
 
     def join(self, single: Single) -> None:
         """From now on the game of this board is shown. The call ends when spectators have seen it."""
-        call, paths, delay = self._call, self._paths, self._delay
-        goes_out = delay or call.out.publish or self._given.tags or kept_tags(paths) or os.path.lexists(paths.broadcast)
-        place, out = paths.broadcast if goes_out else None, GoingOut(delay, call.out.publish, hold=self._hold)
+        call, paths, out = self._call, self._paths, self._out
+        goes_out = out.delay or out.command or self._given.tags or kept_tags(paths) or os.path.lexists(paths.broadcast)
+        place, event = paths.broadcast if goes_out else None, os.path.basename(call.name)
         self._broadcast = broadcast = Broadcast(
             self._loop, self._program, out, place, lambda: [single] if single.is_open else [], single.say, single.trouble, paths.name
         )
         self._pages.trouble = single.trouble
-        self._pages.show(self._title, ArbiterView(self._event, lambda: [single], single.trouble), broadcast)
+        title = Title(self._given.event or event, self._given.round or "", out.late)
+        self._pages.show(title, ArbiterView(event, lambda: [single], single.trouble), broadcast)
 
         def opened() -> None:
             if call.out.delay is not None:  # not sooner: a call that is refused keeps none
@@ -95,10 +93,10 @@ class Audience:
             greeting.append(Message("board.ctrl_c_ends"))
         if self.is_unseen:
             greeting.append(Message("delay.over_unseen", name=self._paths.name))
-        if self._late:
-            late = Message("delay.game", late=self._late)
+        if self._out.late:
+            late = Message("delay.game", late=self._out.late)
             greeting.append(Message("delay.as_before", delay=late) if self._call.out.delay is None else late)
-        return (*greeting, *self._told_of_kept)
+        return (*greeting, *self._told)
 
     def hears(self, text: str) -> bool:
         """Whether a typed line still counts: while the last text is being published, only lines that end the call do."""

@@ -15,7 +15,7 @@ from live.game.files import LOCK_PATIENCE, Paths, text_of
 from live.game.game import keep_options, kept_options
 from live.game.opening import recordable, turned, unknown
 from live.game.options import RECOVER, STRICT, UNKNOWN, Options, as_typed, assigned
-from live.out.delay import HOLD, GoingOut, delay_of, in_home, keep_out, kept_out, minutes, told_of_kept as told_of_kept_out
+from live.out.delay import GoingOut, delay_of, in_home, keep_out, kept_out, told_of_kept as told_of_kept_out
 from live.out.outputs import (
     OUTPUT, Output, held, left_in, name_in, read_outputs, refuse_games_in_site, refuse_links, refuse_shared_sites, refuse_unknown, removed,
     sites_given, told_of, without_those,
@@ -239,20 +239,19 @@ def play(asked: Asked, program: Program, signals: Signals) -> Outcome:
     where, are_kept = pages_of(files, asked.pages)
     pages = TwoPages(loop, where, are_kept)
     delay = delay_of(files, asked.out.delay, [Paths(str(folder / pairing.file_name)) for pairing in read.boards])
-    late = minutes(delay) if delay else ""
     kept_before = kept_out(files)
-    hold = next((seconds for seconds in (asked.out.hold, kept_before.hold) if seconds is not None), HOLD)
+    out = GoingOut(delay, asked.out.publish, hold=kept_before.hold_with(asked.out.hold))
     shown = given.written("--event") or file.stem
     event = "" if given.event == UNKNOWN else given.written("--event")
     title = linked("comma", filter(None, (event, given.round and Message("round.number", number=given.round)))) or file.stem
     told_of_removed = [removed(folder, output) for output in asked.outputs if not output.out]
     told_of_named = [*filter(None, told_of_removed), *told_of(folder, asked.outputs, left_in(folder))]
-    hall = replace(hall, out=GoingOut(delay, asked.out.publish, hold=hold), outputs=held(asked.outputs, hold))
+    hall = replace(hall, out=out, outputs=held(asked.outputs, out.hold))
     games = Round(loop, source, read, title, hall, of_others)
     for line in filter(None, (told_of_place, told)):
         games.say(line)
-    if late:
-        spectators = Message("delay.round", late=late)
+    if out.late:
+        spectators = Message("delay.round", late=out.late)
         games.say(Message("delay.as_before", delay=spectators) if asked.out.delay is None else spectators)
     for line in (*told_of_kept_out(kept_before, asked.out.hold, bool(asked.out.publish)), *told_of_named):
         games.say(line)
@@ -267,7 +266,7 @@ def play(asked: Asked, program: Program, signals: Signals) -> Outcome:
     arbiter = ArbiterView(shown, games.boards, games.trouble, given.round or "")
     arbiter.is_unpublished = lambda: bool(games.outputs.alarms)
     pages.trouble = games.trouble
-    pages.show(Title(shown, given.round or "", late), arbiter, games.broadcast)
+    pages.show(Title(shown, given.round or "", out.late), arbiter, games.broadcast)
     games.on_change = pages.changed
     for line in filter(None, (*pages.told(Message("tag.round")), pages.secret)):
         games.say(line)  # the round's log has only faults
@@ -277,7 +276,7 @@ def play(asked: Asked, program: Program, signals: Signals) -> Outcome:
     more = files_of(asked.tournament, loop, games) if asked.tournament else None
     for line in told_of_sites(asked):
         games.say(line)
-    sites = sites_of(asked, loop, games, Title(shown, given.round or "", late))
+    sites = sites_of(asked, loop, games, Title(shown, given.round or "", out.late))
     loop.run()
     pages.close()
     complaints = [*(more.close() if more else []), *(line for site in sites for line in site.close())]

@@ -44,6 +44,11 @@ class GoingOut:
     name: str = ""
     hold: float = HOLD
 
+    @property
+    def late(self) -> str:
+        """How late it is, in words; empty if it isn't."""
+        return minutes(self.delay) if self.delay else ""
+
 
 def seconds_in(text: str) -> Optional[float]:
     """`15` minutes in seconds; None if the text is not such a number."""
@@ -153,6 +158,10 @@ class KeptOut:
 
     hold: Optional[float] = None
     command: bool = False
+
+    def hold_with(self, given: Optional[float]) -> float:
+        """For how many seconds a last ply must stand, if this was given."""
+        return next((seconds for seconds in (given, self.hold) if seconds is not None), HOLD)
 
 
 def read_kept(text: str) -> KeptOut:

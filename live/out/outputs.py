@@ -14,7 +14,7 @@ from live.child.program import Program
 from live.game.file_names import OF_AN_OUTPUT
 from live.game.files import new_of, remove, text_of
 from live.out.broadcast import Broadcast
-from live.out.delay import GoingOut, in_home, minutes, read_command, seconds_in
+from live.out.delay import GoingOut, in_home, read_command, seconds_in
 from live.out.spectators import Game, Paired
 from live.run.guard import traced
 from live.run.loop import Loop
@@ -48,7 +48,7 @@ class Output:
     @property
     def late(self) -> str:
         """How late it is, in words; empty if it isn't."""
-        return minutes(self.out.delay) if self.out and self.out.delay else ""
+        return self.out.late if self.out else ""
 
 
 def held(outputs: Sequence[Output], seconds: float) -> Tuple[Output, ...]:

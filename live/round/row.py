@@ -83,7 +83,8 @@ class RowScreen(Screen):
 
     def __init__(self, number: int, terminal: Optional[Terminal], tells: Tells) -> None:
         super().__init__(terminal)
-        self._number, self._tells = number, tells
+        self._number = number
+        self.tells: Callable[[Union[News, Line]], None] = functools.partial(tells, number)
         self.on_change = functools.partial(tells, number, News.CHANGED)
         self._has_table = terminal is None
         self._held: Optional[List[Tuple[str, ...]]] = None  # what is said while a typed line is obeyed
@@ -111,7 +112,7 @@ class RowScreen(Screen):
         """Shows this in a line of a pipe, or below the table."""
         self.show(text, *more)
         if self._has_table and not any(has(text, key) for key in UNSAID):
-            self._tells(self._number, Line(linked("colon", (str(self._number), linked("space", [text, *more])))))
+            self.tells(Line(linked("colon", (str(self._number), linked("space", [text, *more])))))
 
     def obeys(self, of_table: bool) -> None:
         """A line that was typed, or is of the table, is obeyed from now on: what is said meanwhile is held back."""
@@ -170,7 +171,7 @@ class RowScreen(Screen):
 
     def hint(self, text: str) -> None:
         if self._has_table:
-            self._tells(self._number, Line(linked("colon", (str(self._number), text))))
+            self.tells(Line(linked("colon", (str(self._number), text))))
 
 
 def typed_for(number: int, line: str) -> str:
@@ -178,10 +179,11 @@ def typed_for(number: int, line: str) -> str:
     return f"{number} {line}"
 
 
-def typed_options(hall: Hall, pairing: Pairing) -> Options:
+@functools.lru_cache(maxsize=1024)
+def typed_options(of_all: Options, pairing: Pairing) -> Options:
     """The options of a line with those of all games, and with the published tags. A name that can't be written in ASCII is
     recorded as `White 3` or `Black 3`, with the board's number."""
-    options = Options.of_words(pairing.words(hall.options.words()))
+    options = Options.of_words(pairing.words(of_all.words()))
     tags = {"Board": str(pairing.board)}
     if options.round not in (None, UNKNOWN) and "." not in (options.round or ""):
         tags["Round"] = f"{options.round}.{pairing.board}"
@@ -192,7 +194,7 @@ def typed_options(hall: Hall, pairing: Pairing) -> Options:
 def chosen_by(hall: Hall, pairing: Pairing) -> Chooses:
     """What a line says of its game. Refused if the program refuses that."""
     name = f"{hall.folder}/{pairing.file_name}"
-    return of_a_line(checked(hall.program, typed_options(hall, pairing), Paths(name)), name)
+    return of_a_line(checked(hall.program, typed_options(hall.options, pairing), Paths(name)), name)
 
 
 @dataclass(frozen=True)
@@ -216,7 +218,7 @@ def earlier_game(hall: Hall, pairing: Pairing) -> Optional[Earlier]:
     over, or has a result, and one of them is another; or if it has moves and both are others."""
     paths = Paths(f"{hall.folder}/{pairing.file_name}")
     try:
-        given = turned(typed_options(hall, pairing))
+        given = turned(typed_options(hall.options, pairing))
         kept = kept_options(paths)
         if kept is None:
             return None
@@ -247,18 +249,14 @@ class Row:
 
     def __init__(self, loop: Turns, hall: Hall, pairing: Pairing, tells: Tells, of_number: Callable[[str], Optional[Board]]) -> None:
         self._loop, self._hall, self._of_number = loop, hall, of_number
-        self._tells: Callable[[Union[News, Line]], None] = functools.partial(tells, pairing.board)
         self.pairing = pairing
         paths = Paths(f"{hall.folder}/{pairing.file_name}")
         self._screen = RowScreen(pairing.board, hall.terminal, tells)
         self._screen.needs_board = self._is_played
-        self.came_back: Callable[[], None] = functools.partial(self._tells, News.CAME_BACK)
-        self.numbered: Callable[[], None] = functools.partial(self._tells, News.NUMBERED)
         self.board = Board(loop, hall.program, self._screen, paths, self)
         self.board.called = Message("round.board", board=pairing.board)
         self._screen.is_settled = lambda: bool(self.board.forfeit) or self.board.result == self.pairing.result
         self._device = ""  # the line's device when the recording began
-        self._of_line: Tuple[Optional[Pairing], Options] = (None, Options())  # a line, and its options
         self._wants_result = True
         self._gets_result = False  # whether its game is just getting that of its line
         self._lacks_names = False  # whether its game couldn't get those of its line
@@ -319,17 +317,25 @@ class Row:
         if self._begun_with and not self.board.is_new:
             self._loop.after(0, self._begun_with)
             self._begun_with = None
-        self._tells(News.CHANGED)
+        self._screen.tells(News.CHANGED)
 
     def remade(self) -> None:
         """The text of its game has changed."""
-        self._tells(News.REMADE)
+        self._screen.tells(News.REMADE)
 
     def ended(self, why: Optional[Exception]) -> bool:
         """Its recording has ended, or couldn't begin. It is tried again unless the game is over."""
         if why is None:
             self._loop.after(0, self._apply_result)
         return True
+
+    def came_back(self) -> None:
+        """Its board was away, and is there again."""
+        self._screen.tells(News.CAME_BACK)
+
+    def numbered(self) -> None:
+        """The serial number of its board has just become known."""
+        self._screen.tells(News.NUMBERED)
 
     def missing(self) -> None:
         """The round looks for all boards anyway."""
@@ -349,7 +355,7 @@ class Row:
             self.held = None
         self._wants_result = True
         if before.result == self.board.forfeit != "" and not pairing.result:
-            self._tells(Line(Message("row.no_forfeit", number=self.number, reopens=REOPENS), True))
+            self._screen.tells(Line(Message("row.no_forfeit", number=self.number, reopens=REOPENS), True))
         if same_but_for_result(before, pairing) and not self._lacks_names:
             self._loop.after(0, self._apply_result)
             if not self.board.is_recorded and not self.board.is_over:
@@ -364,7 +370,7 @@ class Row:
         """Its game has the names of its line; or it hasn't, and gets them at the next `r`, or as it is opened."""
         self._lacks_names = answer[0] != DONE
         if self._lacks_names and self.board.is_recorded:
-            self._tells(Line(linked("space", (str(self.number), answer[1])), True))
+            self._screen.tells(Line(linked("space", (str(self.number), answer[1])), True))
         elif self._lacks_names:
             self._begins_otherwise()
 
@@ -389,7 +395,7 @@ class Row:
         if wanted and wanted not in (self.board.forfeit, self.board.result):
             if self.board.result != "*":
                 stays = Message("row.result_stays", wanted=wanted, result=self.board.result)
-                self._tells(Line(Message("row.to_change", number=self.number, stays=stays, wanted=wanted), True))
+                self._screen.tells(Line(Message("row.to_change", number=self.number, stays=stays, wanted=wanted), True))
             else:
                 self._gets_result = True
                 self.add(wanted, self._has_result, of_table=True)
@@ -397,7 +403,7 @@ class Row:
     def _has_result(self, answer: Answer) -> None:
         """What its line says was added, or refused."""
         self._gets_result = False
-        self._tells(Line(linked("colon", (str(self.number), answer[1]))))
+        self._screen.tells(Line(linked("colon", (str(self.number), answer[1]))))
 
     def _is_played(self) -> bool:
         """Whether its game is played: it isn't forfeited, and its line doesn't say so of a game without moves."""
@@ -426,9 +432,7 @@ class Row:
             return self.board.options
         if self.held:
             return self.held.kept
-        if self._of_line[0] is not self.pairing:
-            self._of_line = self.pairing, typed_options(self._hall, self.pairing)
-        return self._of_line[1]
+        return typed_options(self._hall.options, self.pairing)
 
     def standing(self) -> Tuple[str, Optional[float], bool]:
         """Its state in words, since when, and whether somebody must look at it."""
