@@ -22,7 +22,7 @@ import pathlib
 import secrets
 import time
 from dataclasses import dataclass
-from typing import Any, Callable, Dict, List, Optional, Tuple
+from typing import Any, Callable, Dict, List, Optional, Sequence, Tuple
 
 from live.out.broadcast import Broadcast
 from live.out.spectators import json_text, pgn_path, round_pgn, round_text
@@ -74,11 +74,11 @@ SPECTATORS = Site("spectators.html", (*SHARED, "spectators.css", "spectators.js"
 class Shown:
     """A board as readers have it since a change."""
 
-    def __init__(self, board: Board, change: int, page: Page, before: Optional[Shown]) -> None:
+    def __init__(self, board: Board, change: int, changes: Changes, before: Optional[Shown]) -> None:
         self.board, self.change = board, change
         self._before: Any = before.board if before else None  # of the same kind
-        self._identifier = f"{page.epoch}-{change}"
-        self._offset = page.offset
+        self._identifier = f"{changes.epoch}-{change}"
+        self._offset = changes.offset
         self._whole = b""
 
     @property
@@ -95,84 +95,35 @@ class Shown:
         return event("board", self.board.text(self._offset, self._before), self._identifier)
 
 
-class Page:
-    """The page of a round, at an address."""
+class Changes:
+    """The boards as readers have them, and what has changed."""
 
-    def __init__(self, loop: Turns, door: Door, site: Site, trouble: Callable[[str], None]) -> None:
-        self._loop = loop
-        self.offset = time.time() - loop.now()
+    def __init__(self, offset: float) -> None:
+        self.offset = offset  # turns the loop's time into seconds since 1970
         self.epoch = secrets.token_hex(4)  # other calls of the recorder have other events
-        self.header = b""
-        self._change = self._change_before = 0  # the last change of the last publication, and of the one before it
+        self.last = self._before = 0  # the last change of the last publication, and of the one before it
         self._news: Optional[bytes] = None  # what is new to readers who have seen the one before it
-        self._boards: Dict[int, Shown] = {}  # by number, in the order of their changes
-        self._round = RoundView("")
-        self._next: Optional[RoundView] = None
-        self._publishes: Optional[Timer] = None
-        self._published_at = loop.now() - PAUSE
-        self._key = hashlib.blake2b(door.embed.encode("ascii")).digest()
-        self._files = {f"/{name}": self._content(KINDS[pathlib.Path(name).suffix], (FOLDER / name).read_bytes()) for name in site.files}
-        self._files["/"] = self._content(KINDS[".html"], index_of(site))
-        self._made: Dict[str, Content] = {}
-        self._publish(self._round)
-        self._server = Server(loop, door, self, trouble)
+        self.boards: Dict[int, Shown] = {}  # by number, in the order of their changes
 
-    @property
-    def url(self) -> str:
-        return f"http://{self._server.address.text}/"
-
-    @property
-    def readers(self) -> int:
-        """The number of connections."""
-        return len(self._server.readers)
-
-    def now(self) -> float:
-        """The time of day, counted on from the page's beginning."""
-        return self._loop.now() + self.offset
-
-    # What is shown.
-
-    def begin(self, state: RoundView) -> None:
-        """Shows this at once, before there is a reader."""
-        self._publish(state)
-
-    def show(self, state: RoundView) -> None:
-        """Shows this from now on."""
-        self._next = state
-        if self._publishes is None:
-            wait = self._published_at + PAUSE - self._loop.now()
-            self._publishes = self._loop.after(max(0.0, wait), self._publish_next)
-
-    def _publish_next(self) -> None:
-        self._publishes = None
-        self._published_at = self._loop.now()
-        if self._next is not None:
-            self._publish(self._next)
-            self._server.wake()
-
-    def _publish(self, state: RoundView) -> None:
-        self._next, self._round = None, state
-        numbers = [board.number for board in state.boards]
-        header = state.header
-        self.header = self.header if header == self.header else header
-        self._made.clear()
-        self._change_before, self._news = self._change, None
-        for gone in set(self._boards) - set(numbers):
-            del self._boards[gone]
-        for board in state.boards:
-            before = self._boards.get(board.number)
+    def take(self, boards: Sequence[Board]) -> None:
+        """Readers have these boards from now on."""
+        self._before, self._news = self.last, None
+        for gone in set(self.boards) - {board.number for board in boards}:
+            del self.boards[gone]
+        for board in boards:
+            before = self.boards.get(board.number)
             if before is None or before.board is not board and before.board != board:
-                self._change += 1
-                self._boards.pop(board.number, None)
-                self._boards[board.number] = Shown(board, self._change, self, before)
+                self.last += 1
+                self.boards.pop(board.number, None)
+                self.boards[board.number] = Shown(board, self.last, self, before)
 
     def since(self, seen: int) -> Tuple[bytes, int]:
         """The next events for a reader who has seen everything up to this change, and the last change in them."""
-        if seen == self._change_before:
+        if seen == self._before:
             if self._news is None:
                 self._news = b"".join(shown.event(True) for shown in self._newer(seen))
             if len(self._news) <= PART:
-                return self._news, self._change
+                return self._news, self.last
         parts: List[bytes] = []
         size = 0
         for shown in self._newer(seen):
@@ -186,11 +137,67 @@ class Page:
     def _newer(self, seen: int) -> List[Shown]:
         """The boards that have changed after this change, in the order of their changes."""
         newer: List[Shown] = []
-        for shown in reversed(list(self._boards.values())):
+        for shown in reversed(list(self.boards.values())):
             if shown.change <= seen:
                 break
             newer.append(shown)
         return newer[::-1]
+
+
+class Page:
+    """The page of a round, at an address."""
+
+    def __init__(self, loop: Turns, door: Door, site: Site, trouble: Callable[[str], None]) -> None:
+        self._loop = loop
+        self.changes = Changes(time.time() - loop.now())
+        self.header = b""
+        self._round = RoundView("")
+        self._next: Optional[RoundView] = None
+        self._publishes: Optional[Timer] = None
+        self._published_at = loop.now() - PAUSE
+        self._key = hashlib.blake2b(door.embed.encode("ascii")).digest()
+        self._files = {f"/{name}": self._content(KINDS[pathlib.Path(name).suffix], (FOLDER / name).read_bytes()) for name in site.files}
+        self._files["/"] = self._content(KINDS[".html"], index_of(site))
+        self._made: Dict[str, Content] = {}
+        self.begin(self._round)
+        self._server = Server(loop, door, self, trouble)
+
+    @property
+    def url(self) -> str:
+        return f"http://{self._server.address.text}/"
+
+    @property
+    def readers(self) -> int:
+        """The number of connections."""
+        return len(self._server.readers)
+
+    def now(self) -> float:
+        """The time of day, counted on from the page's beginning."""
+        return self._loop.now() + self.changes.offset
+
+    # What is shown.
+
+    def begin(self, state: RoundView) -> None:
+        """Shows this at once."""
+        self._next, self._round = None, state
+        header = state.header
+        self.header = self.header if header == self.header else header
+        self._made.clear()
+        self.changes.take(state.boards)
+
+    def show(self, state: RoundView) -> None:
+        """Shows this from now on."""
+        self._next = state
+        if self._publishes is None:
+            wait = self._published_at + PAUSE - self._loop.now()
+            self._publishes = self._loop.after(max(0.0, wait), self._publish)
+
+    def _publish(self) -> None:
+        self._publishes = None
+        self._published_at = self._loop.now()
+        if self._next is not None:
+            self.begin(self._next)
+            self._server.wake()
 
     # What is served.
 
@@ -206,7 +213,7 @@ class Page:
     def _make(self, path: str) -> Optional[Content]:
         boards = self._round.boards
         if path == "/state.json":
-            texts = [self._boards[board.number].whole for board in boards]
+            texts = [self.changes.boards[board.number].whole for board in boards]
             return self._content(JSON, round_text(self._round.values, texts))
         if path == "/round.pgn":
             return self._content(PGN, round_pgn(board.pgn for board in boards))
@@ -222,8 +229,8 @@ class Page:
         if path != "/events":
             return None
         epoch, _, seen = last.partition("-")
-        known = epoch == self.epoch and seen.isascii() and seen.isdigit() and len(seen) < 16
-        return Events(self, int(seen) if known and int(seen) <= self._change else 0)
+        known = epoch == self.changes.epoch and seen.isascii() and seen.isdigit() and len(seen) < 16
+        return Events(self, int(seen) if known and int(seen) <= self.changes.last else 0)
 
     def close(self) -> None:
         """Ends all connections."""
@@ -252,7 +259,7 @@ class Events:
         if self._header is not self._page.header:
             self._header = self._page.header
             first += event("round", self._header)
-        boards, self._seen = self._page.since(self._seen)
+        boards, self._seen = self._page.changes.since(self._seen)
         return first + boards if first else boards
 
 

@@ -139,13 +139,10 @@ def beats() -> None:
 class Clock:
     """What the events of a page ask of it, at a time that is said."""
 
-    header, time = b"{}", 100.0
+    header, time, changes = b"{}", 100.0, page.Changes(0.0)
 
     def now(self) -> float:
         return self.time
-
-    def since(self, seen: int) -> Tuple[bytes, int]:
-        return b"", seen
 
 
 def when_it_beats() -> None:
