@@ -1,8 +1,8 @@
 """The options of both commands, in one table: a command line is read by it, and `--help`, man pages and completion are compared with it.
 How a call begins, and how it ends: its standard streams, its complaints, its status.
 
-A command line is read here, and not by argparse: to load that takes as long as a seventh of a start, and it would take `-1` and `--` for
-options that are names of players.
+A command line is read here, and not by argparse: that costs a twentieth of a start, and takes `-1` and `--`, which may be names, for
+options.
 """
 
 from __future__ import annotations
