@@ -9,11 +9,9 @@ from typing import Sequence, Tuple
 from live.board.single import QUITS, Single
 from live.child.program import Program
 from live.doors.calls import Call
-from live.game.file_names import has_delay
 from live.game.files import Paths
-from live.game.forfeiting import forfeit_of
-from live.game.forfeits import told_to_readers
-from live.game.game import end_mark, kept_tags
+from live.game.forfeits import forfeit_of, told_to_readers
+from live.game.game import end_mark, has_delay, kept_tags
 from live.game.options import Options
 from live.game.tags import published
 from live.out.broadcast import Broadcast

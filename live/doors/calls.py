@@ -5,11 +5,9 @@ from __future__ import annotations
 from dataclasses import dataclass
 from typing import Dict, List, Optional, Sequence, Tuple
 
-from live.child.reply import BACK
 from live.game.options import PLAIN, RECOVER, SEE_HELP, STRICT, TAG, VALUED, Options, assigned, meant, no_option, typed_tag, typed_value, with_help
 from live.out.going_out import read_command, read_delay, read_hold
-from live.run.called import DGT_LIVE
-from live.run.refused import ARGUMENTS, Refused
+from live.run.refused import ARGUMENTS, BACK, DGT_LIVE, Refused
 from live.show.address import Pages, read_pages
 from live.words.message import Message
 

@@ -7,23 +7,21 @@ import importlib
 import os
 from typing import Any, Callable, Sequence
 
-from live.board.plan import Plan, numbered
-from live.board.reasons import Rules
+from live.board.plan import Plan, Rules, numbered
 from live.board.single import Choice, Single
 from live.child.program import Program
 from live.doors import calls
 from live.doors.calls import Call
 from live.doors.door import Outcome, through
 from live.game import files
-from live.game.file_names import check_name, has_delay
 from live.game.files import Paths
-from live.game.game import kept_tags
+from live.game.game import check_name, has_delay, kept_tags
+from live.game.log import Screen
 from live.game.opening import checked
 from live.game.options import Options
 from live.out import published_text
 from live.run.loop import Loop, Signals
 from live.run.refused import DONE, FAILED, Refused
-from live.show.screen import Screen
 from live.show.terminal import Terminal, Typed
 from live.words.message import Message, linked
 

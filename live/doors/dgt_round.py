@@ -20,19 +20,17 @@ from live.child.program import Program
 from live.doors import calls
 from live.doors.calls import refuse_both, refuse_hosts
 from live.doors.door import Outcome, through
-from live.game.file_names import ROUND, is_of_an_output
 from live.game.files import LOCK_PATIENCE, Paths, text_of
-from live.game.game import keep_options, kept_options
+from live.game.game import ROUND, is_of_an_output, keep_options, kept_options
 from live.game.opening import recordable, turned, unknown
 from live.game.options import RECOVER, STRICT, TAG, UNKNOWN, Options, as_typed, assigned, meant, no_option, typed_tag, typed_value, with_help, without_help
 from live.out.site import SiteFiles, refuse_no_site
 from live.round.display import terminal_of_lines
 from live.round.round import Round, first_pairings, refuse_another_round
 from live.round.row import Hall
-from live.run.called import DGT_ROUND
-from live.run.lock import locked
 from live.run.loop import Loop, Signals
-from live.run.refused import ARGUMENTS, DONE, FAILED, REFUSED, Refused
+from live.run.refused import ARGUMENTS, DGT_ROUND, DONE, FAILED, REFUSED, Refused
+from live.run.system import locked
 from live.show.address import Pages, read_pages
 from live.show.doors import Title, TwoPages
 from live.show.kept_pages import keep_pages, pages_of

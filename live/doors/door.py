@@ -6,9 +6,9 @@ import os
 import sys
 from typing import Callable, Sequence, Tuple
 
-from live.run import descriptors
 from live.run.loop import Signals
 from live.run.refused import DONE, FAILED, Refused, printable
+from live.run.system import raise_limit
 from live.show.terminal import folded_for, leave_as_found, open_standard_streams
 
 Outcome = Tuple[int, Sequence[str]]  # a status, and complaints
@@ -17,7 +17,7 @@ Outcome = Tuple[int, Sequence[str]]  # a status, and complaints
 def through(command: str, call: Callable[[Signals], Outcome]) -> int:
     """Makes the call, prints its complaints, and returns its status."""
     open_standard_streams()
-    descriptors.raise_limit()
+    raise_limit()
     signals = Signals()
     status, complaint = DONE, ""
     try:

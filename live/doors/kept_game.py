@@ -5,30 +5,26 @@ from __future__ import annotations
 import os
 from typing import List
 
+from live.board import typed_lines as control
+from live.board.connection import Asked, ask, listing, told_of_shut
 from live.board.plan import last_number, numbered
-from live.child import control
 from live.child.program import Program
-from live.child.refusal import is_recorded
-from live.child.reply import OK, REOPENS, Answer
 from live.doors.calls import Call
 from live.doors.door import Outcome
 from live.game import files, packing
 from live.game.changing import add_by_name, told_of_round, told_of_series
-from live.game.file_names import check_name, has_delay
 from live.game.files import LOCK_PATIENCE, Paths
+from live.game.game import check_name, has_delay
 from live.game.log import log_once
 from live.game.making_pgn import first_time
-from live.game.names import today
-from live.game.naming import line_of
-from live.game.opening import Opening, checked, read_otherwise
-from live.game.options import Options
-from live.line import serial_line
-from live.line.numbers import Asked, ask, listing, told_of_shut
+from live.game.opening import Opening, checked, is_recorded, read_otherwise
+from live.game.options import Options, line_of
+from live.game.tags import today
+from live.line.line import devices, login_name
 from live.out import published_text
 from live.out.unseen import is_hidden
-from live.run.called import DGT_LIVE
 from live.run.loop import Loop
-from live.run.refused import DONE, FAILED, REFUSED, Refused, printable
+from live.run.refused import DGT_LIVE, DONE, FAILED, OK, REFUSED, REOPENS, Answer, Refused, printable
 from live.words.message import Message, linked
 
 
@@ -125,10 +121,10 @@ def pack(call: Call, here: str) -> Outcome:
 
 def list_devices(here: str) -> Outcome:
     """Prints the list of the devices that are plugged in."""
-    found = serial_line.devices()
-    devices = ask(Program.find(here), [device for device, _ in found]) if found else Asked()
-    print("\n".join(listing(found, devices)))
-    shut = told_of_shut(devices, serial_line.login_name())
+    found = devices()
+    asked = ask(Program.find(here), [device for device, _ in found]) if found else Asked()
+    print("\n".join(listing(found, asked)))
+    shut = told_of_shut(asked, login_name())
     return (FAILED if shut else DONE), shut
 
 

@@ -7,8 +7,7 @@ from dataclasses import dataclass
 from typing import AbstractSet, List, Mapping, Optional
 
 from live.game import times
-from live.game.began import Began, Begin, Part, as_written
-from live.game.times import OF_BYTES, OVER, Call, Kept
+from live.game.times import OF_BYTES, OVER, Began, Begin, Call, Kept, Part, as_written
 
 
 @dataclass(frozen=True)

@@ -12,8 +12,9 @@ from typing import Callable, Dict, Iterable, List, Optional, Protocol, Sequence,
 
 from live.child.program import Program
 from live.game.files import AnyPath, Paths, folder_of, remove, sync_folder
-from live.game.forfeits import NO_RESULT, told_to_readers
+from live.game.forfeits import told_to_readers
 from live.game.tags import published
+from live.game.typed import NO_RESULT
 from live.out import went_out
 from live.out.games import Game, Shots, written_name
 from live.out.going_out import GoingOut
@@ -27,9 +28,7 @@ from live.out.steady import Steady
 from live.out.view import Player, SpectatorBoard, said_of_matches
 from live.out.waiting import Waiting
 from live.out.went_out import Keeper, WentOut
-from live.run.beside import Worker
-from live.run.guard import Guard, traced
-from live.run.loop import Loop, Timer
+from live.run.loop import Guard, Loop, Timer, Worker, traced
 from live.run.refused import Refused
 from live.words.message import Message, linked
 

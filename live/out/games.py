@@ -6,8 +6,8 @@ from dataclasses import dataclass
 from typing import List, Optional, Protocol, Sequence, Tuple
 
 from live.board.board import Board
-from live.child.report import Clock, Move
-from live.game.course import clocks_of
+from live.child.lines import Clock, Move
+from live.game.reading import clocks_of
 from live.game.tags import Tags
 from live.out.running import STANDING, Clocks, Running
 from live.out.seen import Ply

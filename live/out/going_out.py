@@ -9,8 +9,8 @@ import shlex
 from dataclasses import dataclass
 from typing import Optional, Sequence, Tuple
 
-from live.game.file_names import has_delay, owners_of
 from live.game.files import NO_SUCH_FILE, Paths, beginning, existing, not_written, put_in_place, remove, text_of
+from live.game.game import has_delay, owners_of
 from live.run.refused import ARGUMENTS, FAILED, REFUSED, Refused
 from live.words.message import Message, linked
 

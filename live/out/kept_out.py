@@ -6,8 +6,8 @@ from __future__ import annotations
 from dataclasses import dataclass
 from typing import List, Optional
 
-from live.game.file_names import owners_of
 from live.game.files import NO_SUCH_FILE, Paths, beginning, not_written, put_in_place, text_of
+from live.game.game import owners_of
 from live.out.going_out import HOLD, read_hold
 from live.run.refused import FAILED, REFUSED, Refused
 from live.words.message import Message

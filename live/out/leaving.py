@@ -9,9 +9,9 @@ from typing import Callable, Optional
 
 from live.game.files import LOCK_PATIENCE, Paths, open_regular
 from live.out.broadcast import Broadcast
-from live.run.lock import locked
 from live.run.loop import Loop
 from live.run.refused import REFUSED, Refused
+from live.run.system import locked
 from live.words.message import Message
 
 LOOK, SOON = 0.5, 0.05  # seconds

@@ -9,8 +9,8 @@ import re
 from dataclasses import dataclass, replace
 from typing import List, Optional, Sequence, Tuple
 
-from live.game.file_names import OF_AN_OUTPUT
 from live.game.files import new_of, remove, text_of
+from live.game.game import OF_AN_OUTPUT
 from live.out.going_out import GoingOut, in_home, minutes, read_command, seconds_in
 from live.run.refused import ARGUMENTS, REFUSED, Refused
 from live.words.message import Message, linked, plural

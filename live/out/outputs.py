@@ -13,8 +13,7 @@ from live.out.games import Game
 from live.out.going_out import GoingOut
 from live.out.matches import Paired
 from live.out.named_output import TEXT, Output
-from live.run.guard import traced
-from live.run.loop import Loop
+from live.run.loop import Loop, traced
 
 
 def broadcast_of(

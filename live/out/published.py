@@ -7,8 +7,7 @@ from typing import Callable, Optional
 from live.board.state import trouble_of
 from live.game.files import AnyPath, put_in_place
 from live.game.making_pgn import Made
-from live.run.beside import Worker
-from live.run.loop import Timer, Turns
+from live.run.loop import Timer, Turns, Worker
 from live.words.message import Message
 
 AGAIN = 1.0  # seconds after a failed try

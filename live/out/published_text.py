@@ -4,8 +4,7 @@ from __future__ import annotations
 
 from live.game import files
 from live.game.files import Paths
-from live.game.forfeiting import forfeit_of
-from live.game.forfeits import told_to_readers
+from live.game.forfeits import forfeit_of, told_to_readers
 from live.game.game import kept_options
 from live.game.tags import published
 from live.run.refused import FAILED, Refused

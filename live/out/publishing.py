@@ -17,8 +17,7 @@ from dataclasses import dataclass
 from typing import Callable, Optional, Protocol, Sequence, Tuple
 
 from live.game.files import AnyPath
-from live.run.beside import Worker
-from live.run.loop import ENDING, Timer, Turns
+from live.run.loop import ENDING, Timer, Turns, Worker
 from live.words.message import Message
 
 EACH = 5.0  # least seconds between the beginnings of two runs

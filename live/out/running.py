@@ -12,7 +12,7 @@ import functools
 from dataclasses import dataclass
 from typing import List, Optional, Tuple
 
-from live.child.report import Clock
+from live.child.lines import Clock
 
 WRONG = 2  # seconds that a clock may show more than the browser's count
 BEHIND = 1  # seconds that it may show less

@@ -11,18 +11,15 @@ import threading
 from dataclasses import dataclass, replace
 from typing import Callable, Iterator, List, Optional, Sequence, Tuple
 
-from live.child.attended import CAPTURE, PIECE, TEXT, Answer, Answers, entry
+from live.child.lines import CAPTURE, PIECE, TEXT, Answer, Answers, Clock, Move, Recovered, Result, entry, line_of
 from live.child.program import CHUNK, Program, told_of_ending
-from live.child.reading import new_course, wanted
-from live.child.report import Clock, Move, Recovered, Result, line_of
 from live.game import timed
-from live.game.began import read_began, this_start
-from live.game.course import Course
 from live.game.files import Opened, Paths, existing, open_regular, part_of
-from live.game.forfeiting import forfeit_of, forfeited_after
+from live.game.forfeits import forfeit_of, forfeited_after
 from live.game.game import end_mark, kept_options
 from live.game.options import Options
-from live.game.times import HEADED
+from live.game.reading import Course, new_course, wanted
+from live.game.times import HEADED, read_began, this_start
 from live.out.ages import Came, calls_of, came, over_at, within
 from live.out.games import Shots
 from live.out.running import STANDS

@@ -21,9 +21,7 @@ from live.game.making_pgn import Made
 from live.out.matches import printed
 from live.out.seen import RoundView, json_text, pgn_path, round_pgn, round_text
 from live.out.view import SpectatorBoard
-from live.run.beside import Worker
-from live.run.guard import Guard, traced
-from live.run.loop import Turns
+from live.run.loop import Guard, Turns, Worker, traced
 from live.run.refused import REFUSED, Refused
 from live.show.doors import Title
 from live.show.page import FOLDER, SPECTATORS, index_of

@@ -6,10 +6,9 @@ import contextlib
 from typing import Callable
 
 from live.game import timed
-from live.game.file_names import has_delay
 from live.game.files import NO_SUCH_FILE, Opened, Paths, existing
-from live.game.forfeiting import forfeit_of
-from live.game.game import result_of
+from live.game.forfeits import forfeit_of
+from live.game.game import has_delay, result_of
 from live.out.going_out import delay_of
 from live.out.said_again import Kept
 from live.out.shot import Shot

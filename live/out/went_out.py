@@ -10,15 +10,14 @@ import os
 from dataclasses import astuple, dataclass
 from typing import Any, Callable, Optional, Tuple
 
-from live.game.began import this_start
 from live.game.files import AnyPath, existing, put_in_place
+from live.game.times import this_start
 from live.out.matches import Paired
 from live.out.running import Clocks
 from live.out.seen import Ply
 from live.out.shot import Shot
 from live.out.view import Player, SpectatorBoard
-from live.run.beside import Worker
-from live.run.loop import Turns
+from live.run.loop import Turns, Worker
 
 PAUSE = 1.0  # seconds from the end of one writing to the next: it has all games
 

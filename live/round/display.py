@@ -7,8 +7,7 @@ import time
 from typing import Callable, List, Optional
 
 from live.game.log import time_of
-from live.run.guard import traced
-from live.run.loop import Loop, Timer
+from live.run.loop import Loop, Timer, traced
 from live.show.painter import Painter
 from live.show.terminal import Shows, Terminal
 from live.table.table import RowView, listing, screen

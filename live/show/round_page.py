@@ -6,13 +6,12 @@ from typing import Callable, Dict, Iterable, Optional, Protocol, Sequence, Tuple
 
 from live.board.advice import wants_a_line
 from live.board.board import Board
-from live.child.report import Move
-from live.game.course import clocks_of
+from live.child.lines import Move
+from live.game.reading import clocks_of
 from live.game.tags import Tags
 from live.out.games import written_name
 from live.out.seen import BoardView, Ply, RoundView
-from live.run.guard import Guard, traced
-from live.run.loop import Loop, Timer
+from live.run.loop import Guard, Loop, Timer, traced
 from live.show.address import Door
 from live.show.page import Page, Site
 from live.words.message import Message, linked

@@ -11,6 +11,7 @@ import termios
 import time
 from typing import Any, Callable, Dict, List, Optional, Protocol, Tuple
 
+from live.game.log import INDENT
 from live.run.loop import Loop
 from live.run.refused import REFUSED, Refused, printable
 from live.show import columns as columns_of, editing
@@ -22,7 +23,6 @@ LONGEST = 4096  # bytes of a typed line
 PAUSE = 1.0  # seconds until a terminal is tried again that can't be read now
 ERASE = b"\r\x1b[K"
 LEAST_TYPED = 24  # columns that what is typed has, if it needs them
-INDENT = " " * 10  # as wide as the time of day in front of a line
 
 
 def open_standard_streams() -> None:

@@ -6,8 +6,7 @@ import os
 import pathlib
 import shlex
 
-from live.run.called import DGT_ROUND
-from live.run.refused import ARGUMENTS, Refused
+from live.run.refused import ARGUMENTS, DGT_ROUND, Refused
 from live.table.tournament import TABLES
 from live.words.message import Message
 

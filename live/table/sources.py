@@ -8,11 +8,10 @@ from dataclasses import replace
 from types import MappingProxyType
 from typing import Callable, Dict, List, Mapping, Optional, Tuple
 
+from live.board.connection import ask
 from live.child.program import Program
 from live.game import files
-from live.line import serial_line
-from live.line.line import same_line
-from live.line.numbers import ask
+from live.line.line import devices, same_line
 from live.run.refused import REFUSED, Refused
 from live.table.encodings import told_of_reading
 from live.table.joining import joined, placed, serials_wanted
@@ -26,7 +25,7 @@ BOARDS = "boards.csv"
 
 def plugged_in(program: Program) -> Dict[str, str]:
     """The device of each board that sends its number, under the name of its cable. It waits for up to two seconds."""
-    found = serial_line.devices()
+    found = devices()
     names = {device: name or device for device, name in found}
     return {number: names[device] for device, number in ask(program, list(names)).numbers.items()}
 

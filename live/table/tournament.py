@@ -9,14 +9,13 @@ import re
 from dataclasses import dataclass
 from typing import Callable, List, Optional, Tuple
 
+from live.board.connection import ask
 from live.child.program import Program
 from live.game import files
 from live.game.files import text_of
 from live.game.options import TAG
-from live.line import serial_line
-from live.line.numbers import ask
-from live.run.called import DGT_ROUND
-from live.run.refused import FAILED, REFUSED, Refused
+from live.line.line import devices
+from live.run.refused import DGT_ROUND, FAILED, REFUSED, Refused
 from live.table import settings
 from live.table.encodings import encoding_in, loose_text
 from live.table.sheets import LARGEST
@@ -196,7 +195,7 @@ def made(folder: pathlib.Path, find: Callable[[], Program]) -> List[str]:
 
 def boards_text(find: Callable[[], Program]) -> str:
     """A table of the plugged-in boards, in order of their serial numbers."""
-    found = serial_line.devices()
+    found = devices()
     numbers = ask(find(), [device for device, _ in found]).numbers if found else {}
     lines = [BOARDS_HEADER]
     places = [(numbers.get(device, ""), name or device) for device, name in found]

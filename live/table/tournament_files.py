@@ -9,8 +9,7 @@ import pathlib
 from typing import Callable, Iterable, List, NamedTuple, Tuple
 
 from live.out.published import Published
-from live.run.guard import Guard, traced
-from live.run.loop import Turns
+from live.run.loop import Guard, Turns, traced
 
 LOOK = 1.0  # seconds between two checks; an unchanged text isn't written
 AGAIN = 5.0  # seconds until it is started again after an error

@@ -10,11 +10,11 @@ import threading
 import time
 from typing import Callable, List, Optional, Tuple
 
-from live.child.report import Clock
+from live.child.lines import Clock
 from live.game import times
-from live.game.began import Began, began_line, part_line, summed, this_start
 from live.game.files import Paths
 from live.game.timed import milliseconds
+from live.game.times import Began, began_line, part_line, summed, this_start
 from live.out.broadcast import OneGame
 from live.out.going_out import GoingOut, delay_of, read_command, read_delay
 from live.out.kept_out import UNPUBLISHED, KeptOut, read_kept, told_of_kept, with_given, written

@@ -13,7 +13,7 @@ from live.out.named_output import (
     refuse_unknown, removed, told_of, without_those,
 )  # fmt: skip
 from live.doors.dgt_round import VALUED, parse
-from live.game.file_names import OF_AN_OUTPUT, check_name
+from live.game.game import OF_AN_OUTPUT, check_name
 from live.out.named_output import read_output
 from live.run.refused import Refused
 from live.table.settings import TEMPLATE, words_of

@@ -352,7 +352,7 @@ def passed_over(entry: Dict[str, Any], said: str) -> bool:
     can be. Where the loop can't be woken it looks by itself; what can't be printed is printed with the next line."""
     file, _, function, name = entry["site"]
     closes = function == "close" or name.endswith("close")
-    mended = (file, name) in (("loop.py", "socket.socket.send"), ("terminal/terminal.py", "posix.write"))
+    mended = (file, name) in (("run/loop.py", "socket.socket.send"), ("show/terminal.py", "posix.write"))
     return not (entry["error"] == "OSError" or closes or mended or entry["text"] in said)
 
 

@@ -6,7 +6,7 @@ import pathlib
 from typing import List
 
 from live.game import times
-from live.game.began import summed, this_start
+from live.game.times import summed, this_start
 from live.out.running import Clocks
 from live.out.seen import Ply
 from live.out.shot import Shot

@@ -4,8 +4,8 @@ import pathlib
 from typing import List
 
 from live.game.options import Options
-from live.run.descriptors import Room, room
 from live.run.refused import Refused
+from live.run.system import Room, room
 from live.table.pairings import Pairing, read_pairings
 from live.table.table import Columns, RowView, head, row, screen
 from played.stage import same
