@@ -22,8 +22,8 @@ from hands import EMPTY, PROGRAM, Game, Way, hand, movetext, moves_of, program
 
 from live.line.protocol import picture_of_placement  # noqa: E402  (hands has put its folder on the path)
 from live.child.program import Program  # noqa: E402
-from live.game.answers import BOARD, ENDED, Said, add  # noqa: E402
 from live.game.options import Options  # noqa: E402
+from live.game.typed import BOARD, ENDED, Said, ask_to_add  # noqa: E402
 from recovering.frames import dump  # noqa: E402
 
 INITIAL_FEN = "rnbqkbnr/pppppppp/8/8/8/8/PPPPPPPP/RNBQKBNR w KQkq - 0 1"
@@ -182,7 +182,7 @@ def one(arguments: Tuple[str, str, bool, str, str]) -> Tuple[int, List[str]]:
             wrong.append(f"{name}: {arguments} {fen}: seen {seen}, expected {expected}, before the end {before}")
 
     def added(capture: bytes, line: str) -> Said:
-        said = add(Program(PROGRAM), Options(rotated, fen=fen_given), capture, line)
+        said = ask_to_add(Program(PROGRAM), Options(rotated, fen=fen_given), capture, line)
         if said.kind == BOARD:
             refused.append(line)
         elif not said.put and said.kind != ENDED:

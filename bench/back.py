@@ -26,9 +26,8 @@ from hands import PROGRAM, hand, movetext, program
 
 from live.line.protocol import picture_of_placement  # noqa: E402  (hands has put its folder on the path)
 from live.child.program import Program  # noqa: E402
-from live.game.answers import go_back  # noqa: E402
 from live.game.options import Options  # noqa: E402
-from live.game.way_back import STILL_SHOWN, stays_of  # noqa: E402
+from live.game.typed import STILL_SHOWN, ask_to_go_back, stays_of  # noqa: E402
 from recovering.frames import dump  # noqa: E402
 
 CUTS = 5  # of a game
@@ -84,7 +83,7 @@ def one(arguments: Tuple[str, str, bool, str, str, str]) -> Tuple[int, List[str]
         course = program(["follow", *options.of_board()], sent).splitlines()
         named = [line.split()[2] for line in course if line.split()[1] == "move"]
         to = f"{named[stays - 1]} {plies[stays - 1]}" if stays else "0"
-        said = go_back(Program(PROGRAM), options, sent, to)
+        said = ask_to_go_back(Program(PROGRAM), options, sent, to)
         if not said.put:
             if said.kind not in STILL_SHOWN:
                 wrong.append(f"{arguments} {to}: {said}")

@@ -34,7 +34,7 @@ import pressed
 from hands import BENCH, PROGRAM
 
 from live.line.protocol import LETTERS, Picture  # noqa: E402  (hands has put its folder on the path)
-from live.child import report  # noqa: E402
+from live.child import lines as report  # noqa: E402
 from recovering.frames import dump  # noqa: E402
 
 CALLS = str(BENCH.parent / "crates" / "bench_calls" / "out" / "bench_calls")

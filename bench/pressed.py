@@ -36,8 +36,7 @@ import streams
 from hands import EMPTY, PROGRAM
 
 from live.line.protocol import Picture  # noqa: E402  (hands has put its folder on the path)
-from live.child.attended import Answers  # noqa: E402
-from live.child.report import Agrees, Differs, Move, line_of  # noqa: E402
+from live.child.lines import Agrees, Answers, Differs, Move, line_of  # noqa: E402
 
 PACES = (1.0, 3.0, 30.0)  # seconds to think, the median
 FORGOTTEN = 3  # of 100 presses

@@ -14,8 +14,8 @@ sys.dont_write_bytecode = True
 sys.path[:0] = [str(TOP / "tests"), str(TOP)]
 from live.child.program import Program  # noqa: E402
 from live.game import timed, times  # noqa: E402
-from live.game.began import Began, began_line, part_line, summed, this_start  # noqa: E402
 from live.game.files import Paths  # noqa: E402
+from live.game.times import Began, began_line, part_line, summed, this_start  # noqa: E402
 from live.out.again import said_again  # noqa: E402
 from played.stage import program  # noqa: E402
 

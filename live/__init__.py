@@ -1,17 +1,17 @@
 """The live recorder: the code of `dgt_live` and `dgt_round`. A byte's way from a board to `round.pgn`:
 
-`line/serial_line.py` reads it, and `line/connection.py` passes it on to `board/cable.py`, that to `board/recorder.py`, and that to
-`board/recording.py`. `child/attending.py` tells it to `dgt_replay live`, and `child/attended.py` reads the answer. What is kept goes into
-the capture (`game/files.py`) before anything else is done. What the board is asked goes back through `board/cable.py`.
-`child/report.py` reads the lines of the report. `game/course.py` keeps the course of the game, `board/standing.py` shows
-the board's state, and `game/making_pgn.py` makes NAME.pgn anew. `board/board.py` guards all of that. `out/published.py`
-writes `round.pgn`.
+`board/connection.py` reads it from its line (`line/line.py`) and passes it on to the session (`board/session.py`). `board/attending.py` tells it
+to `dgt_replay live`; `child/lines.py` has the line about it, and reads the answer. What is kept goes into the capture
+(`game/files.py`) before anything else is done. What the board is asked goes back through `board/cable.py`. Then the answer counts, in
+the stage of the game (`board/playing.py`): its report is printed (`game/log.py`), its course kept (`game/reading.py`), the board's
+state shown (`board/state.py`), and NAME.pgn made anew (`game/making_pgn.py`). What goes up from the session are values, which
+`board/board.py` takes in the same turn. `out/published.py` writes `round.pgn`.
 
 In that order:
 
 `words/`: what people read, by keys of `shared/words.en.json`. It imports nothing of the other folders.
 `run/`: the loop, guards, refusals: what all of these use.
-`line/`: a board's line; a board that is unplugged and comes back.
+`line/`: a board's line: a device here, or a serial server.
 `child/`: the proved program: how it is called, what it is told, what it answers.
 `game/`: a game: its files, its options, what an arbiter adds or takes off, where it ended.
 `board/`: one board and its games, whatever goes wrong there; its state.

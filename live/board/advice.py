@@ -1,20 +1,115 @@
 """What an arbiter does about a board: one text for each kind of trouble, for the terminal and for his page. Followed word for word it
-costs no right move. Pure."""
+costs no right move. So for another board on the cable of a game, for two that may have been exchanged though no square shows it, and for
+boards with one number. Pure: times are passed in."""
 
 from __future__ import annotations
 
 from dataclasses import dataclass
-from typing import Callable, Dict, List, Optional, Sequence
+from typing import Callable, Dict, List, Mapping, Optional, Sequence, Tuple
 
 from live.board.state import DISK_FULL, OTHER_BOARD, Kind, State, mend_of
-from live.board.whose import WHERE
-from live.child.reply import BACK, OK, REOPENS
-from live.game.afterwards import over
-from live.game.answers import NO_PLIES
-from live.game.doubted import ABOUT_CLOCK, ABOUT_RESULT, THE_START, WHY
-from live.game.looks import AFTER_RESULT, OVER, Look
-from live.game.way_back import NO_RESULT
-from live.words.message import Message, has, is_of, linked
+from live.game.looks import ABOUT_CLOCK, ABOUT_RESULT, AFTER_RESULT, OVER, THE_START, WHY, Look, over
+from live.game.typed import NO_PLIES, NO_RESULT
+from live.line.protocol import differing, picture_of_placement
+from live.run.refused import BACK, OK, REOPENS
+from live.words.message import Message, has, is_of, linked, plural
+
+WHERE = Message("look.at_the_cable")
+MOST_NUMBERS = 3  # of boards that nobody knows, each of which is named on a cable
+
+
+@dataclass(frozen=True)
+class Owner:
+    """Another game that is recorded at the same time: the name of its board, and whether it has a move."""
+
+    name: str
+    has_moves: bool
+
+
+def may_take(owner: Optional[Owner], has_moves: bool) -> bool:
+    """Whether `ok` gives the board on the cable to this game and takes it from its owner: a game with moves keeps its board."""
+    return owner is None or not (owner.has_moves or has_moves)
+
+
+def another(own: str, shown: str, owner: Optional[Owner], has_moves: bool) -> Look:
+    """The message about a board with another number on the cable of a game."""
+    if owner is None:
+        has = Message("cable.unknown_board", number=shown, own=own)
+        return Look(WHERE, Message("cable.unknown_board_taken", has=has), WHERE)
+    of_owner = Message("cable.board_of_another", owner=owner.name, number=shown, own=own)
+    return Look(WHERE, linked("semicolon", (of_owner, Message("cable.may_take"))) if may_take(owner, has_moves) else of_owner, WHERE)
+
+
+def changing(own: str) -> Look:
+    """The message about a board that gives another number again and again."""
+    has = Message("cable.changing_numbers", own=own)
+    return Look(WHERE, Message("cable.changing_advice", has=has), WHERE)
+
+
+def back(own: str, other: str) -> Look:
+    """The message when the game's own board is on the cable again."""
+    return Look(WHERE, Message("cable.own_is_back", other=other, own=own), WHERE)
+
+
+TOGETHER = 60.0  # seconds between two cables that somebody may have exchanged
+APART = 2  # squares on which two boards that stand alike differ at most: a move was just made, or a piece is in a hand
+
+
+@dataclass(frozen=True)
+class Return:
+    """A board was unplugged or silent: when it was heard last before that, and when it was heard again."""
+
+    heard_at: float
+    came_at: float
+
+
+@dataclass(frozen=True)
+class Returned:
+    """A board that was away: when; its serial number, empty if it has none; and what it shows now."""
+
+    back: Return
+    number: str
+    placement: str
+
+
+def came_back(heard_at: Optional[float], has_slept: bool, now: float) -> Optional[Return]:
+    """A board that was heard last at this time, if it was, is heard again now. When it was away; None if nobody knows that: the recorder
+    had not heard it before, or has slept too."""
+    return None if heard_at is None or has_slept else Return(heard_at, now)
+
+
+def may_be_exchanged(one: Returned, other: Returned) -> bool:
+    """Whether two boards went within a minute, both were away at a time, nothing tells them apart, and both stand alike."""
+    went = abs(one.back.heard_at - other.back.heard_at) <= TOGETHER
+    met = one.back.heard_at <= other.back.came_at and other.back.heard_at <= one.back.came_at
+    return went and met and one.number == other.number and stand_alike(one.placement, other.placement)
+
+
+def stand_alike(one: str, other: str) -> bool:
+    """Whether two boards show the same, or almost, if it is known what both show."""
+    return bool(one and other) and len(differing(picture_of_placement(one), picture_of_placement(other))) <= APART
+
+
+def told_of_exchange(others: Sequence[int]) -> Look:
+    """The message at one of them; the others are the boards with these numbers."""
+    return Look(WHERE, plural("cable.exchanged", len(others), boards=_named(others)), WHERE)
+
+
+def same_number(serials: Mapping[int, str], board: int) -> List[int]:
+    """The serial number of this board has just become known. The boards that have it; none if no other one does."""
+    same = sorted(one for one, serial in serials.items() if serial and serial == serials.get(board))
+    return same if len(same) > 1 else []
+
+
+def told_of_same_number(others: Sequence[int]) -> Look:
+    """The message at one of them, about the others."""
+    return Look(WHERE, plural("cable.same_number", len(others), boards=_named(others)), WHERE)
+
+
+def _named(boards: Sequence[int]) -> str:
+    names = [str(number) for number in sorted(boards)]
+    return linked("and", filter(None, (", ".join(names[:-1]), names[-1])))
+
 
 MOVES = "Nf3 Nc6"  # examples
 FROM_THE_START = "e4 e5 Nf3 Nc6"
@@ -119,6 +214,12 @@ def if_not(look: Look, typed: Typed, moves: Moves) -> str:
         return Message("advice.moves_missing_at_the_end", hold=HOLD_A_KING, moves=typed(MOVES))
     back = Message("advice.back", hold=HOLD_A_KING, back=typed(f"{BACK} {last}"))
     return Message("advice.take_off_by", back=back) if count > 1 else Message("advice.moves_missing", back=back)
+
+
+def told_of(look: Look, typed: Typed, moves: Moves) -> Tuple[str, ...]:
+    """What is said of it, in a game that has these moves: what it is, and what to do."""
+    told, otherwise = linked("stop", (look.text, closing(look, typed))), if_not(look, typed, moves)
+    return (Message("look.and_advice", look=told), otherwise) if otherwise else (told,)
 
 
 def wants_a_line(advice: str) -> bool:

@@ -8,36 +8,30 @@ import functools
 import math
 from typing import Callable, List, Optional, Protocol, Sequence, Tuple
 
-from live.board.asked_first import AskedFirst
-from live.board.exchanged import Return, Returned, came_back, told_of_same_number
-from live.board.plan import Plan, Wanted
-from live.board.recorder import Recorder
-from live.board.recording import Recording
+from live.board.advice import Owner, Return, Returned, came_back, told_of_same_number
+from live.board.arbiter import Arbiter
+from live.board.attended import Asked, CameBack, News, Numbered, Stopped
+from live.board.cable import AskedFirst
+from live.board.plan import Others, Plan, Wanted
+from live.board.playing import Playing
+from live.board.session import Session
 from live.board.state import State
 from live.board.typed_lines import Line, TypedLines
-from live.board.whose import Owner
+from live.child.lines import Clock, Move
 from live.child.program import Program
-from live.child.reading import new_course
-from live.child.reply import Answer, reason_of, refusal, Refused as NotDone
-from live.child.report import Clock, Move
 from live.game import files
-from live.game.alarms import kept_looks
 from live.game.changing import add_by_name
-from live.game.course import Course
 from live.game.files import Paths
-from live.game.forfeiting import forfeit_of
+from live.game.forfeits import forfeit_of
 from live.game.game import kept_serial, result_of
-from live.game.log import Log, log_once
-from live.game.looks import Looks
-from live.game.names import today
+from live.game.log import Log, Screen, log_once
+from live.game.looks import Looks, kept_looks
 from live.game.opening import Chooses, Opened
 from live.game.options import Options
-from live.run.beside import Worker
-from live.run.guard import Guard, traced
-from live.run.loop import Timer, Turns
-from live.run.refused import DONE, FAILED, Refused
-from live.run.steps import Steps, beside
-from live.show.screen import Screen
+from live.game.reading import Course, new_course
+from live.game.tags import today
+from live.run.loop import Guard, Steps, Timer, Turns, Worker, beside, traced
+from live.run.refused import DONE, FAILED, Answer, NotDone, Refused, reason_of, refusal
 from live.words.message import Message, linked
 
 PAUSES = (2.0, 5.0, 10.0, 20.0, 40.0, 60.0)  # seconds between tries to record a board
@@ -90,7 +84,8 @@ class Board:
         self.forfeit = ""  # how its game was forfeited, if it was
         self._looks = Looks()  # alarms of a game that isn't recorded
         self._guard: Optional[Guard] = None  # of the game that is opened or recorded
-        self._recorder: Optional[Recorder] = None
+        self._session: Optional[Session] = None  # which only this object holds
+        self._arbiter: Optional[Arbiter] = None  # obeys what is typed to that
         self._alike: Sequence[int] = ()  # boards with its serial number, told before it was recorded
         self.called = ""  # among the boards of a round
         self._number = ""  # the serial number of its board while it isn't recorded
@@ -114,7 +109,7 @@ class Board:
             self._again.cancel()
             self._again = None
         if self._guard is None:
-            self._guard = guard = Guard(self._loop, self._broke, self._note)
+            self._guard = guard = Guard(self._loop, self._broke, self._note, self._turn)
             guard.call(lambda: self._open(guard))
 
     def _open(self, guard: Guard) -> None:
@@ -167,8 +162,9 @@ class Board:
         if plan.shows or (plan.board and opened.is_full):  # nothing more comes to it
             self._release(None)
         else:
-            self._recorder = Recorder(guard, worker, self._screen, plan, opened, self, asked)
-            self.course = self._recorder.course
+            self._session = Session(guard, worker, self._screen, plan, opened, Others(self.owner, self.lends), asked)
+            self._arbiter = Arbiter(self._session)
+            self.course = self._session.course
             self.shares_number(self._alike)
         self._hears.remade()
         self._hears.changed()
@@ -181,12 +177,12 @@ class Board:
 
     def _leave(self) -> None:
         """Stops recording."""
-        was_recorded = self._recorder is not None
-        if self._recorder:
-            game = self._recorder.game
-            self.course, self._paths, self.options, self.cable = self._recorder.course, game.paths, game.options, self._recorder.cable
-            self._number = self._recorder.number
-        self._guard = self._recorder = None
+        was_recorded = self._session is not None
+        if self._session:
+            game, cable = self._session.game, self._session.cable
+            self.course, self._paths, self.options = self._session.course, game.paths, game.options
+            self.cable, self._number = cable.name, cable.number
+        self._guard = self._session = self._arbiter = None
         if was_recorded:
             self._lines.drop(Refused(FAILED, Message("board.ended_again", ended=ENDED)))
 
@@ -209,25 +205,31 @@ class Board:
                 self._screen.say(Message("board.not_recorded", why=why))
         self._hears.changed()
 
-    def placed(self) -> None:
-        """A new text of the game is in place."""
+    def _turn(self) -> None:
+        """Takes what has gone up from the session, in order, in the same turn."""
+        for up in self._session.turn() if self._session else ():
+            if isinstance(up, News):
+                self._takes(up)
+            elif isinstance(up, CameBack):
+                if back := came_back(up.heard_at, up.has_slept, self._loop.now()):
+                    self._back = back
+                    self._hears.came_back()
+            elif isinstance(up, Numbered):
+                self._hears.numbered()
+            elif isinstance(up, Asked):
+                self._asked(up.text, up.answered)
+            elif isinstance(up, Stopped):  # the line that is being obeyed gets its answer first
+                self._lines.then(functools.partial(self._release_soon, up.refused))
+
+    def _takes(self, news: News) -> None:
+        if news is News.MISSING:
+            self._hears.missing()
+            return
+        if news in (News.OVER, News.REOPENED):
+            self.is_over = news is News.OVER
         self._read_pgn()
         self._hears.remade()
         self._hears.changed()
-
-    def over(self) -> None:
-        """The game is over, and the board is watched for more moves."""
-        self.is_over = True
-        self.placed()
-
-    def reopened(self) -> None:
-        """A game that was over goes on."""
-        self.is_over = False
-        self.placed()
-
-    def stopped(self, refused: Optional[Refused]) -> None:
-        """The recording has ended. The line that is being obeyed gets its answer first."""
-        self._lines.then(functools.partial(self._release_soon, refused))
 
     def _release_soon(self, refused: Optional[Refused]) -> None:
         if self._guard:
@@ -248,12 +250,6 @@ class Board:
             self._hears.ended(None)
         self._hears.changed()
 
-    def came_back(self, heard_at: Optional[float], has_slept: bool) -> None:
-        """Its board was unplugged or silent, and is heard again."""
-        if back := came_back(heard_at, has_slept, self._loop.now()):
-            self._back = back
-            self._hears.came_back()
-
     @property
     def returned(self) -> Optional[Returned]:
         """When it was away last, and what tells it from others; None if it wasn't, or its game is over."""
@@ -261,23 +257,15 @@ class Board:
 
     def suspect(self, others: Sequence[int]) -> None:
         """Its cable may have been exchanged with that of one of the boards with these numbers."""
-        now = self._recorder.now if self._recorder else None
-        if self._guard and isinstance(now, Recording):
+        now = self._session.now if self._session else None
+        if self._guard and isinstance(now, Playing):
             self._guard.call(functools.partial(now.suspect, others))
-
-    def numbered(self) -> None:
-        """The serial number of its board has just become known."""
-        self._hears.numbered()
 
     def shares_number(self, others: Sequence[int]) -> None:
         """Its board has the same serial number as the boards with these numbers."""
-        self._alike = () if self._recorder else others
-        if others and self._guard and self._recorder:
-            self._guard.call(functools.partial(self._recorder.look_at, told_of_same_number(others)))
-
-    def missing(self) -> None:
-        """Its board isn't on its cable any more."""
-        self._hears.missing()
+        self._alike = () if self._session else others
+        if others and self._guard and self._session:
+            self._guard.call(functools.partial(self._session.look_at, told_of_same_number(others)))
 
     def owner(self, number: str) -> Optional[Owner]:
         """The other game that is recorded from the board with this serial number."""
@@ -291,9 +279,9 @@ class Board:
 
     def takes(self, sent: bytes) -> bool:
         """Its board has sent this on another board's cable. Returns whether it is recorded. An error there is this board's."""
-        if self._guard is None or self._recorder is None:
+        if self._guard is None or self._session is None:
             return False
-        self._guard.call(functools.partial(self._recorder.takes, sent))
+        self._guard.call(functools.partial(self._session.takes, sent))
         return True
 
     def end(self, done: Callable[[], None]) -> None:
@@ -305,8 +293,8 @@ class Board:
             self._again.cancel()
             self._again = None
         self._done = done
-        if self._guard and self._recorder:
-            self._guard.call(self._recorder.end)
+        if self._guard and self._session:
+            self._guard.call(self._session.end)
         elif self._guard:
             self._release(None)
         else:
@@ -348,11 +336,13 @@ class Board:
         """The names of a table, which somebody has read again by this: its game has them once the lines before are answered."""
 
         def obeys() -> Steps[Answer]:
-            return (yield from self._recorder.arbiter.rename(text, prepares)) if self._recorder else refusal(text, NotDone(BEING_OPENED))
+            if self._arbiter is None:
+                return refusal(text, NotDone(BEING_OPENED))
+            return (yield from self._turned(self._arbiter.rename(text, prepares)))
 
         self._lines.take(Line(text, obeys, answered))
 
-    def asked(self, text: str, answered: Callable[[Answer], None]) -> None:
+    def _asked(self, text: str, answered: Callable[[Answer], None]) -> None:
         """What another call asks for."""
 
         def then(answer: Answer) -> None:
@@ -363,12 +353,22 @@ class Board:
         self.add(text, then)
 
     def _obeys(self, text: str, is_typed: bool, is_sure: bool = False) -> Steps[Answer]:
-        recorder = self._recorder
-        if recorder is None and self.is_begun:
+        arbiter = self._arbiter
+        if arbiter:
+            return (yield from self._turned(arbiter.typed(text) if is_typed else arbiter.add(text, is_sure)))
+        if self.is_begun:
             return refusal(text, NotDone(BEING_OPENED))
-        if recorder is None:
-            return (yield from self._add_to_closed(text))
-        return (yield from (recorder.arbiter.typed(text) if is_typed else recorder.arbiter.add(text, is_sure)))
+        return (yield from self._add_to_closed(text))
+
+    def _turned(self, steps: Steps[Answer]) -> Steps[Answer]:
+        """What goes up is taken before the line is answered."""
+        try:
+            answer = yield from steps
+        except Exception:
+            self._turn()
+            raise
+        self._turn()
+        return answer
 
     def _refuses(self, text: str, error: Exception) -> Answer:
         """The answer to a line that raised an error: it ends nothing."""
@@ -405,7 +405,7 @@ class Board:
     @property
     def is_recorded(self) -> bool:
         """Whether it is recorded now."""
-        return self._recorder is not None
+        return self._session is not None
 
     @property
     def is_begun(self) -> bool:
@@ -415,27 +415,27 @@ class Board:
     @property
     def number(self) -> str:
         """The serial number of its board, empty if unknown."""
-        return self._recorder.number if self._recorder else self._number
+        return self._session.cable.number if self._session else self._number
 
     @property
     def lacks(self) -> str:
         """The serial number of its board, if that isn't on its cable; else empty."""
-        return self._recorder.lacks if self._recorder else ""
+        return self._session.cable.lacks if self._session and self._session.standing else ""
 
     @property
     def holds(self) -> str:
         """The device that is open, if it is."""
-        return self._recorder.holds if self._recorder else ""
+        return self._session.cable.holds if self._session else ""
 
     def found_on(self, device: str) -> None:
         """Its board is on this device."""
-        if self._guard and self._recorder:
-            self._guard.call(functools.partial(self._recorder.move_to, device))
+        if self._guard and self._session:
+            self._guard.call(functools.partial(self._session.cable.move_to, device))
 
     @property
     def paths(self) -> Paths:
         """The files of the game."""
-        return self._recorder.game.paths if self._recorder else self._paths
+        return self._session.game.paths if self._session else self._paths
 
     @property
     def result(self) -> str:
@@ -470,16 +470,16 @@ class Board:
     @property
     def looks(self) -> Looks:
         """The alarms of the game."""
-        return self._recorder.looks if self._recorder else self._looks
+        return self._session.looks if self._session else self._looks
 
     @property
     def _course(self) -> Course:
-        return self._recorder.course if self._recorder else self.course
+        return self._session.course if self._session else self.course
 
     @property
     def state(self) -> Optional[State]:
         """The board's state; None if nothing is recorded."""
-        return self._recorder.standing.state if self._recorder and self._recorder.standing else None
+        return self._session.standing.state if self._session and self._session.standing else None
 
     @property
     def differing(self) -> Tuple[str, ...]:
@@ -488,8 +488,8 @@ class Board:
 
     def _read_pgn(self) -> None:
         """Takes the text of its game: the one that this recording has put in place last, if it has; else what the file has."""
-        written = self._recorder.game.written.last if self._recorder else None
-        if self._recorder is None:
+        written = self._session.game.written.last if self._session else None
+        if self._session is None:
             self._looks = kept_looks(self.paths)
         if written:
             self.pgn, self.options = written

@@ -1,79 +1,134 @@
 """The cable of a board: messages when it is unplugged or plugged in, when the board is silent, and when another board is on it. The
-program decides when the board is asked and whose board it is."""
+program decides when the board is asked and whose board it is. What comes of it are values, which the session takes one after the other."""
 
 from __future__ import annotations
 
-from typing import List, Optional, Protocol
+from typing import Iterator, List, NamedTuple, Optional, Set, Union
 
-from live.board import advice
-from live.board.asked_first import AskedFirst
-from live.board.on_the_way import ANOTHER
-from live.board.standing import Standing
-from live.child.attended import KEEP, NUMBER, OTHER, SILENT, UNPLUGGED, WAITS, WAKE, Answer
-from live.child.attending import OF_THE_LINE, Attending, Told
+from live.board.advice import AT_THE_CABLE, MOST_NUMBERS, another, back, changing, of_line
+from live.board.attended import News, Numbered
+from live.board.attending import OF_THE_LINE, Attending, Hears as HearsAnswer, Told
+from live.board.connection import BUSY, PLUGGED, UNPLUGGED, Connection, Happened, Hears
+from live.board.plan import Others
+from live.board.state import Standing
+from live.child.lines import KEEP, NUMBER, OTHER, SILENT, UNPLUGGED as GONE_AWAY, WAITS, WAKE, Answer
 from live.child.program import Program
 from live.game.files import MEMORY
+from live.game.log import Screen
+from live.game.looks import Look
 from live.game.times import HEARD, OPENED, TOOK
-from live.line.connection import Connection
-from live.run.called import DGT_LIVE
-from live.run.guard import Guard
-from live.run.refused import printable, recorded_elsewhere
-from live.show.screen import Screen
+from live.run.loop import Guard
+from live.run.refused import DGT_LIVE, printable, recorded_elsewhere
 from live.words.message import Message
 
-NO_BOARD = (WAITS, UNPLUGGED)  # states that don't say whether the board answers
+NO_BOARD = (WAITS, GONE_AWAY)  # states that don't say whether the board answers
+ANOTHER = "another"  # happens if another board is on the cable, which the game's program attends no more
 
 
-class HearsCable(Protocol):
-    """Gets what the cable brings."""
+class OtherBoard(NamedTuple):
+    """The board with this number is on the cable, not the game's own."""
 
-    @property
-    def standing(self) -> Optional[Standing]:
-        """The board's state."""
+    number: str
 
-    def heard(self, sent: bytes) -> None:
-        """The board has sent this."""
 
-    def happened(self, what: str, count: Optional[int] = None) -> None:
-        """This happens on the line."""
+class OwnIsBack(NamedTuple):
+    """The game's own board is on the cable again, instead of the one with this number."""
 
-    def numbered(self, number: str) -> None:
-        """The board's serial number is this from now on."""
+    other: str
 
-    def another(self, number: str) -> None:
-        """The board with this number is on the cable, not the game's own."""
 
-    def back(self, other: str) -> None:
-        """The game's own board is on the cable again, instead of the one with this number."""
+class Foreign(NamedTuple):
+    """The board with this number has sent these. What its own game takes is removed from the list."""
 
-    def missing(self) -> None:
-        """The game's board, whose number is known, isn't on the cable any more."""
+    number: str
+    sent: List[bytes]
 
-    def lends(self, number: str, sent: bytes) -> bool:
-        """The board with this number has sent this. Returns whether another game takes it."""
 
-    def gone(self, message: str, was_there: bool) -> None:
-        """The board isn't there and isn't waited for, or another process has its line."""
+class Gone(NamedTuple):
+    """The board isn't there and isn't waited for, or another process has its line."""
+
+    message: str
+    was_there: bool
+
+
+FromCable = Union[Happened, Numbered, OtherBoard, OwnIsBack, Foreign, Gone, News]
+
+
+class AskedFirst:
+    """A board that is asked while its game is opened: a large capture takes long to be read. What has come of it meanwhile waits here, up to a
+    limit of bytes: the oldest go first. When it is asked, a child says that knows nothing of its game."""
+
+    def __init__(self, guard: Guard, program: Program, device: str, number: str) -> None:
+        self._happened: List[Happened] = []
+        self._attending = Attending(guard, program, (), None, self._answered)
+        self.connection = Connection(guard, program, device, self._keep)
+        if number:
+            self._attending.tell(NUMBER, number.encode("ascii"))
+        self.connection.begin()
+
+    def pass_on(self, hears: Hears) -> None:
+        """From now on this one hears it, first what has come so far."""
+        self._attending.close()
+        self.connection.hears = hears
+        for one in self._happened:
+            hears(one)
+
+    def _keep(self, it: Happened) -> None:
+        self._happened.append(it)
+        limit(self._happened)
+        if it.what == HEARD or it.what in OF_THE_LINE:
+            self._attending.tell(it.what, it.sent)
+
+    def _answered(self, told: Told, answer: Answer) -> None:
+        if answer.asked:
+            self.connection.ask(answer.asked)
+
+
+class Strangers:
+    """What is said of other boards on the cable of a game. If the table says which board is where, each `is_found` by itself."""
+
+    def __init__(self, others: Others, is_found: bool) -> None:
+        self._others, self._is_found = others, is_found
+        self._numbers: Set[str] = set()  # those that were on its cable and that no board has
+
+    def told(self, said: Union[OtherBoard, OwnIsBack], cable: Cable, left: str, has_moves: bool, is_over: bool) -> List[Union[Look, str]]:
+        """The alarm, or the message, in a game that has moves or not, if there is one. The board with the number `left` was left there
+        before. If the game `is_over` with a result, another board is no alarm, unless that is the board of a game."""
+        if isinstance(said, OwnIsBack):
+            is_known = self._is_found if self._others.owner(said.other) else is_over
+            is_one_of_many = len(self._numbers) > MOST_NUMBERS
+            return [] if is_known or is_one_of_many else [back(cable.number, said.other)]
+        owner = self._others.owner(said.number)
+        if owner and (self._is_found or said.number == left):
+            return [Message("cable.other_game", cable=cable.name, owner=owner.name, number=said.number)]
+        if owner is None and is_over:
+            return []
+        self._numbers |= {said.number} if owner is None else set()
+        is_changing = owner is None and len(self._numbers) > MOST_NUMBERS
+        return [changing(cable.number) if is_changing else another(cable.number, said.number, owner, has_moves)]
 
 
 class Cable:
     """The state of a board's line. If it listens `once`, a board that goes away isn't waited for. What a board with another number
     sends is lent to the game that has this board; if there is none, it is kept back."""
 
-    def __init__(self, guard: Guard, program: Program, screen: Screen, device: str, once: bool, number: str, hears: HearsCable,
-                 asked: Optional[AskedFirst] = None) -> None:  # fmt: skip
-        self._guard, self._program, self._screen, self._hears = guard, program, screen, hears
+    def __init__(
+        self, guard: Guard, program: Program, screen: Screen, device: str, once: bool, number: str, hears: Hears, hears_another: HearsAnswer,
+        asked: Optional[AskedFirst] = None
+    ) -> None:  # fmt: skip
+        self._guard, self._program, self._screen = guard, program, screen
+        self._hears, self._hears_another = hears, hears_another
         self._device, self._once = device, once
         self._unplugged = self._silent = self._was_plugged = False
         self._unplugged_at = 0.0
         self.number = number  # of the game's board; empty if unknown
         self.other = ""  # the number of the board on the cable, if it is another board
         self._told_other = ""  # that of the one that was last reported, while it is on the cable
-        self._another: Optional[AnotherBoard] = None  # while another board is on it
+        self.another: Optional[Attending] = None  # attends another board while that is on it, and knows nothing but the number of its own
         self._unsure: List[bytes] = []  # what has come, while nobody knows whose it is
         self._foreign: List[bytes] = []  # what another board has sent and no game has taken
         self._asked = asked  # before its game was open
-        self._connection = asked.connection if asked else Connection(guard, program, device, self)
+        self._connection = asked.connection if asked else Connection(guard, program, device, hears)
 
     @property
     def name(self) -> str:
@@ -99,7 +154,7 @@ class Cable:
     def begin(self) -> None:
         """Opens the line, or waits for it."""
         if self._asked:
-            self._asked.pass_on(self)
+            self._asked.pass_on(self._hears)
         else:
             self._connection.begin()
 
@@ -116,164 +171,160 @@ class Cable:
 
     # What the line does.
 
-    def happened(self, what: str, count: Optional[int] = None) -> None:
-        """This happens on the line."""
-        if what in OF_THE_LINE:
-            self._leave_another()
-        self._hears.happened(what, count)
-
-    def came(self, sent: bytes) -> None:
-        """The board has sent this."""
-        if self._another:
-            self._another.came(sent)
+    def happens(self, it: Happened, standing: Optional[Standing]) -> Iterator[FromCable]:
+        """This happens on the line, of a board that stands so."""
+        if it.what == HEARD:
+            if self.another:
+                self.another.tell(HEARD, it.sent)
+            else:
+                yield it
+        elif it.what == PLUGGED:
+            self._is_plugged(standing)
+        elif it.what == UNPLUGGED:
+            yield from self._is_unplugged(standing)
+        elif it.what == BUSY:
+            yield Gone(recorded_elsewhere(self._device), False)
         else:
-            self._hears.heard(sent)
+            if it.what in OF_THE_LINE:
+                self._leave_another()
+            yield it
 
     # What the program answers.
 
-    def answered(self, told: Told, answer: Answer) -> None:
+    def answered(self, told: Told, answer: Answer, standing: Optional[Standing]) -> Iterator[FromCable]:
         """Asks the board what the program says, and does as it says with what the board has sent."""
-        if self._another:  # it was told this before
-            if told.what == HEARD and answer.handling != KEEP and self.other:
-                self._is_foreign([told.sent])
-            elif told.what == HEARD and answer.handling != KEEP:  # nobody knows yet which board this is
+        is_doubtful = told.what == HEARD and answer.handling != KEEP
+        if self.another:  # it was told this before
+            if is_doubtful and self.other:
+                yield self._is_foreign([told.sent])
+            elif is_doubtful:  # nobody knows yet which board this is
                 keep(self._unsure, told.sent)
             return
-        self._asks(answer)
+        self._asks(answer, standing)
         if told.what == OPENED:
             self._unsure.clear()
-        elif told.what == HEARD and answer.handling != KEEP:
+        elif is_doubtful:
             keep(self._unsure, told.sent)
         if answer.number and not self.number:
-            self._is_own(answer.number)
+            yield self._is_own(answer.number)
         if answer.handling == OTHER and answer.other != self.number:  # else it was taken meanwhile
-            self._attend_another()
-            self._is_other(answer.other)
+            yield from self._attend_another()
+            yield from self._is_other(answer.other)
         elif answer.handling == KEEP:
             self._unsure.clear()
-            if answer.kept:
-                self._is_back()
+            if answer.kept and self._told_other:  # the game gets what the board on the cable sends
+                before, self._told_other = self._told_other, ""
+                self._foreign.clear()
+                yield OwnIsBack(before)
 
-    def of_another(self, told: Told, answer: Answer) -> None:
+    def of_another(self, told: Told, answer: Answer, standing: Optional[Standing]) -> Iterator[FromCable]:
         """The same for another board, or perhaps the game's own again."""
-        self._asks(answer)
+        self._asks(answer, standing)
         if told.what == HEARD:
             keep(self._unsure, told.sent)
         elif told.what != WAKE:
             return  # its line isn't open yet
         if answer.handling == OTHER:
-            self._is_other(answer.other)
+            yield from self._is_other(answer.other)
         elif answer.handling == KEEP:
-            self._goes_on()
+            yield from self._goes_on()
 
-    def _asks(self, answer: Answer) -> None:
+    def _asks(self, answer: Answer, standing: Optional[Standing]) -> None:
         if answer.asked:
             self._connection.ask(answer.asked)
         if answer.stood:
-            self._stands(answer.stood.kind)
+            is_silent = answer.stood.kind == SILENT
+            if is_silent != self._silent and answer.stood.kind not in NO_BOARD:
+                self._silence(is_silent, standing)
 
-    def plays_elsewhere(self) -> None:
+    def plays_elsewhere(self) -> Iterator[FromCable]:
         """The game's board is on another cable: what is on this one isn't known."""
-        if self._another is None and not self._unplugged:
-            self._attend_another()
+        if self.another is None and not self._unplugged:
+            yield from self._attend_another()
 
-    def _attend_another(self) -> None:
+    def _attend_another(self) -> Iterator[FromCable]:
         """The game's own board may come over another cable, so another child attends this one."""
-        self._hears.happened(ANOTHER)
-        self._another = AnotherBoard(self._guard, self._program, self)
+        yield Happened(ANOTHER)
+        self.another = Attending(self._guard, self._program, (), None, self._hears_another)
+        self.another.tell(NUMBER, self.number.encode("ascii"))
+        self.another.tell(OPENED)
 
-    def _is_other(self, number: str) -> None:
+    def _is_other(self, number: str) -> Iterator[FromCable]:
         """The board with this number is on the cable, and has sent what nobody knew the sender of."""
         self.other = number
         if number != self._told_other:
             self._told_other = number
             self._foreign.clear()
-            self._hears.another(number)
-            self._hears.missing()
+            yield OtherBoard(number)
+            yield News.MISSING
         unsure, self._unsure = self._unsure, []
-        self._is_foreign(unsure)
+        yield self._is_foreign(unsure)
 
-    def _is_foreign(self, sent: List[bytes]) -> None:
+    def _is_foreign(self, sent: List[bytes]) -> Foreign:
         """The other board has sent this. What no game takes is kept back."""
         for one in sent:
             keep(self._foreign, one)
-        while self._foreign and self._hears.lends(self.other, self._foreign[0]):
-            self._foreign.pop(0)
+        return Foreign(self.other, self._foreign)
 
     def _leave_another(self) -> None:
         """The other board isn't attended any more."""
-        another, self._another = self._another, None
+        another, self.another = self.another, None
         self.other = ""
         if another:
             another.close()
 
-    def _goes_on(self) -> None:
+    def _goes_on(self) -> Iterator[FromCable]:
         """The program that attends the game hears the cable again: its own board is there, or a third one."""
         self._leave_another()
         unsure, self._unsure = self._unsure, []
-        self._hears.happened(OPENED)
+        yield Happened(OPENED)
         if unsure:
-            self._hears.heard(b"".join(unsure))
+            yield Happened(HEARD, b"".join(unsure))
 
-    def _is_back(self) -> None:
-        """The game gets what the board on the cable sends."""
-        if self._told_other:
-            before, self._told_other = self._told_other, ""
-            self._foreign.clear()
-            self._hears.back(before)
-
-    def _is_own(self, number: str) -> None:
+    def _is_own(self, number: str) -> Numbered:
         """From now on the board with this number is the game's."""
         self.number = number
-        self._hears.numbered(number)
+        return Numbered(number)
 
-    def take(self) -> None:
+    def take(self) -> Iterator[FromCable]:
         """From now on the board on the cable is the game's, with all that it has sent."""
         if self.other:
-            self._is_own(self.other)
+            yield self._is_own(self.other)
             self._told_other = ""
-            self._hears.happened(TOOK)
+            yield Happened(TOOK)
             self._unsure = [*self._foreign, *self._unsure]
             self._foreign = []
-            self._goes_on()
+            yield from self._goes_on()
 
-    def _stands(self, kind: str) -> None:
-        """The board stands so: it is silent, or answers, or nothing is known of that."""
-        is_silent = kind == SILENT
-        if is_silent != self._silent and kind not in NO_BOARD:
-            self.silence(is_silent)
+    # How it is.
 
-    def plugged(self) -> None:
+    def _is_plugged(self, standing: Optional[Standing]) -> None:
         """The line is open."""
         if self._unplugged:
             self._screen.say(Message("cable.is_there", name=self.name))
         elif self.name != self._device:
             self._screen.say(Message("cable.waits_for", device=self._device, name=self.name))
         self._unplugged, self._was_plugged = False, True
-        if self._hears.standing:
-            self._hears.standing.plugged()
+        if standing:
+            standing.plugged()
 
-    def unplugged(self) -> None:
+    def _is_unplugged(self, standing: Optional[Standing]) -> Iterator[FromCable]:
         """The line has gone away, or wasn't there."""
         self._unplugged, self._silent, self._unplugged_at = True, False, self._guard.now()
         self._unsure.clear()
-        if not self._once and self._hears.standing and self.name:  # a game that is over ends without it; one that isn't played needs none
-            self._screen.cable(self._gone())
-        if self._hears.standing:
-            self._hears.standing.unplugged(self._unplugged_at, self._connection.is_server, self._how_it_is_there())
+        if not self._once and standing and self.name:  # a game that is over ends without it; one that isn't played needs none
+            self._screen.cable(isnt_there(self.name, self._connection.why, self._how_it_is_there()))
+        if standing:
+            standing.unplugged(self._unplugged_at, self._connection.is_server, self._how_it_is_there())
         if self.number:
-            self._hears.missing()
+            yield News.MISSING
         if self._once:
-            self._hears.gone(self._gone_for_good(), self._was_plugged)
-
-    def _gone(self) -> str:
-        """That it isn't there, and what to do so that it is."""
-        return isnt_there(self.name, self._connection.why, self._how_it_is_there())
+            yield Gone(self._gone_for_good(), self._was_plugged)
 
     def _how_it_is_there(self) -> str:
         """What to do so that it is there again."""
         screen, is_server = self._screen, bool(self._connection.why)
-        return advice.of_line(is_server, "" if self._was_plugged else screen.other_address() if is_server else screen.other_device())
+        return of_line(is_server, "" if self._was_plugged else screen.other_address() if is_server else screen.other_device())
 
     def _gone_for_good(self) -> str:
         """Why it isn't there, if it isn't waited for; and what to do if it never was."""
@@ -283,49 +334,16 @@ class Cable:
         looks = Message("cable.look_at_the_server") if why else Message("cable.plug_in", dgt_live=DGT_LIVE)
         return isnt_there(self._device, why, looks)
 
-    def silence(self, silent: bool) -> None:
+    def _silence(self, silent: bool, standing: Optional[Standing]) -> None:
         """The board sends no dumps, or sends them again."""
         self._silent = silent
         self._connection.silence(silent)
         if silent:
-            self._screen.cable(Message("cable.no_answer", name=self.name, advice=advice.AT_THE_CABLE))
+            self._screen.cable(Message("cable.no_answer", name=self.name, advice=AT_THE_CABLE))
         else:
             self._screen.say(Message("cable.answers_again", name=self.name))
-        if self._hears.standing:
-            self._hears.standing.silence(silent)
-
-    def busy(self) -> None:
-        """Another process has the line."""
-        self._hears.gone(recorded_elsewhere(self._device), False)
-
-
-class AnotherBoard:
-    """Another board on the cable of a game. A child of its own attends it, which knows nothing but the number of the game's board: when the
-    other board is asked, and whether the game's own is back. Meanwhile that one may play on another game's cable."""
-
-    def __init__(self, guard: Guard, program: Program, cable: Cable) -> None:
-        self._cable = cable
-        self._attending = Attending(guard, program, (), None, self)
-        self._attending.tell(NUMBER, cable.number.encode("ascii"))
-        self._attending.tell(OPENED)
-
-    def came(self, sent: bytes) -> None:
-        """It has sent this."""
-        self._attending.tell(HEARD, sent)
-
-    def answered(self, told: Told, answer: Answer) -> None:
-        """The child says this."""
-        self._cable.of_another(told, answer)
-
-    def says(self, text: str) -> None:
-        """The child is started again."""
-
-    def broken(self, what: str) -> None:
-        """The child ends again and again: the other board isn't asked any more."""
-
-    def close(self) -> None:
-        """It isn't attended any more."""
-        self._attending.close()
+        if standing:
+            standing.silence(silent)
 
 
 def isnt_there(name: str, why: str, advice: str) -> str:
@@ -341,3 +359,11 @@ def keep(kept: List[bytes], sent: bytes) -> None:
     size = sum(map(len, kept))
     while size > MEMORY:
         size -= len(kept.pop(0))
+
+
+def limit(happened: List[Happened]) -> None:
+    """Drops the oldest bytes beyond the limit."""
+    size = sum(len(one.sent) for one in happened)
+    while size > MEMORY:
+        oldest = next(at for at, one in enumerate(happened) if one.sent)
+        size -= len(happened.pop(oldest).sent)

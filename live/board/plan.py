@@ -1,17 +1,82 @@
-"""What to record on a board: a device, and a game or a series of games; and who gets the reports."""
+"""What to record on a board: a device, and a game or a series of games; why a game is over, and what becomes of its board then."""
 
 from __future__ import annotations
 
+import enum
 import os
 from dataclasses import dataclass
-from typing import Callable, Optional, Protocol
+from typing import Callable, List, Optional
 
-from live.board.reasons import Rules
-from live.board.whose import Owner
-from live.child.reply import Answer
+from live.board.advice import Owner
 from live.game.files import Paths
+from live.game.log import Screen
 from live.game.opening import Opening
-from live.run.refused import Refused
+from live.game.reading import Course
+from live.run.refused import DGT_LIVE
+from live.words.message import Message
+
+
+class Reason(enum.Enum):
+    """Why a game is over."""
+
+    RESULT = Message("over.has_a_result")
+    TYPED = Message("over.result_given")
+    PLAYS_ON = Message("over.played_on")
+    CORRECTED = Message("over.corrected")
+    SET_UP = Message("over.set_up")
+    LIMIT = Message("over.capture_full")
+
+
+SAID = {"PLAYS-ON": Reason.PLAYS_ON, "CORRECTED": Reason.CORRECTED, "UNFINISHED": Reason.SET_UP}  # by the program's word
+PLAYED_ON = (Reason.PLAYS_ON, Reason.CORRECTED)  # the board isn't left alone
+
+
+@dataclass(frozen=True)
+class Rules:
+    """Whether another game follows on the same board; and whether the board is listened to once its game is over."""
+
+    series: bool = False
+    listens: bool = False
+
+    def marks(self, reason: Reason) -> bool:
+        """Whether to mark how many bytes are the game's, since others may come after them."""
+        return self.series or reason not in (Reason.RESULT, Reason.LIMIT) or (self.listens and reason is Reason.RESULT)
+
+    def attends(self, reason: Reason) -> bool:
+        """Whether the board is attended after that."""
+        return self.series or reason in PLAYED_ON or (self.listens and reason is not Reason.LIMIT)
+
+
+def told(reason: Reason, result: str, goes_on: str, reopens: str, is_alone: bool) -> str:
+    """Why a game is over, and what to do then. `result`, `goes_on` and `reopens` are what to type, the first two also once nobody listens
+    any more. Nothing comes after a game that is alone."""
+    if reason is Reason.SET_UP:
+        return Message("over.type_result", why=reason.value, result=result, goes_on=goes_on)
+    if reason in PLAYED_ON:
+        if is_alone:
+            goes_on = Message("over.if_it_goes_on_alone", why=reason.value, reopens=reopens)
+        else:
+            goes_on = Message("over.if_it_goes_on", why=reason.value, how=Message("typed.line", line=reopens))
+        return Message("over.last_move", goes_on=goes_on, reopens=reopens) if reason is Reason.PLAYS_ON else goes_on
+    return str(reason.value)
+
+
+def told_of_end(plan: Plan, name: str, reason: Reason, screen: Screen, known: Optional[Course]) -> List[str]:
+    """That this game is over, why, and what to do then; `known` is the course of one that was over before this call."""
+    series = plan.rules.series
+    why = told(reason, screen.result_of(name, series), screen.goes_on(name, series), screen.reopens(), plan.is_alone)
+    more = [told_of_before(name, known)] if known and plan.is_alone else []
+    return [Message("over.is_over", name=name, why=why), *more]
+
+
+def told_of_before(name: str, course: Course) -> str:
+    """What to do with a game that was over before this call began."""
+    if course.is_given:
+        goes_on = Message("over.add_reopens", dgt_live=DGT_LIVE, name=name)
+    else:
+        last = course.plies[-2].short if len(course.plies) > 1 else "0"
+        goes_on = Message("over.back_again", dgt_live=DGT_LIVE, last=last, name=name)
+    return Message("over.another_name", goes_on=goes_on)
 
 
 def numbered(name: str, number: int) -> Paths:
@@ -45,6 +110,10 @@ class Plan:
         """The files of the game, or of the last existing game of the series."""
         return numbered(self.name, last_number(self.name)) if self.rules.series else Paths(self.name)
 
+    def after(self, paths: Paths) -> Paths:
+        """The files of the game after this one of the series."""
+        return numbered(self.name, int(paths.name.rpartition("-")[2]) + 1)
+
     @property
     def is_alone(self) -> bool:
         """Whether it is one game, on the only board."""
@@ -65,35 +134,10 @@ class Wanted:
     opening: Callable[[], Opening]
 
 
-class HearsRecorder(Protocol):
-    """Gets the events of a recorder."""
+@dataclass(frozen=True)
+class Others:
+    """The other games that are recorded at the same time: the one that is recorded from the board with this serial number; and whether it takes
+    what that board has sent."""
 
-    def placed(self) -> None:
-        """A new text of its game is in place."""
-
-    def over(self) -> None:
-        """The game is over, and the board is watched for more moves."""
-
-    def reopened(self) -> None:
-        """A game that was over goes on."""
-
-    def asked(self, text: str, answered: Callable[[Answer], None]) -> None:
-        """Another call asks for this, and gets the answer."""
-
-    def stopped(self, refused: Optional[Refused]) -> None:
-        """The recording has ended; with the reason if that was an error."""
-
-    def came_back(self, heard_at: Optional[float], has_slept: bool) -> None:
-        """Its board, which was unplugged or silent and was heard last at this time, is heard again."""
-
-    def numbered(self) -> None:
-        """The serial number of its board has just become known."""
-
-    def missing(self) -> None:
-        """Its board, whose serial number is known, isn't on its cable any more."""
-
-    def owner(self, number: str) -> Optional[Owner]:
-        """The other game that is recorded from the board with this serial number."""
-
-    def lends(self, number: str, sent: bytes) -> bool:
-        """That board has sent this. Returns whether its own game takes it."""
+    owner: Callable[[str], Optional[Owner]]
+    takes: Callable[[str, bytes], bool]

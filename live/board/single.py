@@ -10,23 +10,20 @@ from typing import Callable, Optional, Tuple
 
 from live.board.advice import Moves, all_of
 from live.board.board import Board
-from live.board.finding import Finder
+from live.board.connection import Finder
 from live.board.plan import Plan, Wanted
 from live.board.state import Kind
+from live.child.lines import listed
 from live.child.program import Program
-from live.child.reply import HELPS, Answer, reason_of, refusal
-from live.child.report import listed
 from live.game.files import Paths, size_of
 from live.game.game import end_mark, largest, mebibytes
+from live.game.log import Screen
 from live.game.opening import Chooses, Chosen, Opening, added_to_kept
 from live.game.options import Options, as_typed
 from live.game.typed import MESSAGES, MOVES
 from live.line.line import check, check_free
-from live.run.called import DGT_LIVE
-from live.run.guard import traced
-from live.run.loop import Callback, Loop
-from live.run.refused import DONE, FAILED, REFUSED, Broken, Refused
-from live.show.screen import Screen
+from live.run.loop import Callback, Loop, traced
+from live.run.refused import DGT_LIVE, DONE, FAILED, HELPS, REFUSED, Answer, Broken, Refused, reason_of, refusal
 from live.words.message import Message, linked
 
 QUITS = ("q", "quit")

@@ -11,16 +11,15 @@ from typing import Callable, Optional, Sequence, Tuple
 from live.board.single import QUITS, Single
 from live.child.program import Program
 from live.doors.dgt_live import Call
-from live.game.file_names import has_delay
 from live.game.files import LOCK_PATIENCE, Paths, open_regular
-from live.game.game import end_mark, kept_tags
+from live.game.game import end_mark, has_delay, kept_tags
 from live.game.options import Options
 from live.out.again import is_unseen
 from live.out.broadcast import Broadcast
 from live.out.delay import GoingOut, clock_in, delay_of, keep_delay, keep_out, kept_out, told_of_kept
-from live.run.lock import locked
 from live.run.loop import Loop
 from live.run.refused import REFUSED, Refused
+from live.run.system import locked
 from live.show.address import keep_pages, pages_of
 from live.show.page import Title, TwoPages
 from live.show.view import ArbiterView

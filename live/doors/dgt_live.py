@@ -8,23 +8,19 @@ import os
 from dataclasses import dataclass
 from typing import Any, Callable, Optional, Sequence, Tuple
 
-from live.board.plan import Plan, numbered
-from live.board.reasons import Rules
+from live.board.plan import Plan, Rules, numbered
 from live.board.single import Choice, Single
 from live.child.program import Program
-from live.child.reply import BACK
 from live.doors.options import LIVE, Outcome, Outgoing, out_given, pages_given, read, through
 from live.game import files
-from live.game.file_names import check_name, has_delay
 from live.game.files import Paths
-from live.game.game import kept_tags
+from live.game.game import check_name, has_delay, kept_tags
+from live.game.log import Screen
 from live.game.opening import checked
 from live.game.options import Options
-from live.run.called import DGT_LIVE
 from live.run.loop import Loop, Signals
-from live.run.refused import DONE, FAILED, Refused
+from live.run.refused import BACK, DGT_LIVE, DONE, FAILED, Refused
 from live.show.address import Pages
-from live.show.screen import Screen
 from live.show.terminal import Terminal
 from live.show.typed import Typed
 from live.words.message import Message, linked

@@ -10,9 +10,8 @@ from typing import List, Optional, Sequence, Tuple
 
 from live.child.program import Program
 from live.doors.options import ROUNDS, SEE_HELP, Outcome, Outgoing, out_given, pages_given, read, through, with_values
-from live.game.file_names import ROUND, is_of_an_output
 from live.game.files import LOCK_PATIENCE, Paths, text_of
-from live.game.game import keep_options, kept_options
+from live.game.game import ROUND, is_of_an_output, keep_options, kept_options
 from live.game.opening import recordable, turned, unknown
 from live.game.options import RECOVER, STRICT, UNKNOWN, Options, as_typed, assigned
 from live.out.delay import GoingOut, delay_of, in_home, keep_out, kept_out, told_of_kept as told_of_kept_out
@@ -24,9 +23,9 @@ from live.out.publish import RESULTS, TournamentFiles, all_text, results_text
 from live.round.round import Round, refuse_another_round
 from live.round.row import Hall
 from live.round.tournament import Tournament, folder_of_table, made, refuse_exchanged, tournament_of
-from live.run.lock import locked
 from live.run.loop import Loop, Signals
 from live.run.refused import ARGUMENTS, DONE, FAILED, REFUSED, Refused
+from live.run.system import locked
 from live.show.address import Pages, keep_pages, pages_of
 from live.show.page import Title, TwoPages
 from live.show.site import SiteFiles, refuse_no_site

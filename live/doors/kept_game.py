@@ -5,33 +5,26 @@ from __future__ import annotations
 import os
 from typing import List
 
+from live.board import typed_lines
+from live.board.connection import Asked, ask, listing, told_of_shut
 from live.board.plan import last_number, numbered
-from live.child import control
 from live.child.program import Program
-from live.child.refusal import is_recorded
-from live.child.reply import OK, REOPENS, Answer
 from live.doors.dgt_live import Call
 from live.doors.options import Outcome
 from live.game import files, packing
 from live.game.changing import add_by_name, told_of_round, told_of_series
-from live.game.file_names import check_name, has_delay
 from live.game.files import LOCK_PATIENCE, Paths
-from live.game.forfeiting import forfeit_of
-from live.game.forfeits import told_to_readers
-from live.game.game import kept_options
+from live.game.forfeits import forfeit_of, told_to_readers
+from live.game.game import check_name, has_delay, kept_options
 from live.game.log import log_once
 from live.game.making_pgn import first_time
-from live.game.names import today
-from live.game.naming import line_of
-from live.game.opening import Opening, checked, read_otherwise
-from live.game.options import Options
-from live.game.tags import published
-from live.line import serial_line
-from live.line.numbers import Asked, ask, listing, told_of_shut
+from live.game.opening import Opening, checked, is_recorded, read_otherwise
+from live.game.options import Options, line_of
+from live.game.tags import published, today
+from live.line.line import devices, login_name
 from live.out.again import is_hidden
-from live.run.called import DGT_LIVE
 from live.run.loop import Loop
-from live.run.refused import DONE, FAILED, REFUSED, Refused, printable
+from live.run.refused import DGT_LIVE, DONE, FAILED, OK, REFUSED, REOPENS, Answer, Refused, printable
 from live.words.message import Message, linked
 
 
@@ -78,14 +71,14 @@ def remake(call: Call, program: Program) -> Outcome:
     line = line_of(call.options)
     device_first = Message("name.device_first", dgt_live=DGT_LIVE, name=call.name)
     paths = existing_game(call.name, *([device_first] if line else []))
-    asked = control.ask(paths.capture, line) if line else None
+    asked = typed_lines.ask(paths.capture, line) if line else None
     if asked:
         return answered(asked)
     given = checked(program, call.options)
     try:
         opened = Opening(program, paths, lambda: read_otherwise(given)).open(Loop.now(), today())
     except files.Recorded:
-        raise Refused(REFUSED, *is_recorded(paths.name, control.board_of(paths.capture), call.options)) from None
+        raise Refused(REFUSED, *is_recorded(paths.name, typed_lines.board_of(paths.capture), call.options)) from None
     opened.game.capture.close()
     assert opened.reader
     opened.reader.close()
@@ -114,7 +107,7 @@ def add(call: Call, program: Program) -> Outcome:
     """Changes a game that is recorded, or one that is over, line by line. The first refused line ends this."""
     paths, asked = existing_game(call.name), None
     for line in call.typed:
-        asked = control.ask(paths.capture, line)
+        asked = typed_lines.ask(paths.capture, line)
         answered(asked or add_by_name(program, paths, line, LOCK_PATIENCE))
         if not asked:
             publish_anew(paths)
@@ -139,10 +132,10 @@ def pack(call: Call, here: str) -> Outcome:
 
 def list_devices(here: str) -> Outcome:
     """Prints the list of the devices that are plugged in."""
-    found = serial_line.devices()
-    devices = ask(Program.find(here), [device for device, _ in found]) if found else Asked()
-    print("\n".join(listing(found, devices)))
-    shut = told_of_shut(devices, serial_line.login_name())
+    found = devices()
+    asked = ask(Program.find(here), [device for device, _ in found]) if found else Asked()
+    print("\n".join(listing(found, asked)))
+    shut = told_of_shut(asked, login_name())
     return (FAILED if shut else DONE), shut
 
 

@@ -14,10 +14,9 @@ from typing import Callable, List, NamedTuple, Optional, Sequence, Tuple
 
 from live.game.options import PLACE, PLAIN, RECOVER, ROTATED, STRICT, TAG, VALUED, assigned, meant, value_of, with_help
 from live.game.tags import Malformed, pair_of
-from live.run import descriptors
-from live.run.called import COMMANDS, DGT_LIVE, DGT_ROUND
 from live.run.loop import Signals
-from live.run.refused import ARGUMENTS, DONE, FAILED, Refused, printable
+from live.run.refused import ARGUMENTS, COMMANDS, DGT_LIVE, DGT_ROUND, DONE, FAILED, Refused, printable
+from live.run.system import raise_limit
 from live.show.address import Pages, read_pages
 from live.show.terminal import folded_for, leave_as_found, open_standard_streams
 from live.words.message import Message
@@ -188,7 +187,7 @@ def typed_tag(text: str, see_help: str) -> str:
 def through(command: str, call: Callable[[Signals], Outcome]) -> int:
     """Makes the call, prints its complaints, and returns its status."""
     open_standard_streams()
-    descriptors.raise_limit()
+    raise_limit()
     signals = Signals()
     status, complaint = DONE, ""
     try:

@@ -11,8 +11,8 @@ import stat
 from dataclasses import dataclass
 from typing import List, Optional, Union
 
-from live.run.lock import locked
 from live.run.refused import FAILED, REFUSED, Refused, recorded_elsewhere
+from live.run.system import locked
 from live.words.message import Message
 
 LARGEST = 64 * 1024 * 1024  # bytes of a capture: the program reads no more

@@ -11,16 +11,15 @@ import os
 import signal
 import subprocess
 from dataclasses import dataclass
-from typing import Callable, Iterator, List, Optional, Protocol, Sequence, Tuple
+from typing import Callable, Iterator, List, Optional, Sequence, Tuple
 
+from live.child.lines import Move, Result, line_of
 from live.child.program import Program, told_of_ending, wake
-from live.child.report import Move, Result, line_of
 from live.game.files import LARGEST, NO_ROOM, AnyPath, Opened, Paths, content_of, existing, new_of, open_new, open_regular, put_in_place, sync_folder, text_of, unwritten, write_all
 from live.game.game import Game
 from live.game.options import Options
-from live.run.beside import Worker
-from live.run.guard import Guard
-from live.run.loop import Timer
+from live.game.reading import whole
+from live.run.loop import Guard, Timer, Worker
 from live.words.message import Message
 
 AGAIN = 1.0  # seconds after a try that failed
@@ -58,14 +57,14 @@ def is_recorded(program: Program, options: Options, sent: bytes, text: bytes) ->
 
 
 def _texts(program: Program, options: Options, sent: bytes) -> Iterator[bytes]:
-    whole = program.whole(options, sent)
-    yield program.run("record", *options.of_record(), given=whole).stdout
+    sent_with = whole(program, options, sent)
+    yield program.run("record", *options.of_record(), given=sent_with).stdout
     if len(sent) > COMPARED:
         return
-    lines = map(line_of, program.lines("watch", *options.of_board(), given=whole))
+    lines = map(line_of, program.lines("watch", *options.of_board(), given=sent_with))
     changes = [line.offset for line in lines if line and isinstance(line.event, (Move, Result))]
     for size in (*(offset + 1 for offset in reversed(changes[-CHANGES:])), 0):
-        yield program.run("record", *options.of_record(), given=whole[:size]).stdout
+        yield program.run("record", *options.of_record(), given=sent_with[:size]).stdout
 
 
 # How it is made.
@@ -263,28 +262,16 @@ def _written(text: bytes, target: int) -> Made:
     return Made()
 
 
-class HearsMaker(Protocol):
-    """Gets the events of NAME.pgn, and asks for its text."""
-
-    def ask_text(self, gets: Callable[[Optional[bytes]], None]) -> None:
-        """Asks the program that attends the board; `gets` gets None if its text may have bytes that the capture lacks."""
-
-    def placed(self) -> None:
-        """It was made anew."""
-
-    def edited(self, kept: str) -> None:
-        """Somebody had edited it by hand. The edited text is kept there."""
-
-    def unmade(self, made: Made) -> None:
-        """It can't be made. This is reported whenever the reason changes."""
+Asks = Callable[[Callable[[Optional[bytes]], None]], None]  # for the text: the program that attends the board gives it, or None
 
 
 class Maker:
     """Makes NAME.pgn again and again, and a last time of the capture or of its first `limit` bytes. A worker does it, so the loop
-    never waits for it."""
+    never waits for it. `made` gets the outcome: each text that is in place, and each new reason why it can't be made. None in the place of
+    a text says that it may have bytes that the capture lacks."""
 
-    def __init__(self, guard: Guard, worker: Worker, game: Game, hears: HearsMaker) -> None:
-        self._guard, self._worker, self._capture, self._hears = guard, worker, game.capture, hears
+    def __init__(self, guard: Guard, worker: Worker, game: Game, asks: Asks, made: Callable[[Made], None]) -> None:
+        self._guard, self._worker, self._capture, self._asks, self._made = guard, worker, game.capture, asks, made
         self._text = Text(game)
         self._next: Optional[Text] = None  # of the same game with other tags
         self._asking = self._running = self._closed = False
@@ -321,7 +308,7 @@ class Maker:
         self._wanted = False
         if not self._idle:
             self._asking = True
-            self._hears.ask_text(self._take)
+            self._asks(self._take)
             return
         text, limit, size = self._newest(), self.limit, self._capture.size
         self._running, self._covers = True, size if limit is None else min(limit, size)
@@ -353,16 +340,14 @@ class Maker:
         before, self.last = self.last, made
         if not made.trouble:
             self.made_of = self._covers
-            if made.edited:
-                self._hears.edited(made.edited)
-            self._hears.placed()
+            self._made(made)
             if self._wanted:
                 self._start()
             elif self._idle:
                 self._idle(True)
             return
         if made != before:
-            self._hears.unmade(made)
+            self._made(made)
         if self._idle:
             self._tries -= 1
             if self._tries <= 0:

@@ -7,30 +7,66 @@ import dataclasses
 import os
 import threading
 from dataclasses import dataclass
-from typing import Callable, Dict, List, Optional, Protocol, Sequence, Tuple
+from typing import Callable, Dict, List, Optional, Sequence, Tuple
 
 from live.child.program import Program
-from live.child.reading import Old, Reader, words_of
-from live.child.refusal import reason
-from live.game import names, tags
 from live.game.files import LOCK_PATIENCE, Capture, Paths, open_game, size_of
 from live.game.game import Game, end_mark, is_full, keep_options, kept_options, result_in, result_of
 from live.game.making_pgn import Made, Text, told_of_edit, told_of_reading, told_of_result
-from live.game.naming import read_names, told_of_names
-from live.game.options import PUBLISHED, UNKNOWN, Options, as_typed
+from live.game.options import PUBLISHED, SEE_HELP, UNKNOWN, Options, as_typed, read_names, told_of_names
+from live.game.reading import Old, Reader, words_of
+from live.game.tags import LONGEST, Unreadable, ascii_name, cleaned, is_seen, pgn_date
 from live.game.timed import Times
 from live.run.loop import Callback
-from live.run.refused import FAILED, REFUSED, Refused
-from live.words.message import Message
+from live.run.refused import DGT_LIVE, FAILED, REFUSED, Refused
+from live.words.message import Message, linked
+
+# The conditions for a position and its text, in docs/CHESS.md.
+OF_FEN: Dict[str, str] = {
+    "form": Message("fen.form"),
+    "counters": Message("fen.counters"),
+    "placement": Message("fen.placement"),
+    "kings": Message("fen.kings"),
+    "pawns": Message("fen.pawns"),
+    "rights": Message("fen.rights"),
+    "en passant": Message("fen.en_passant"),
+    "check": Message("fen.check"),
+}
+
+
+def reason(error: str) -> str:
+    """The message, given what the program has printed."""
+    first = (error.strip().splitlines() or [Message("program.no_reason")])[0]
+    kind, _, why = first.partition(": ")
+    if kind == "fen":
+        return Message("fen.refused", why=why, advice=OF_FEN.get(why, SEE_HELP))
+    return Message("option.refused", why=why if kind == "error" else first, dgt_live=DGT_LIVE)
+
+
+def is_recorded(name: str, board: Optional[str], given: Options) -> Tuple[str, ...]:
+    """The message if a game is to be made anew while it is recorded: on this board of a round, on none, or unknown."""
+    if board == "":
+        return (Message("remake.recorded", name=name),)
+    columns = [Message("remake.column_first", side=given.first)] if given.first else []
+    if given.recover is not None:
+        columns.append(Message("remake.column_recover", answer=Message("table.yes") if given.recover else Message("table.no")))
+    write = Message("remake.write", columns=linked("comma_and", columns))
+    if board:
+        return Message("remake.board", name=name, board=board), write
+    return (
+        Message("remake.in_use", name=name),
+        write,
+    )
+
 
 # What changes each tag, and what it is called if that fails.
 TURNS: Dict[str, Callable[[str], str]] = {
-    "--event": names.ascii_name,
-    "--site": names.ascii_name,
-    "--round": names.ascii_name,
-    "--white": names.ascii_name,
-    "--black": names.ascii_name,
-    "--date": names.pgn_date,
+    "--event": ascii_name,
+    "--site": ascii_name,
+    "--round": ascii_name,
+    "--white": ascii_name,
+    "--black": ascii_name,
+    "--date": pgn_date,
 }
 CALLED: Dict[str, str] = {
     "--event": Message("tag.event"),
@@ -61,13 +97,13 @@ def recordable(typed: Options, instead: Optional[Callable[[str], str]] = None) -
         if text is None:
             continue
         try:
-            recorded = names.ascii_name(text)
-        except names.Unreadable:
-            if instead is None or not tags.is_seen(tags.cleaned(text)) or len(text) > tags.LONGEST:
+            recorded = ascii_name(text)
+        except Unreadable:
+            if instead is None or not is_seen(cleaned(text)) or len(text) > LONGEST:
                 continue  # it is refused
             recorded = values[option] = instead(option)
-        if tags.cleaned(text) != recorded.strip():
-            written[name] = tags.cleaned(text)
+        if cleaned(text) != recorded.strip():
+            written[name] = cleaned(text)
     changed: Dict[str, object] = {option[2:]: value for option, value in values.items()}
     return dataclasses.replace(typed, **changed).tagged({**written, **dict(typed.tags)})
 
@@ -79,7 +115,7 @@ def turned(given: Options) -> Options:
         def of_value(value: str) -> str:
             try:
                 return TURNS[option](value)
-            except names.Unreadable as error:
+            except Unreadable as error:
                 raise Refused(REFUSED, Message("start.unfit_value", called=CALLED[option], why=error.message)) from None
 
         return of_value
@@ -110,12 +146,9 @@ class Chosen:
     refused: Optional[Refused] = None
 
 
-class Chooses(Protocol):
-    """Chooses the options with which a game goes on, given those that were kept and whether it has a move. Refused if it can't go
-    on."""
-
-    def __call__(self, kept: Optional[Options], has_moves: Callable[[], bool]) -> Chosen:
-        """A new game has no kept options."""
+# Chooses the options with which a game goes on, given those that were kept, of a game that isn't new, and whether it has a move. Refused if
+# it can't go on.
+Chooses = Callable[[Optional[Options], Callable[[], bool]], Chosen]
 
 
 @dataclass(frozen=True)
@@ -357,5 +390,3 @@ def read_otherwise(given: Options) -> Chooses:
         return Chosen(chosen, tuple(filter(None, [chosen.told_of_tags(before)])))
 
     return chooses
-
-

@@ -12,10 +12,10 @@ import zipfile
 from dataclasses import dataclass
 from typing import IO, Iterator, List, Sequence, Tuple
 
+from live.game.changing import NO_LINKS
 from live.game.files import Paths, existing, new_of, not_written, open_new, open_regular, sync_folder, text_of
-from live.game.made_anew import NO_LINKS
-from live.run.lock import locked
 from live.run.refused import FAILED, REFUSED, Refused
+from live.run.system import locked
 from live.words.message import Message
 
 README = "README.txt"

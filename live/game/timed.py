@@ -15,13 +15,13 @@ import os
 import threading
 import time
 from dataclasses import dataclass
-from typing import Callable, List, Optional, Protocol, Tuple
+from typing import Callable, List, Optional, Tuple
 
 from live.game import times
-from live.game.began import Began, BeganFile, as_written, began_line, part_line, this_start
 from live.game.files import LARGEST, Capture, Paths, existing, open_regular, part_of, put_in_place, remove, sync_folder, text_of
+from live.game.times import Began, BeganFile, as_written, began_line, part_line, this_start
 from live.line.protocol import DUMP_SIZE
-from live.run.loop import Away, Callback, Counting, Loop
+from live.run.loop import Callback, Counting, Guard, Loop
 from live.words.message import Message
 
 TRIES_AGAIN = 1.0  # seconds after a write has failed
@@ -29,17 +29,6 @@ MOST_WAIT = 1000  # events that wait for the first bytes of a capture
 AT_ONCE = 65536  # bytes of a capture that the program may be told as a whole, though no times of theirs are known
 OFTEN = (times.HEARD, times.ASKED)  # a move comes in several reads
 LATE = 20  # milliseconds from an event to its line
-
-
-class Turns(Protocol):
-    """What it needs of a guard."""
-
-    @property
-    def away(self) -> Away:
-        """The times in which the recorder was stopped, or the computer slept."""
-
-    def opened(self, close: Callback) -> Callback:
-        """Something was opened, and this closes it. The returned function closes it too."""
 
 
 def milliseconds() -> int:
@@ -63,7 +52,7 @@ class Times:
     def __init__(self, paths: Paths, capture: Capture) -> None:
         self._paths, self._capture, self._path = paths, capture, times_of(paths.capture)
         self._lock = threading.Lock()
-        self._turns: Optional[Turns] = None
+        self._guard: Optional[Guard] = None
         self._says: Callable[[str], None] = lambda text: None
         self._told: List[str] = []  # to be said
         self.unexpected: Tuple[str, ...] = ()  # errors that aren't the system's
@@ -163,11 +152,11 @@ class Times:
 
     # What happens.
 
-    def attend(self, turns: Turns, says: Callable[[str], None]) -> None:
+    def attend(self, guard: Guard, says: Callable[[str], None]) -> None:
         """A call begins. What fails is said."""
-        self._turns, self._says = turns, says
-        self._was_away = turns.away.seconds
-        self.leave = turns.opened(self.close)
+        self._guard, self._says = guard, says
+        self._was_away = guard.away.seconds
+        self.leave = guard.opened(self.close)
         self.begin()
 
     def begin(self, size: Optional[int] = None) -> None:
@@ -261,8 +250,8 @@ class Times:
         self._events.append((self._at, what, count))
 
     def _note_away(self) -> None:
-        if self._turns and self._turns.away.seconds > self._was_away:
-            before, self._was_away = self._was_away, self._turns.away.seconds
+        if self._guard and self._guard.away.seconds > self._was_away:
+            before, self._was_away = self._was_away, self._guard.away.seconds
             self._events.append((self._at, times.STOPPED, int((self._was_away - before) * 1000)))
 
     def happened(self, what: str, count: Optional[int] = None) -> None:
@@ -290,7 +279,7 @@ class Times:
 
     def _tell(self) -> None:
         told, self._told = self._told, []
-        if self._turns:
+        if self._guard:
             for text in told:
                 self._says(text)
         else:

@@ -17,24 +17,19 @@ import threading
 from dataclasses import astuple, dataclass, replace
 from typing import AbstractSet, Any, Callable, Iterator, List, Mapping, Optional, Sequence, Tuple
 
-from live.child.attended import CAPTURE, PIECE, TEXT, Answer, Answers, entry
+from live.child.lines import CAPTURE, PIECE, TEXT, Answer, Answers, Move, Recovered, Result, entry, line_of
 from live.child.program import CHUNK, Program, told_of_ending
-from live.child.reading import new_course, wanted
-from live.child.report import Move, Recovered, Result, line_of
 from live.game import timed, times
-from live.game.began import Began, Begin, Part, as_written, read_began, this_start
-from live.game.file_names import has_delay
 from live.game.files import NO_SUCH_FILE, AnyPath, Opened, Paths, existing, open_regular, part_of, put_in_place
-from live.game.forfeiting import forfeit_of, forfeited_after
-from live.game.forfeits import told_to_readers
-from live.game.game import end_mark, kept_options, kept_tags, result_of
+from live.game.forfeits import forfeit_of, forfeited_after, told_to_readers
+from live.game.game import end_mark, has_delay, kept_options, kept_tags, result_of
 from live.game.options import Options
+from live.game.reading import new_course, wanted
 from live.game.tags import published
-from live.game.times import HEADED, OF_BYTES, OVER, Call
+from live.game.times import HEADED, OF_BYTES, OVER, Began, Begin, Call, Part, as_written, read_began, this_start
 from live.out.delay import Said, delay_of
 from live.out.spectators import STANDS, Clocks, Paired, Played, Player, Ply, Shot, Shots, SpectatorBoard, round_pgn
-from live.run.beside import Worker
-from live.run.loop import Turns
+from live.run.loop import Turns, Worker
 from live.run.refused import Refused
 from live.words.message import Message
 

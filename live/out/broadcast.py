@@ -12,15 +12,14 @@ from typing import Callable, Dict, Iterable, List, Optional, Sequence, Set, Tupl
 
 from live.child.program import Program
 from live.game.files import AnyPath, Paths, folder_of, remove, sync_folder
-from live.game.forfeits import NO_RESULT
+from live.game.typed import NO_RESULT
 from live.out.again import Keeper, WentOut, games_before, read_shown, said_again, shown_beside
 from live.out.delay import GoingOut, OneGame, Said, Waiting
 from live.out.publish import Published, Publisher
 from live.out.spectators import UNKNOWN, Game, Paired, Shot, SpectatorBoard, round_pgn, said_of_matches
-from live.run.beside import Worker
-from live.run.guard import Guard, Restarted, traced
-from live.run.loop import Loop, Timer
+from live.run.loop import Guard, Loop, Timer, Worker, traced
 from live.run.refused import Refused
+from live.run.restarted import Restarted
 from live.words.message import Message, linked
 
 GATHERED = 0.05  # seconds in which changes are gathered if a page shows them

@@ -20,7 +20,7 @@ import time
 from typing import List, Optional, Sequence, Tuple
 
 LOOK = 0.05  # seconds
-OF_AN_OUTPUT = "output-"  # as in live/game/file_names.py: this file is run alone
+OF_AN_OUTPUT = "output-"  # as in live/game/game.py: this file is run alone
 SUBREAPER = 36  # PR_SET_CHILD_SUBREAPER of Linux: who loses his parent becomes a child of this process
 
 

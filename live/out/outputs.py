@@ -11,13 +11,12 @@ from dataclasses import dataclass, replace
 from typing import Callable, Iterable, List, Optional, Sequence, Tuple
 
 from live.child.program import Program
-from live.game.file_names import OF_AN_OUTPUT
 from live.game.files import new_of, remove, text_of
+from live.game.game import OF_AN_OUTPUT
 from live.out.broadcast import Broadcast
 from live.out.delay import GoingOut, in_home, read_command, seconds_in
 from live.out.spectators import Game, Paired
-from live.run.guard import traced
-from live.run.loop import Loop
+from live.run.loop import Loop, traced
 from live.run.refused import ARGUMENTS, REFUSED, Refused
 from live.words.message import Message, linked, plural
 

@@ -15,10 +15,10 @@ from dataclasses import dataclass
 from typing import Dict, FrozenSet, Iterable, List, Mapping, NamedTuple, Optional, Protocol, Sequence, Set, Tuple
 
 from live.board.board import Board
-from live.child.report import Clock, Move
-from live.game.course import clocks_of
+from live.child.lines import Clock, Move
 from live.game.forfeits import score_of
 from live.game.options import Options
+from live.game.reading import clocks_of
 from live.game.tags import Tags, pairs_of
 from live.words.message import Message, linked, plural
 

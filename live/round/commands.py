@@ -8,17 +8,13 @@ from dataclasses import dataclass
 from typing import Callable, Optional, Sequence
 
 from live.child.program import Program
-from live.child.reply import OK, REFUSALS, REOPENS, Answer, Refused as NotDone
-from live.game import answers
-from live.game.answers import ILLEGAL, MEANT, MOVES, OK_NUMBERED, RESULT, UNKNOWN, Said, moves_in
 from live.game.forfeits import typed_forfeit
-from live.game.naming import IN_A_TABLE, is_naming
-from live.game.options import Options
-from live.game.typed import ABSENT, ALL_WAYS, Acknowledged, Back, Reopened, read_words
+from live.game.options import IN_A_TABLE, Options, is_naming
+from live.game.typed import ABSENT, ALL_WAYS, ILLEGAL, MEANT, MOVES, OK_NUMBERED, RESULT, UNKNOWN, Acknowledged, Back, Reopened, Said, ask_to_add, moves_in, read_words
 from live.out.delay import clock_in
 from live.out.outputs import Outputs
 from live.run.loop import Turns
-from live.run.refused import DONE
+from live.run.refused import DONE, OK, REFUSALS, REOPENS, Answer, NotDone
 from live.words.message import Message, has, is_of, linked, plural
 
 LOOK = 0.5  # seconds
@@ -79,7 +75,7 @@ def is_command(text: str) -> bool:
 def said_of(program: Program, text: str) -> Said:
     """What the program says of a text that is typed to a game without moves."""
     try:
-        return answers.add(program, Options(), b"", text)
+        return ask_to_add(program, Options(), b"", text)
     except OSError:
         return Said(UNKNOWN)
 

@@ -11,18 +11,16 @@ import time
 from types import MappingProxyType
 from typing import Callable, Dict, List, Mapping, Optional, Sequence, Set, Tuple, Union
 
+from live.board.advice import may_be_exchanged, same_number
 from live.board.board import Board
-from live.board.exchanged import may_be_exchanged, same_number
-from live.board.finding import Finder
-from live.child.reply import HELPS, Answer, printable, refusal, Refused as NotDone
-from live.child.report import listed
-from live.game.answers import UNKNOWN, Said
-from live.game.file_names import ROUND
+from live.board.connection import Finder
+from live.child.lines import listed
 from live.game.files import size_of, text_of
-from live.game.forfeits import NO_RESULT, score_of, typed_forfeit
+from live.game.forfeits import score_of, typed_forfeit
+from live.game.game import ROUND
 from live.game.log import Log, logged_at
 from live.game.options import PLAYERS
-from live.game.typed import MESSAGES, MOVES, refuse_no_text
+from live.game.typed import MESSAGES, MOVES, NO_RESULT, UNKNOWN, Said, refuse_no_text
 from live.out.broadcast import Broadcast
 from live.out.delay import clock_in
 from live.out.outputs import Outputs
@@ -31,11 +29,8 @@ from live.out.spectators import UNKNOWN as NOT_KNOWN, Paired, matches_of, round_
 from live.round.commands import Leaving, all_ways, is_command, said_of, told_of_answer, ways
 from live.round.row import Earlier, Hall, Line, News, Row, earlier_game, was_forfeited
 from live.round.tournament import another_folder
-from live.run.beside import Worker
-from live.run.called import DGT_ROUND
-from live.run.guard import traced
-from live.run.loop import Loop
-from live.run.refused import DONE, FAILED, REFUSED, Refused, printable as whole_printable
+from live.run.loop import Loop, Worker, traced
+from live.run.refused import DGT_ROUND, DONE, FAILED, HELPS, REFUSED, Answer, NotDone, Refused, printable, refusal, shown
 from live.show.table import NOT_RECORDED, Display, RowView, boards_are, boards_counted, lines_are_wrong
 from live.show.typed import Typed
 from live.table.encoding import is_question
@@ -217,7 +212,7 @@ class Round:
     def say_of_table(self, text: str) -> None:
         """A line about the table, which the round's log has too."""
         self.say(text)
-        self._log.write(logged_at(time.time()), whole_printable(text))
+        self._log.write(logged_at(time.time()), printable(text))
 
     def views(self) -> List[RowView]:
         """The rows, then the lines that belong to none."""
@@ -369,7 +364,7 @@ class Round:
         if row is None and absent and typed_forfeit(" ".join(words)):
             self._forfeit(absent, " ".join(words))
         elif row is None:
-            self.say(Message("round.no_board", number=printable(number), boards=boards_are(sorted(self.rows))))
+            self.say(Message("round.no_board", number=shown(number), boards=boards_are(sorted(self.rows))))
         elif words == [MOVES]:
             self._display.show_long(linked("colon", (str(row.number), listed(row.board.plies, row.board.result))))
         elif words:
@@ -399,7 +394,7 @@ class Round:
         loop."""
 
         def says(said: Said) -> None:
-            self.say(Message("refused.line", line=printable(text), why=ways(text, sorted(self.rows), said)))
+            self.say(Message("refused.line", line=shown(text), why=ways(text, sorted(self.rows), said)))
 
         try:
             refuse_no_text(text)

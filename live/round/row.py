@@ -9,28 +9,23 @@ from typing import Callable, List, NamedTuple, Optional, Tuple, Union
 
 from live.board.advice import Moves, all_of
 from live.board.board import Board
-from live.board.plan import Plan, Wanted
-from live.board.reasons import Rules
+from live.board.plan import Plan, Rules, Wanted
 from live.board.state import OTHER_BOARD, Kind, State
 from live.child.program import Program
-from live.child.reading import game_of
-from live.child.reply import REOPENS, Answer, refusal
 from live.game import files
-from live.game.course import clocks_of
 from live.game.files import Paths
-from live.game.forfeiting import forfeit_of
-from live.game.forfeits import Forfeit
+from live.game.forfeits import Forfeit, forfeit_of
 from live.game.game import end_mark, kept_options, result_in
-from live.game.naming import IN_A_TABLE, is_naming
+from live.game.log import Screen
 from live.game.opening import Chooses, Opening, checked, of_a_line, recordable, turned
-from live.game.options import PLAYERS, UNKNOWN, Options
+from live.game.options import IN_A_TABLE, PLAYERS, UNKNOWN, Options, is_naming
+from live.game.reading import clocks_of, game_of
 from live.line.line import check
 from live.line.protocol import SQUARES
 from live.out.delay import GoingOut
 from live.out.outputs import Output
 from live.run.loop import Turns
-from live.run.refused import DONE, REFUSED, Refused
-from live.show.screen import Screen
+from live.run.refused import DONE, REFUSED, REOPENS, Answer, Refused, refusal
 from live.show.table import NOT_RECORDED, RowView
 from live.show.terminal import Terminal
 from live.table.pairings import Pairing, same_but_for_names, same_but_for_result

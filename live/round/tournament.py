@@ -12,15 +12,14 @@ import shlex
 from dataclasses import dataclass
 from typing import Callable, Dict, List, Optional, Sequence, Tuple
 
+from live.board.connection import ask
 from live.child.program import Program
 from live.game import files
 from live.game.options import RECOVER, STRICT, TAG
 from live.game.tags import known_name
-from live.line import serial_line
-from live.line.numbers import ask
+from live.line.line import devices
 from live.out.outputs import OUTPUT as OPTION, read_name, read_output
-from live.run.called import DGT_ROUND
-from live.run.refused import ARGUMENTS, FAILED, REFUSED, Refused
+from live.run.refused import ARGUMENTS, DGT_ROUND, FAILED, REFUSED, Refused
 from live.table.encoding import encoding_in, known_encoding, loose_text, text_of
 from live.table.hall import BOARDS
 from live.table.pairings import NO, YES, shown
@@ -226,7 +225,7 @@ def made(folder: pathlib.Path, find: Callable[[], Program]) -> List[str]:
 
 def boards_text(find: Callable[[], Program]) -> str:
     """A table of the plugged-in boards, in order of their serial numbers."""
-    found = serial_line.devices()
+    found = devices()
     numbers = ask(find(), [device for device, _ in found]).numbers if found else {}
     lines = [BOARDS_HEADER]
     places = [(numbers.get(device, ""), name or device) for device, name in found]

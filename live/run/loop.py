@@ -1,4 +1,6 @@
-"""One loop for all boards: file descriptors that are ready, timers that are due, signals that end it."""
+"""One loop for all boards: file descriptors that are ready, timers that are due, signals that end it; a guard between the loop and each
+part of the recorder: an error in one board or one reader ends only that one; a thread beside it, for jobs that wait for the disk, or for a
+program to start; and what is done in steps, each of which waits for a job or for what the loop brings."""
 
 from __future__ import annotations
 
@@ -9,20 +11,21 @@ import heapq
 import itertools
 import math
 import os
+import queue
 import select
 import signal
 import socket
+import threading
 import time
 from dataclasses import dataclass
-from typing import Callable, Deque, Dict, List, Optional, Protocol, Tuple
-
-from live.run.time_away import LONGEST, time_away
+from typing import Callable, Deque, Dict, Generator, List, NoReturn, Optional, Set, Tuple, TypeVar, Union, cast
 
 Callback = Callable[[], None]
 ENDING = (signal.SIGINT, signal.SIGTERM, signal.SIGHUP)
 PULSE = 1.0  # seconds after which the loop turns at the latest
 MOST_FOUND = 32  # descriptors that are found ready at once: others are found in the next turn
 READS, WRITES = select.EPOLLIN, select.EPOLLOUT
+LONGEST = 5.0  # seconds for which a turn may come late: after more, nobody has listened to the boards meanwhile
 MAY_READ, MAY_WRITE = ~WRITES, ~READS  # what else is reported, as that a line is gone, counts as both
 
 
@@ -59,35 +62,6 @@ class Timer:
 
     def cancel(self) -> None:
         self.cancelled = True
-
-
-class Turns(Protocol):
-    """What a part of the recorder needs of the loop."""
-
-    def now(self) -> float:
-        """The time of all timers; it never goes back."""
-
-    @property
-    def away(self) -> Away:
-        """The times in which the recorder was stopped, or the computer slept."""
-
-    def watch(self, number: int, readable: Optional[Callback] = None, writable: Optional[Callback] = None) -> None:
-        """Calls these from now on for the file descriptor; none if both are None."""
-
-    def forget(self, number: int) -> None:
-        """Call this before you close the file descriptor."""
-
-    def at(self, when: float, callback: Callback) -> Timer:
-        """Calls it once, at this time."""
-
-    def after(self, seconds: float, callback: Callback) -> Timer:
-        """Calls it once, after this many seconds."""
-
-    def soon(self, callback: Callback) -> None:
-        """Calls it once, in the next turn. Any thread may call this."""
-
-    def raised(self, error: Exception) -> None:
-        """A thread has raised this error: it is raised in the next turn."""
 
 
 class Loop:
@@ -238,6 +212,12 @@ class Counting:
         return int((now + self._slept) * 1000)
 
 
+def time_away(seconds: float, waited: float) -> float:
+    """The seconds between two turns, if they were a time away; else 0. The loop meant to wait for `waited` of them at most. They are
+    those of a clock that counts on while the computer sleeps, and that nobody can set."""
+    return seconds if seconds - waited > LONGEST else 0.0
+
+
 class Signals:
     """INT, TERM and HUP call one function, in the loop. If the caller ignores HUP, as `nohup` does, it stays ignored; INT is taken
     even if a shell has started this in the background and ignores it. A terminal's stop signals are ignored: a recorder that is
@@ -290,3 +270,212 @@ def close(number: Optional[int]) -> None:
     """Closes a file descriptor, if it is one."""
     if number is not None:
         os.close(number)
+
+
+class Guard:
+    """The loop's calls for one part. If a callback raises an error, this part ends: none of its callbacks is called any more, what
+    it has open is closed, and `broke` gets the error. `notes` gets every other error: what else failed during closing, and what
+    a job raised later. What goes up from the part during a callback is put into `ups`: `taken` is called then, in the same turn."""
+
+    def __init__(
+        self, loop: Turns, broke: Callable[[Exception], None], notes: Callable[[Exception], None], taken: Callback = lambda: None
+    ) -> None:
+        self._loop, self._broke, self._notes, self._taken = loop, broke, notes, taken
+        self.ups: Deque[object] = collections.deque()
+        self.now: Callable[[], float] = loop.now  # the time of all timers; it never goes back
+        self.away: Away = loop.away
+        self._watched: Set[int] = set()
+        self._open: Dict[object, Callback] = {}  # closes each open thing, in the order of opening
+        self.ended = False
+
+    def watch(self, number: int, readable: Optional[Callback] = None, writable: Optional[Callback] = None) -> None:
+        """Calls these from now on for the file descriptor; none if both are None."""
+        if self.ended:
+            return
+        if readable or writable:
+            self._watched.add(number)
+            self._loop.watch(number, self._guarded(readable), self._guarded(writable))
+        else:
+            self.forget(number)
+
+    def forget(self, number: int) -> None:
+        """Call this before you close the file descriptor."""
+        if number in self._watched:
+            self._watched.discard(number)
+            self._forget(number)
+
+    def _forget(self, number: int) -> None:
+        """Tries twice, and raises the first error: a new file with a number that is still watched would not be heard."""
+        try:
+            self._loop.forget(number)
+        except Exception:
+            self._loop.forget(number)
+            raise
+
+    def at(self, when: float, callback: Callback) -> Timer:
+        """Calls it once, at this time."""
+        return self._loop.at(when, lambda: self.call(callback))
+
+    def after(self, seconds: float, callback: Callback) -> Timer:
+        """Calls it once, after this many seconds."""
+        return self._loop.at(self.now() + seconds, lambda: self.call(callback))
+
+    def soon(self, callback: Callback) -> None:
+        """Calls it once, in the next turn. Any thread may call this."""
+        self._loop.soon(lambda: self.call(callback))
+
+    def raised(self, error: Exception) -> None:
+        """Another thread has raised this error for the part: in the next turn it ends the part, or is noted if the part has ended."""
+        self._loop.soon(lambda: self._notes(error) if self.ended else self._ends_by(error))
+
+    def call(self, callback: Callback) -> None:
+        """Calls it now, unless the part has ended. An error ends the part."""
+        if self.ended:
+            return
+        try:
+            callback()
+            if self.ups:
+                self._taken()
+        except Exception as error:
+            self._ends_by(error)
+
+    def _ends_by(self, error: Exception) -> None:
+        self.end()
+        self._broke(error)
+
+    def opened(self, close: Callback) -> Callback:
+        """Something was opened, and this closes it. The returned function closes it too: it is closed only once, at the latest
+        when the part ends."""
+        key = object()
+        self._open[key] = close
+
+        def once() -> None:
+            if self._open.pop(key, None):
+                close()
+
+        return once
+
+    def end(self) -> None:
+        """Ends the part: calls nothing further, and closes what is open, the last first. A second call does nothing."""
+        if self.ended:
+            return
+        self.ended = True
+        closes: List[Callback] = [functools.partial(self._forget, number) for number in self._watched]
+        closes += reversed(list(self._open.values()))
+        self._watched.clear()
+        self._open.clear()
+        troubles: List[Exception] = []
+        for close in closes:
+            try:
+                close()
+            except Exception as error:
+                troubles.append(error)
+        for trouble in troubles:
+            self._notes(trouble)
+
+    def _guarded(self, callback: Optional[Callback]) -> Optional[Callback]:
+        return functools.partial(self.call, callback) if callback else None
+
+
+def traced(error: BaseException) -> str:
+    """Where an error was raised, line by line."""
+    lines, step = ["Traceback (most recent call last):"], error.__traceback__
+    while step:
+        code = step.tb_frame.f_code
+        lines.append(f'  File "{code.co_filename}", line {step.tb_lineno}, in {code.co_name}')
+        step = step.tb_next
+    return "\n".join([*lines, f"{type(error).__name__}: {error}"])
+
+
+Turns = Union[Loop, Guard]  # the loop, or as a part of the recorder has it
+
+
+Result = TypeVar("Result")
+
+
+class Worker:
+    """Does one job after the other. A job gets what it needs by value, and changes nothing that the loop uses."""
+
+    def __init__(self, loop: Turns) -> None:
+        self._loop = loop
+        self._jobs: queue.SimpleQueue[Optional[Callable[[], None]]] = queue.SimpleQueue()
+        self._closed = False
+        self._thread = threading.Thread(target=self._work, daemon=True)
+        self._thread.start()
+
+    def do(self, job: Callable[[], Result], done: Callable[[Result], None]) -> None:
+        """Does this, and calls `done` in the loop. An error in the job is raised there too, even after `close`."""
+
+        def work() -> None:
+            try:
+                result = job()
+            except Exception as error:
+                self._loop.raised(error)
+            else:
+                self._loop.soon(lambda: None if self._closed else done(result))
+
+        self._jobs.put(work)
+
+    def close(self) -> None:
+        """Begins no further job, and reports no result any more."""
+        self._closed = True
+        self._jobs.put(None)
+
+    def wait(self) -> None:
+        """After `close`: waits for the running job."""
+        self._thread.join()
+
+    def _work(self) -> None:
+        try:
+            signal.pthread_sigmask(signal.SIG_BLOCK, ENDING)  # wakes the loop
+        except Exception as error:
+            self._loop.raised(error)
+        for job in iter(self._jobs.get, None):
+            if not self._closed:
+                job()
+
+
+Outcome = Callable[[], object]  # returns what was waited for, or raises its error
+Resume = Callable[[Outcome], None]
+Wait = Callable[[Resume], None]  # begins to wait; when that is over the loop calls `Resume`, once
+Steps = Generator[Wait, object, Result]
+
+
+def beside(worker: Worker, job: Callable[[], Result]) -> Steps[Result]:
+    """Waits for a job that a worker does. Returns its result, or raises its error."""
+
+    def work() -> Outcome:
+        try:
+            result = job()
+        except Exception as error:
+            return functools.partial(_raise, error)
+        return lambda: result
+
+    return cast(Result, (yield lambda resume: worker.do(work, resume)))
+
+
+def _raise(error: Exception) -> NoReturn:
+    raise error
+
+
+def walk(steps: Steps[Result], done: Callable[[Union[Result, Exception]], None]) -> None:
+    """Does all steps, as soon as each wait is over. `done` gets the result, or the error that ended them."""
+
+    def resume(outcome: Outcome) -> None:
+        result: Union[Result, Exception]
+        try:
+            try:
+                value = outcome()
+            except Exception as error:
+                wait = steps.throw(error)
+            else:
+                wait = steps.send(value)
+            wait(resume)
+            return
+        except StopIteration as ended:
+            result = ended.value
+        except Exception as error:
+            result = error
+        done(result)
+
+    resume(lambda: None)

@@ -1,8 +1,26 @@
-"""An error that ends a call early, with what to do about it."""
+"""How a call ends early, or a typed line isn't obeyed, with what to do about it; and how both commands are called, for that."""
 
 from __future__ import annotations
 
-from live.words.message import Message
+import os
+import shlex
+import sys
+from typing import Tuple
+
+from live.words.message import Complaint, Message, linked
+
+COMMANDS = ("dgt_live", "dgt_round")
+
+
+def in_front(path: str, places: str) -> str:
+    """What to type before the name of a command that was called by this path: nothing if a shell finds it in these places."""
+    folder, name = os.path.split(path)
+    if name not in COMMANDS or folder in places.split(":"):
+        return ""
+    return os.path.join(folder or ".", "")
+
+
+DGT_LIVE, DGT_ROUND = (shlex.quote(in_front(sys.argv[0], os.environ.get("PATH", "")) + name) for name in COMMANDS)
 
 # The statuses of dgt_live.
 DONE = 0
@@ -42,3 +60,46 @@ class Refused(Exception):
 
 class Broken(Refused):
     """A part of the program failed again and again: the recording begins again after a while."""
+
+
+HELPS = ("help", "?", "undo")
+BACK, OK, REOPENS = "back", "ok", "*"  # what messages say is to be typed: takes plies off; acknowledges alarms; takes a result off
+NO_TEXT = Message("typed.no_text")
+REFUSALS = ("refused.why", "refused.line", "refused.too_long")  # the keys of messages that something isn't done
+SHOWN = 60  # characters of a line that an answer shows
+Answer = Tuple[int, str]  # a status, and its message
+
+
+class NotDone(Complaint):
+    """What was typed isn't done. The text says why, and what to type."""
+
+
+class Asked(NotDone):
+    """What was typed would remove a lot: it is done if it is typed again."""
+
+
+class Helped(NotDone):
+    """Somebody asks what can be typed."""
+
+
+def shown(text: str) -> str:
+    """The beginning of what was typed, with only what can be printed."""
+    return printable(text[:SHOWN])
+
+
+def reason_of(error: Exception) -> str:
+    """The message for an error."""
+    if isinstance(error, OSError):
+        why = error.strerror or str(error)
+        return linked("colon", (os.fsdecode(error.filename), why)) if isinstance(error.filename, (str, bytes)) else why
+    if isinstance(error, Refused):
+        return error.lines[0]
+    return error.message if isinstance(error, NotDone) else f"{type(error).__name__}: {error}"
+
+
+def refusal(text: str, error: Exception) -> Answer:
+    """The answer to what was typed, if that isn't done, or not yet."""
+    if isinstance(error, (Asked, Helped)):
+        return REFUSED, error.message
+    reason = reason_of(error)
+    return REFUSED, Message("refused.why", why=reason) if text in reason else Message("refused.line", line=shown(text), why=reason)

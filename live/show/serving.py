@@ -17,9 +17,9 @@ import traceback
 from dataclasses import dataclass
 from typing import Callable, Deque, Dict, Iterable, List, Mapping, Optional, Protocol, Tuple
 
-from live.run import descriptors
 from live.run.loop import Turns
 from live.run.refused import FAILED, Refused
+from live.run.system import Room, room_now
 from live.show import http
 from live.show.address import Address, Door
 from live.words.message import Message
@@ -309,12 +309,12 @@ class Server:
             except OSError:
                 line.close()
 
-    def _room(self) -> descriptors.Room:
+    def _room(self) -> Room:
         """How many readers are allowed."""
-        room = descriptors.room_now(len(self.readers))
-        return descriptors.Room(min(MOST_READERS, room.readers), room.turned_away)
+        room = room_now(len(self.readers))
+        return Room(min(MOST_READERS, room.readers), room.turned_away)
 
-    def _take(self, line: socket.socket, host: str, room: descriptors.Room) -> None:
+    def _take(self, line: socket.socket, host: str, room: Room) -> None:
         line.setblocking(False)
         line.setsockopt(socket.IPPROTO_TCP, socket.TCP_NODELAY, 1)
         places = share(room.readers)

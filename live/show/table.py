@@ -9,8 +9,7 @@ from dataclasses import dataclass
 from typing import Callable, List, Optional, Sequence, Tuple
 
 from live.game.log import time_of
-from live.run.guard import traced
-from live.run.loop import Loop, Timer
+from live.run.loop import Loop, Timer, traced
 from live.show.terminal import CUT, Painter, Terminal, fitted, folded, seen, split_at, width_of
 from live.table.pairings import listed_numbers
 from live.words.message import Message, has, linked, plural

@@ -6,11 +6,11 @@ from dataclasses import dataclass, field, replace
 from typing import Callable, Dict, Iterable, Mapping, Optional, Protocol, Tuple, Union
 
 from live.board.advice import wants_a_line
-from live.game.course import clocks_of
 from live.game.options import PLAYERS
+from live.game.reading import clocks_of
 from live.game.tags import SIDES
 from live.out.spectators import Game, Player, Ply, SpectatorBoard, board_text, json_text, pgn_path, players_of, sheet_of
-from live.run.guard import traced
+from live.run.loop import traced
 from live.words.message import Message, linked
 
 NOT_RECORDED = Message("page.not_recorded")  # the reason may contain a folder's path, or a user's name

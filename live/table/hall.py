@@ -8,13 +8,11 @@ from dataclasses import replace
 from types import MappingProxyType
 from typing import Callable, Dict, List, Mapping, Optional, Sequence, Tuple
 
+from live.board.connection import ask
 from live.child.program import Program
 from live.game import files
-from live.line import serial_line
-from live.line.line import same_line
-from live.line.numbers import ask
-from live.run.called import DGT_ROUND
-from live.run.refused import FAILED, REFUSED, Refused
+from live.line.line import devices, same_line
+from live.run.refused import DGT_ROUND, FAILED, REFUSED, Refused
 from live.table.encoding import told_of_reading
 from live.table.pairings import EXAMPLE, Pairing, Pairings, Wrong, device_twice, listed_numbers, read_pairings
 from live.table.sheet import LARGEST
@@ -101,7 +99,7 @@ def with_some(read: Pairings, found: Sequence[Pairing]) -> Pairings:
 
 def plugged_in(program: Program) -> Dict[str, str]:
     """The device of each board that sends its number, under the name of its cable. It waits for up to two seconds."""
-    found = serial_line.devices()
+    found = devices()
     names = {device: name or device for device, name in found}
     return {number: names[device] for device, number in ask(program, list(names)).numbers.items()}
 

@@ -6,15 +6,14 @@ import re
 from dataclasses import dataclass, field, replace
 from typing import Dict, List, Optional, Sequence, Tuple, Union
 
-from live.game.file_names import OF_A_GAME, OF_A_ROUND
 from live.game.forfeits import BLACK as FORFEIT_OF_WHITE, BOTH as BOTH_ABSENT, WHITE as FORFEIT_OF_BLACK, in_a_table, in_one_word, score_of
+from live.game.game import OF_A_GAME, OF_A_ROUND
 from live.game.options import FEN, FIRST, PLAYERS, RECOVER, STRICT, TAG, assigned
 from live.game.tags import OTHERS, Malformed, cleaned, is_seen, value_of
 from live.game.typed import NOUGHTS
-from live.line.network_address import HOW, is_network, read_address
+from live.line.line import HOW, is_network, read_address
 from live.line.protocol import SERIAL_LENGTH
-from live.run.called import DGT_LIVE
-from live.run.refused import REFUSED, Refused
+from live.run.refused import DGT_LIVE, REFUSED, Refused
 from live.table.sheet import COLUMNS, NAMES, PERHAPS, SEPARATORS, Sheet, fields_of, normal, read_sheet, told_of_above
 from live.words.message import Message, linked
 

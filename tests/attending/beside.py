@@ -18,7 +18,7 @@ from attending.state_rules import BoardState
 from attending.whose_rules import Whose
 from decided.table import same
 from live.board.state import OTHER_BOARD
-from live.child.report import event_of
+from live.child.lines import event_of
 from live.line.protocol import picture_of_placement
 
 EVENINGS, ELSEWHERE, EMULATED = 60, 12, 8

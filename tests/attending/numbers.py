@@ -1,4 +1,4 @@
-"""Devices that are asked for their boards' numbers, by `ask` of live/line/numbers.py: what a far end sends to each request, and which
+"""Devices that are asked for their boards' numbers, by `ask` of live/board/connection.py: what a far end sends to each request, and which
 numbers are found. It asks in a thread, and the case plays the far ends."""
 
 import concurrent.futures
@@ -14,8 +14,8 @@ import time
 import tty
 from typing import Dict, Iterator, List, Sequence, Set
 
+from live.board.connection import NOBODY, Asked, ask
 from live.child.program import Program
-from live.line.numbers import NOBODY, Asked, ask
 
 from attending.pictures import INITIAL, dump, picture
 from decided.table import same

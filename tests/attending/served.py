@@ -1,4 +1,4 @@
-"""A serial server and what a recorder's connection makes of it, by `Connection` of live/line/connection.py: what the server sends in which
+"""A serial server and what a recorder's connection makes of it, by `Connection` of live/board/connection.py: what the server sends in which
 parts, and what is passed on. The program says when a board has answered."""
 
 import os
@@ -7,10 +7,10 @@ import socket
 import tempfile
 from typing import Callable, List, Optional, Sequence, Tuple
 
+from live.board.connection import FLOOD, Connection, Happened
 from live.child.program import Program
-from live.line.connection import FLOOD, Connection
-from live.run.guard import Guard
-from live.run.loop import Loop
+from live.game.times import HEARD
+from live.run.loop import Guard, Loop
 
 from attending.numbers import DEADLY, DUMP, UPDATE, children, dying, numbered
 from decided.table import same
@@ -30,27 +30,14 @@ class Heard:
     def __init__(self) -> None:
         self.news: List[object] = []
 
-    def came(self, sent: bytes) -> None:
-        """The board has sent this."""
-        before = self.news.pop() if self.news and isinstance(self.news[-1], bytes) else b""
-        assert isinstance(before, bytes)
-        self.news.append(before + sent)
-
-    def happened(self, what: str, count: Optional[int] = None) -> None:
-        """What happens on the line."""
-        self.news.append(what)
-
-    def plugged(self) -> None:
-        """There is a board on it."""
-        self.news.append("plugged")
-
-    def unplugged(self) -> None:
-        """The line has gone away."""
-        self.news.append("unplugged")
-
-    def busy(self) -> None:
-        """Another process has the line."""
-        self.news.append("busy")
+    def hears(self, it: Happened) -> None:
+        """This happens on the line, or the board has sent this."""
+        if it.what == HEARD:
+            before = self.news.pop() if self.news and isinstance(self.news[-1], bytes) else b""
+            assert isinstance(before, bytes)
+            self.news.append(before + it.sent)
+        else:
+            self.news.append(it.what)
 
 
 class Played:
@@ -64,7 +51,7 @@ class Played:
         self._call: Optional[socket.socket] = None
         self.guard = Guard(self.loop, self.troubles.append, self.troubles.append)
         address = f"tcp://127.0.0.1:{self._listener.getsockname()[1]}"
-        self.connection = Connection(self.guard, Program(path or program()), address, self.heard)
+        self.connection = Connection(self.guard, Program(path or program()), address, self.heard.hears)
         self.loop.watch(self._listener.fileno(), self._called)
 
     def _called(self) -> None:

@@ -12,7 +12,7 @@ from dataclasses import dataclass, field
 from typing import Dict, Iterable, Optional, Tuple
 
 from live.board.state import OTHER_BOARD, TURNED_ROUND, Kind, State
-from live.child.report import Agrees, Differs, Event, Move, Result
+from live.child.lines import Agrees, Differs, Event, Move, Result
 from live.line.protocol import Picture, differing
 
 HAND = 10.0  # seconds that a hand may take

@@ -2,9 +2,7 @@
 
 from typing import List, Optional, Tuple
 
-from live.line.line import same_line
-from live.line.network_address import Address, is_network, read_address
-from live.line.trial import Trial
+from live.line.line import Address, Trial, is_network, read_address, same_line
 
 from decided.table import same
 

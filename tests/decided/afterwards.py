@@ -1,7 +1,6 @@
 """A board whose game is over: what somebody must look at, and where the next game begins."""
 
-from live.game.afterwards import corrected, is_read_anew, is_set_up, next_begins, unheard, went_on
-from live.game.looks import Looks
+from live.game.looks import Looks, corrected, is_read_anew, is_set_up, next_begins, unheard, went_on
 
 from decided.cases import cases
 from decided.table import same

@@ -5,11 +5,9 @@ from types import SimpleNamespace
 from typing import Any, List, Tuple
 
 from live.board.advice import Moves, if_not
-from live.board.afterwards import Afterwards
-from live.child.attended import SINCE, Doubt
-from live.child.report import Move, line_of
-from live.game.afterwards import FromTheStart
-from live.game.doubted import look_of
+from live.board.over import Afterwards
+from live.child.lines import SINCE, Doubt, Move, line_of
+from live.game.looks import FromTheStart, look_of
 
 from attending.state_rules import Agreement
 from decided.cases import cases
@@ -59,9 +57,8 @@ class Child:
         self.told: List[bytes] = []
         self._undecided = undecided
 
-    def attends(self, hears: Any) -> Any:
+    def heard_by(self, hears: Any) -> None:
         """It goes on, for another one."""
-        return self
 
     def undecided(self) -> bytes:
         return self._undecided
@@ -82,9 +79,9 @@ def told_once() -> None:
         ("with more", b"ab", [b"abc", b"d"], [b"c", b"d"]),
         ("other bytes", b"ab", [b"xab"], [b"xab"]),
     ):
-        child = Child(undecided)
+        child: Any = Child(undecided)
         course: Any = SimpleNamespace(plies=[], result="1-0")
-        after = Afterwards(child.attends, course, 0, lambda look: None)
+        after = Afterwards(child, course, 0, lambda look: None)
         same(f"{name}: undecided", after.undecided, undecided)
         for sent in comes:
             after.came(sent)

@@ -5,10 +5,8 @@ import dataclasses
 import json
 from typing import Any, Dict
 
-from live.child.reply import NO_TEXT, Asked, Helped, Refused, refusal
-from live.game.answers import Said, meaning, place_of, read_answer, refuse
-from live.game.typed import ALL_WAYS, BOTH_LOSE, WAYS, WHICH_PLY, Back, Typed, read_words, with_more
-from live.run.refused import REFUSED
+from live.game.typed import ALL_WAYS, BOTH_LOSE, WAYS, WHICH_PLY, Back, Said, Typed, meaning, not_added, place_of, read_answer, read_words, with_more
+from live.run.refused import NO_TEXT, REFUSED, Asked, Helped, NotDone, refusal
 from live.words.message import Message
 
 from decided.cases import cases
@@ -33,21 +31,21 @@ def commands() -> None:
     for text, expected in cases("answers", "typed"):
         same(repr(text), told(read_words(text)), expected)
     for text in cases("answers", "noughts"):
-        same(text, refused(text, Refused, read_words, text), BOTH_LOSE)
+        same(text, refused(text, NotDone, read_words, text), BOTH_LOSE)
     for text, to in cases("answers", "plies"):
         same(f"back {text}", read_words(f"back {text}"), Back(to))
     for text in cases("answers", "which ply"):
-        same(text, refused(text, Refused, read_words, text), WHICH_PLY)
+        same(text, refused(text, NotDone, read_words, text), WHICH_PLY)
     for text in ("Nf3 \udcff", "\udcc3", "1-0\0", "\0"):
-        same(repr(text), refused(repr(text), Refused, read_words, text), NO_TEXT)
-    same("the start of it is shown", refusal("e4 \x1b[2J" + 99 * "N", Refused("why")), (REFUSED, "refused: e4 ?[2J" + 53 * "N" + ": why"))
+        same(repr(text), refused(repr(text), NotDone, read_words, text), NO_TEXT)
+    same("the start of it is shown", refusal("e4 \x1b[2J" + 99 * "N", NotDone("why")), (REFUSED, "refused: e4 ?[2J" + 53 * "N" + ": why"))
     same("a question is no refusal", refusal("back 0", Asked("takes off 5 plies")), (REFUSED, "takes off 5 plies"))
 
 
 def helps() -> None:
     """All that can be typed, in one line."""
     for text in cases("answers", "helps"):
-        said = refused(text, Refused, read_words, text)
+        said = refused(text, NotDone, read_words, text)
         same(text, [part in said for part in ON_HELP], [True] * len(ON_HELP))
         same(f"{text} in one line", len(said) < 100, True)
         same(f"{text} is no mistake", refusal(text, Helped(said)), (REFUSED, said))
@@ -61,7 +59,7 @@ def helps() -> None:
 def sentences() -> None:
     """What is answered."""
     for said, line, place, expected in cases("answers", "sentences"):
-        answer = str(refuse(said_of(said), line, place))
+        answer = str(not_added(said_of(said), line, place))
         same(f"{said}, {line!r}", answer, expected)
         same(f"{answer[:20]!r} can be printed", answer.isprintable(), True)
     for said, line, plies, expected in cases("answers", "added"):

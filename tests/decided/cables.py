@@ -1,14 +1,14 @@
 """Whose is what comes over a cable while a game's own board is on another one. The children that attend the boards are the table's."""
 
 from types import SimpleNamespace
-from typing import Any, List, Optional, Tuple
+from typing import Any, Iterable, List, Tuple
 
 from live.board import cable as cable_module
+from live.board.attending import Told
 from live.board.board import Board
-from live.board.cable import Cable
-from live.board.standing import Standing
-from live.child.attended import Answer
-from live.child.attending import Told
+from live.board.cable import Cable, Foreign, FromCable
+from live.board.connection import Happened
+from live.child.lines import Answer
 from live.game.times import HEARD
 
 from decided.table import same
@@ -23,38 +23,24 @@ class Game:
 
     def __init__(self) -> None:
         self.got: List[Tuple[str, bytes]] = []
-        self.standing: Optional[Standing] = None
 
-    def heard(self, sent: bytes) -> None:
-        self.got.append(("own", sent))
-
-    def lends(self, number: str, sent: bytes) -> bool:
-        self.got.append((number, sent))
-        return True
-
-    def happened(self, what: str, count: Optional[int] = None) -> None:
-        pass
-
-    def numbered(self, number: str) -> None:
-        pass
-
-    def another(self, number: str) -> None:
-        pass
-
-    def back(self, other: str) -> None:
-        pass
-
-    def missing(self) -> None:
-        pass
-
-    def gone(self, message: str, was_there: bool) -> None:
-        pass
+    def takes(self, said: Iterable[FromCable]) -> None:
+        """Takes what comes of the cable."""
+        for one in said:
+            if isinstance(one, Happened) and one.what == HEARD:
+                self.got.append(("own", one.sent))
+            elif isinstance(one, Foreign):
+                self.got += [(one.number, sent) for sent in one.sent]
+                one.sent.clear()
 
 
-class AnotherBoard:
+class AnotherChild:
     """The child that attends another board."""
 
     def __init__(self, *_: object) -> None:
+        pass
+
+    def tell(self, *_: object) -> None:
         pass
 
     def close(self) -> None:
@@ -73,19 +59,19 @@ WHOSE: List[Tuple[str, List[Step], List[Tuple[str, bytes]]]] = [
 
 def in_flight() -> None:
     """What a game was told just before its board turned up on another cable, and answers only then, is lost to nobody."""
-    real = getattr(cable_module, "AnotherBoard")
-    setattr(cable_module, "AnotherBoard", AnotherBoard)  # no process is started
+    real = getattr(cable_module, "Attending")
+    setattr(cable_module, "Attending", AnotherChild)  # no process is started
     try:
         for name, steps, expected in WHOSE:
             game, unused = Game(), _nothing()
             asked: Any = SimpleNamespace(connection=None)
-            cable = Cable(unused, unused, unused, "board1", False, "00001", game, asked)
-            cable.plays_elsewhere()
+            cable = Cable(unused, unused, unused, "board1", False, "00001", unused, unused, asked)
+            game.takes(cable.plays_elsewhere())
             for who, sent, answer in steps:
-                (cable.answered if who == OWN else cable.of_another)(Told(0.0, HEARD, sent), answer)
+                game.takes((cable.answered if who == OWN else cable.of_another)(Told(0.0, HEARD, sent), answer, None))
             same(name, game.got, expected)
     finally:
-        setattr(cable_module, "AnotherBoard", real)
+        setattr(cable_module, "Attending", real)
 
 
 def _nothing() -> Any:

@@ -28,9 +28,8 @@ NO_SENTENCES: Dict[str, Tuple[str, ...]] = {
     "live/doors/dgt_live.py": ("usage:",),  # its --help
     "live/doors/dgt_round.py": ("usage:",),
     "live/doors/options.py": ("'NAME = MINUTES",),  # what the value of an option is called
-    "live/game/answers.py": ("input: too long",),  # what dgt_replay prints
-    "live/game/way_back.py": ("as it is",),  # a value, as the next ones
-    "live/run/guard.py": ("Traceback", '  File "'),  # as Python prints where an error was raised
+    "live/game/typed.py": ("input: too long", "as it is"),  # what dgt_replay prints; a value, as the next ones
+    "live/run/loop.py": ("Traceback", '  File "'),  # as Python prints where an error was raised
     "live/show/site.py": ("default-src", "<link"),  # HTML
     "live/round/tournament.py": ("# The settings of the tournament", "board;white;"),  # files that are made
     "live/show/typed.py": ("to the end", "to the start"),
@@ -202,13 +201,21 @@ def pages_have_theirs() -> None:
         same(f"{site.index}: as in the catalogue", {key: ENGLISH[key] for key in words}, words)
 
 
+# The folders of live/ as far as each imports of itself and of those before it alone.
+IN_ORDER = ("words", "run", "line", "child", "game", "board")
+
+
 def leftmost() -> None:
-    """What makes messages imports nothing of the recorders."""
+    """What makes messages imports nothing of the recorders, and no folder something of one that stands behind it on a byte's way."""
     for path, tree in modules():
-        nodes = list(ast.walk(tree)) if path.startswith("live/words/") else []
-        names = [node.module or "" for node in nodes if isinstance(node, ast.ImportFrom)]
+        folder = path.split("/")[1]
+        if folder not in IN_ORDER:
+            continue
+        nodes = list(ast.walk(tree))
+        names = [f"{node.module}.{one.name}" for node in nodes if isinstance(node, ast.ImportFrom) for one in node.names]
         names += [one.name for node in nodes if isinstance(node, ast.Import) for one in node.names]
-        same(path, [name for name in names if name.startswith("live") and not name.startswith("live.words.")], [])
+        left = IN_ORDER[: IN_ORDER.index(folder) + 1]
+        same(path, [name for name in names if name.startswith("live.") and name.split(".")[1] not in left], [])
     for path, found in scripts():
         same(path, path == MESSAGE and "import" in [text for kind, text, _ in found if kind == "name"], False)
 

@@ -6,8 +6,8 @@ import textwrap
 
 from live.board.state import Kind, State
 from live.run.refused import printable
-from live.show.terminal import cut, fitted, folded, seen, split_at, width_of
 from live.show.table import Columns, RowView, row
+from live.show.terminal import cut, fitted, folded, seen, split_at, width_of
 
 from decided.table import same
 

@@ -3,12 +3,9 @@
 import tempfile
 from typing import List, Sequence
 
-from live.child.attended import Answers, Doubt
-from live.child.report import Move
-from live.game.alarms import Alarms, kept_looks
-from live.game.doubted import byte_of, look_of
+from live.child.lines import Answers, Doubt, Move
 from live.game.files import Paths
-from live.game.looks import OVER, Look, Looks
+from live.game.looks import OVER, Alarms, Look, Looks, byte_of, kept_looks, look_of
 
 from decided.cases import cases
 from decided.table import same

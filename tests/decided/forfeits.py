@@ -2,10 +2,10 @@
 
 from typing import Dict
 
-from live.child.reply import Refused
 from live.game.forfeits import Forfeit, fits, in_a_table, read_typed, refuse_played, typed_forfeit
 from live.game.game import is_unplayed
 from live.game.typed import Added
+from live.run.refused import NotDone
 from live.table.pairings import read_pairings, result_of
 from live.table.trf import outcome_of
 
@@ -36,8 +36,8 @@ def how_it_is_written() -> None:
             same(f"{text!r} read", read_typed(text), Forfeit(typed))
     for text in ("Nf3 +-", "+"):
         same(f"{text} is for the program to refuse", read_typed(text), Added(text))
-    same("0-0 isn't done", "PGN has no such result" in refused("0-0", Refused, read_typed, "0-0"), True)
-    named = refused("with a name", Refused, read_typed, "1-0 FF b4", "b4")
+    same("0-0 isn't done", "PGN has no such result" in refused("0-0", NotDone, read_typed, "0-0"), True)
+    named = refused("with a name", NotDone, read_typed, "1-0 FF b4", "b4")
     same("with a name", named, "type 1-0 FF alone, in a line of its own")
     same("a result", read_typed("1-0"), Added("1-0"))
 
@@ -92,7 +92,7 @@ def what_counts() -> None:
         (1, "1-0", BOTH, "the game has moves, so it isn't a forfeit: PGN has no result for two players who lose. Leave it without one, and note it"),
         (0, "1-0", BOTH, "the game has the result 1-0: take that off first, with *"),
     ):
-        same(why, refused(kind, Refused, refuse_played, plies, result, Forfeit(kind)), why)
+        same(why, refused(kind, NotDone, refuse_played, plies, result, Forfeit(kind)), why)
     for result, kind in (("*", WHITE), ("1-0", BLACK), ("*", BOTH), ("0-1", BLACK)):
         accepted(f"{kind} after {result}", refuse_played, 0, result, Forfeit(kind))
 

@@ -10,12 +10,12 @@ import threading
 import time
 from typing import Callable, List, Optional, Tuple
 
-from live.child.report import Clock
+from live.child.lines import Clock
 from live.game import times
-from live.game.began import Began, began_line, part_line, summed, this_start
 from live.game.files import Paths
 from live.game.tags import published
 from live.game.timed import milliseconds
+from live.game.times import Began, began_line, part_line, summed, this_start
 from live.out.again import is_hidden, is_unseen
 from live.out.delay import (
     ALWAYS, UNPUBLISHED, Entry, GoingOut, KeptOut, OneGame, Waiting, delay_of, kept_text, read_command, read_delay, read_kept, told_of_kept,

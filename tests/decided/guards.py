@@ -5,9 +5,7 @@ import os
 import threading
 from typing import Callable, List
 
-from live.run.beside import Worker
-from live.run.guard import Guard, traced
-from live.run.loop import Loop
+from live.run.loop import Guard, Loop, Worker, traced
 
 from decided.table import same
 
@@ -179,4 +177,29 @@ def forgotten_all_the_same() -> None:
                 os.close(number)
 
 
-TABLES = [one_part, jobs, closed_once, job_after_the_end, forgotten_all_the_same]
+def taken_in_the_same_turn() -> None:
+    """What goes up during a callback is taken right after it, in order, and nothing is if nothing went up. An error in that is the part's."""
+    loop = Loop()
+    got: List[object] = []
+    told: List[Exception] = []
+
+    def take() -> None:
+        while guard.ups:
+            got.append(guard.ups.popleft())
+        if "the last" in got:
+            raises(ValueError("taken"))()
+
+    guard = Guard(loop, told.append, told.append, take)
+    for name, ups, expected in (
+        ("nothing goes up", [], []),
+        ("two go up", ["one", "another"], ["one", "another"]),
+        ("one more", ["a third"], ["one", "another", "a third"]),
+    ):
+        guard.call(functools.partial(guard.ups.extend, ups))
+        same(name, (got, told, guard.ended), (expected, [], False))
+    guard.after(0, lambda: guard.ups.append("the last"))
+    run_until(loop, lambda: told)
+    same("an error", ([str(error) for error in told], guard.ended), (["taken"], True))
+
+
+TABLES = [one_part, jobs, closed_once, job_after_the_end, forgotten_all_the_same, taken_in_the_same_turn]

@@ -7,8 +7,8 @@ import subprocess
 from typing import List, Optional, Sequence, Tuple
 
 from live.child.program import Program
-from live.game.answers import BOARD, ENDED, RESULT, add, dump_at_end
 from live.game.options import Options
+from live.game.typed import BOARD, ENDED, RESULT, ask_to_add, dump_at_end
 from live.line.protocol import SQUARES, picture_of_placement
 
 from decided.cases import bytes_of, cases
@@ -104,9 +104,9 @@ def back() -> None:
 
 def through_the_host() -> None:
     """As the recorder calls it, with the options of a game."""
-    said = add(Program(PROGRAM), Options(recover=True), b"", "1-0")
+    said = ask_to_add(Program(PROGRAM), Options(recover=True), b"", "1-0")
     same("a result", (said.kind, said.outcome, bool(said.put)), (RESULT, "1-0", True))
-    said = add(Program(PROGRAM), Options(rotated=True, first="black"), b"", "nf3")
+    said = ask_to_add(Program(PROGRAM), Options(rotated=True, first="black"), b"", "nf3")
     same("another letter", (said.kind, said.words, said.put), ("meant", ("0", "nf3", "Nf3"), b""))
 
 

@@ -11,25 +11,23 @@ import sys
 import tempfile
 from typing import Callable, Dict, List, Tuple, cast
 
-from live.board.disk import Disk, HearsDisk
-from live.board.standing import Standing
-from live.board.state import DISK_FULL, NOT_WRITTEN
+from live.board.attended import Disk
+from live.board.connection import Asked, listing, told_of_shut
+from live.board.state import DISK_FULL, NOT_WRITTEN, Standing
 from live.child.program import Program
-from live.child.refusal import is_recorded, reason
 from live.doors import dgt_round
 from live.game import files, log as log_file
-from live.game.answers import Said
-from live.game.file_names import check_name
 from live.game.files import Capture, not_written, open_regular, plain
-from live.game.log import Log
+from live.game.game import check_name
+from live.game.log import Log, Screen
 from live.game.making_pgn import Made
+from live.game.opening import is_recorded, reason
 from live.game.options import Options
-from live.line.numbers import Asked, listing, told_of_shut
-from live.line.serial_line import login_name, may_not_open
+from live.game.typed import Said
+from live.line.line import login_name, may_not_open
 from live.round.commands import ways
-from live.run.refused import Refused
-from live.show.screen import Screen
 from live.round.tournament import another_folder
+from live.run.refused import Refused
 from live.show.table import boards_are
 
 from decided.table import accepted, refused, same
@@ -199,10 +197,10 @@ def devices_listed() -> None:
 
 
 class Told:
-    """A screen and a state of the board, as far as a disk asks for them, and what keeps the text from being written."""
+    """A screen and a state of the board, as far as a disk asks for them."""
 
     def __init__(self) -> None:
-        self.trouble = self.text = ""
+        self.trouble = ""
         self.said: List[str] = []
 
     def say(self, *lines: str) -> None:
@@ -211,21 +209,18 @@ class Told:
     def disk(self, trouble: str) -> None:
         self.trouble = trouble
 
-    def text_trouble(self) -> str:
-        return self.text
-
 
 def texts_alone() -> None:
     """The text couldn't be written, and is."""
     for text, room in ((DISK_FULL, "there is room again, and all"), (NOT_WRITTEN, "all")):
         told = Told()
-        told.text = text
         with open(os.devnull, "r+b") as nothing:
             capture = Capture("no folder/game.dgt", nothing.fileno())
-            disk = Disk(cast(Screen, told), cast(Standing, told), capture, cast(HearsDisk, told))  # it asks for no more
+            disk = Disk(cast(Screen, told), cast(Standing, told), capture)  # it asks for no more
+            disk.text = text
             disk.look()
             same("it can't be written", (told.trouble, told.said), (text, []))
-            told.text = ""
+            disk.text = ""
             disk.try_again()
         same("what is told names no file", (told.trouble, told.said), ("", [f"{room} is written"]))
 
@@ -258,7 +253,7 @@ def captures_alone() -> None:
     for lines in ((full, room), (gone, no_room), (full, gone, no_room), (gone, full, room), (gone, closed, no_room)):
         told, number = Told(), closed_device()
         capture = Capture("no folder/game.dgt", number)
-        disk = Disk(cast(Screen, told), cast(Standing, told), capture, cast(HearsDisk, told))
+        disk = Disk(cast(Screen, told), cast(Standing, told), capture)
         for turn, line in enumerate(lines):
             device = kinds[line]() if line in kinds else os.open(os.devnull, os.O_WRONLY)
             os.dup2(device, number)
@@ -272,7 +267,7 @@ def captures_alone() -> None:
 def lost() -> None:
     """More than is kept in memory: that is said once, whatever keeps it from being written."""
     told, number = Told(), gone_device()
-    disk = Disk(cast(Screen, told), cast(Standing, told), Capture("no folder/game.dgt", number), cast(HearsDisk, told))
+    disk = Disk(cast(Screen, told), cast(Standing, told), Capture("no folder/game.dgt", number))
     for _ in range(3):
         disk.append(bytes(700_000))
     os.close(number)

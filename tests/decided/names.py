@@ -1,8 +1,8 @@
 """Names and dates: what is typed, and what a PGN tag has then."""
 
-from live.game.names import Unreadable, ascii_name, pgn_date
 from live.game.opening import CALLED, TURNS, turned
 from live.game.options import TAGS, Options
+from live.game.tags import Unreadable, ascii_name, pgn_date
 from live.run.refused import Refused
 
 from decided.cases import cases

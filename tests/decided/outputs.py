@@ -13,9 +13,9 @@ from live.out.outputs import (
     refuse_unknown, removed, told_of, without_those,
 )  # fmt: skip
 from live.doors.dgt_round import VALUED, parse
-from live.game.file_names import OF_AN_OUTPUT, check_name
-from live.run.refused import Refused
+from live.game.game import OF_AN_OUTPUT, check_name
 from live.round.tournament import TEMPLATE, words_of
+from live.run.refused import Refused
 
 from decided.table import refused, same
 

@@ -7,11 +7,11 @@ from typing import Dict, List, Tuple
 
 from live.child.program import Program
 from live.doors.dgt_round import VALUED, parse
+from live.round.tournament import TEMPLATE, encoding_set, words_of
 from live.run.refused import Refused
 from live.table.encoding import ENCODING, encoding_in, known_encoding, text_of, told_of_reading
 from live.table.hall import Source, joined, placed, with_some
 from live.table.pairings import Pairing, Pairings, Wrong, read_pairings
-from live.round.tournament import TEMPLATE, encoding_set, words_of
 from live.table.trf import Head, head_of, is_report, read_matches, read_report
 
 from decided.table import refused, same

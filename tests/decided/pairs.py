@@ -1,7 +1,7 @@
 """Pairs of moves that two hands hid: when they are recovered, and what is told of them; and which other options a game goes on with,
 and what is told of that."""
 
-from live.child.report import Line, Recovered, line_of
+from live.child.lines import Line, Recovered, line_of
 from live.doors.dgt_live import parse
 from live.game.making_pgn import told_of_reading, told_of_result
 from live.game.options import Options

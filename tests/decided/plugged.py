@@ -8,10 +8,10 @@ import tempfile
 from typing import Dict, Iterator
 from unittest import mock
 
-from live.line import serial_line
-from live.run.called import in_front
-from live.table.pairings import Pairing, Pairings
+from live.line.line import devices
+from live.run.refused import in_front
 from live.table.hall import without_twice
+from live.table.pairings import Pairing, Pairings
 
 from decided.table import same
 
@@ -67,7 +67,7 @@ def of_all() -> None:
         (serial / "pts2").unlink()
         with mock.patch.dict(os.environ, {"DGT_LIVE_SERIAL": str(serial)}):
             with gone_once_seen(serial / "by-id"):
-                same("a cable that goes", serial_line.devices(), [(f"{serial}/pts1", f"{serial}/by-id/one")])
+                same("a cable that goes", devices(), [(f"{serial}/pts1", f"{serial}/by-id/one")])
             listed = os.listdir
 
             def goes(path: str) -> "list[str]":
@@ -76,7 +76,7 @@ def of_all() -> None:
                 return listed(path)
 
             with mock.patch("os.listdir", goes):
-                same("a folder that goes", serial_line.devices(), [])
+                same("a folder that goes", devices(), [])
 
 
 def how_commands_are_called() -> None:

@@ -5,10 +5,9 @@ import json
 import random
 from typing import Any, Dict, List, Optional, Sequence
 
-from live.child.reading import wanted
-from live.child.report import NEWS, Line, Move, Recovered, Result, by_byte, line_of
-from live.game.course import Course, clocks_of
+from live.child.lines import NEWS, Line, Move, Recovered, Result, by_byte, line_of
 from live.game.options import Options
+from live.game.reading import Course, clocks_of, wanted
 from live.line.protocol import SQUARES, picture_of_placement
 from live.run.refused import Refused
 

@@ -2,12 +2,10 @@
 
 from typing import List, Optional, Tuple
 
-from live.child.reply import Answer, Refused as NotDone, refusal
-from live.game.answers import RESULT, Said, meaning
-from live.game.typed import ALL_WAYS
 from live.doors.audience import stays_for, until_clock_in
+from live.game.typed import ALL_WAYS, RESULT, Said, meaning
 from live.round.commands import Question, question, told, told_of_answer
-from live.run.refused import DONE, REFUSED
+from live.run.refused import DONE, REFUSED, Answer, NotDone, refusal
 from live.words.message import Message, linked
 
 from decided.table import same

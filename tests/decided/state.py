@@ -3,13 +3,11 @@
 import math
 from typing import Any, Dict, List, Optional
 
-from live.board.standing import Standing
-from live.board.state import DISK_FULL, OTHER_BOARD, TURNED_ROUND, Kind, State, lasting
-from live.child.attended import Stood
-from live.child.report import Event, event_of
+from live.board.state import DISK_FULL, OTHER_BOARD, TURNED_ROUND, Kind, Standing, State, lasting
+from live.child.lines import Event, Stood, event_of
+from live.game.log import PROMPT, Screen
 from live.line.protocol import picture_of_placement
 from live.run.loop import Loop
-from live.show.screen import PROMPT, Screen
 
 from attending.frames import picture_of_dump
 from attending.state_rules import BoardState, turned_round

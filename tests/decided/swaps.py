@@ -1,91 +1,78 @@
 """What is said of a cable once another board is known to be on it, and of its own board that is back."""
 
-from typing import List, Optional
+from typing import Iterable, List
 
-from live.board.cable import Cable
-from live.board.standing import Standing
-from live.child.attended import KEEP, OTHER, Answer
-from live.child.attending import Told
+from live.board.attended import Numbered
+from live.board.attending import Told
+from live.board.cable import Cable, Foreign, FromCable, Gone, OtherBoard, OwnIsBack
+from live.board.connection import PLUGGED, Happened
+from live.child.lines import KEEP, OTHER, Answer
 from live.child.program import Program
+from live.game.log import Screen
 from live.game.times import HEARD
-from live.run.guard import Guard
-from live.run.loop import Loop
-from live.show.screen import Screen
+from live.run.loop import Guard, Loop
 
 from decided.table import same
 
 ITS_OWN, THE_OTHER = "00001", "00002"
+LENT = f"lent to {THE_OTHER}"
 NO_PROGRAM = Program("/dev/null")
 
 
-class Hears:
-    """Who is told of a cable."""
+def words_of(said: Iterable[FromCable]) -> List[str]:
+    """What comes of a cable, in words."""
+    return [word_of(one) for one in said]
 
-    standing: Optional[Standing] = None
 
-    def __init__(self) -> None:
-        self.told: List[str] = []
+def word_of(one: FromCable) -> str:
+    if isinstance(one, Happened):
+        return one.what
+    if isinstance(one, Numbered):
+        return f"numbered {one.number}"
+    if isinstance(one, OtherBoard):
+        return f"another {one.number}"
+    if isinstance(one, OwnIsBack):
+        return f"back {one.other}"
+    if isinstance(one, Foreign):
+        return f"lent to {one.number}"
+    return one.message if isinstance(one, Gone) else one.name.lower()
 
-    def heard(self, sent: bytes) -> None:
-        self.told.append("heard")
 
-    def happened(self, what: str, count: Optional[int] = None) -> None:
-        pass
-
-    def numbered(self, number: str) -> None:
-        self.told.append(f"numbered {number}")
-
-    def another(self, number: str) -> None:
-        self.told.append(f"another {number}")
-
-    def back(self, other: str) -> None:
-        self.told.append(f"back {other}")
-
-    def missing(self) -> None:
-        self.told.append("missing")
-
-    def lends(self, number: str, sent: bytes) -> bool:
-        return False
-
-    def gone(self, message: str, was_there: bool) -> None:
-        self.told.append(message)
+def cable_of(number: str) -> Cable:
+    """The cable of a board with this number, whose line is open."""
+    guard = Guard(Loop(), lambda error: None, lambda error: None)
+    cable = Cable(guard, NO_PROGRAM, Screen(None), "/dev/none", False, number, lambda it: None, lambda told, answer: None)
+    same("its line is open", words_of(cable.happens(Happened(PLUGGED), None)), [])
+    return cable
 
 
 def told_at_once() -> None:
     """With the answer that says it, and once. The number of its own board is known before."""
-    guard = Guard(Loop(), lambda error: None, lambda error: None)
-    hears = Hears()
-    cable = Cable(guard, NO_PROGRAM, Screen(None), "/dev/none", False, ITS_OWN, hears)
-    cable.plugged()
+    cable = cable_of(ITS_OWN)
     own, other = (Told(0.0, HEARD, b"\x91\x00\x08" + number.encode()) for number in (ITS_OWN, THE_OTHER))
     is_own, is_other = Answer(own.sent, handling=KEEP), Answer(handling=OTHER, other=THE_OTHER)
     for name, hears_it, message, answer, told, on_it in (
         ("its own", cable.answered, own, is_own, [], ""),
-        ("another", cable.answered, other, is_other, [f"another {THE_OTHER}", "missing"], THE_OTHER),
-        ("the same", cable.of_another, other, is_other, [], THE_OTHER),
-        ("its own, as another child hears", cable.of_another, own, is_own, ["heard"], ""),
+        ("another", cable.answered, other, is_other, ["another", f"another {THE_OTHER}", "missing", LENT], THE_OTHER),
+        ("the same", cable.of_another, other, is_other, [LENT], THE_OTHER),
+        ("its own, as another child hears", cable.of_another, own, is_own, ["opened", "heard"], ""),
         ("and as the game's hears", cable.answered, own, is_own, [f"back {THE_OTHER}"], ""),
         ("its own still", cable.answered, own, is_own, [], ""),
     ):
-        hears.told.clear()
-        hears_it(message, answer)
-        same(f"{name}: told, and the board on it", (hears.told, cable.other), (told, on_it))
+        said = words_of(hears_it(message, answer, None))
+        same(f"{name}: told, and the board on it", (said, cable.other), (told, on_it))
 
 
 def its_own_number() -> None:
     """A game whose board's number isn't known has the one that the program says."""
-    guard = Guard(Loop(), lambda error: None, lambda error: None)
-    hears = Hears()
-    cable = Cable(guard, NO_PROGRAM, Screen(None), "/dev/none", False, "", hears)
+    cable = cable_of("")
     for part, said, told in (
         (b"\x86\x00\x91\x00\x080", "", []),
         (b"000", "", []),
         (b"1\x86", ITS_OWN, [f"numbered {ITS_OWN}"]),
         (b"\x91\x00\x0800001", "", []),
     ):
-        hears.told.clear()
-        cable.answered(Told(0.0, HEARD, part), Answer(part, handling=KEEP, number=said))
-        same(f"{part!r}", hears.told, told)
+        same(f"{part!r}", words_of(cable.answered(Told(0.0, HEARD, part), Answer(part, handling=KEEP, number=said), None)), told)
     same("its number", cable.number, ITS_OWN)
 
 

@@ -3,12 +3,10 @@ and lines of a table that change nothing else."""
 
 from dataclasses import replace
 
-from live.child.reply import Refused as NotNamed
-from live.game.naming import is_naming, line_of, read_names, told_of_names
 from live.game.opening import added_to_kept, read_otherwise, recordable, strictly
-from live.game.options import Options
+from live.game.options import Options, is_naming, line_of, read_names, told_of_names
 from live.game.tags import Malformed, pair_of, published, value_of
-from live.run.refused import Refused
+from live.run.refused import NotDone, Refused
 from live.table.pairings import Pairing, same_but_for_names, same_but_for_result
 
 from decided.cases import cases
@@ -169,7 +167,7 @@ def named() -> None:
     for text, expected in NAMED:
         same(text, (is_naming(text), read_names(text)), (True, Options.of_words(expected)))
     for text, told in NOT_NAMED.items():
-        same(text, told in refused(text, NotNamed, read_names, text), True)
+        same(text, told in refused(text, NotDone, read_names, text), True)
     same("no names", [is_naming(text) for text in ("", "Nf3", "names", "back", "1-0")], [False] * 5)
     given = Options.of_words(("--white", "Anna", "--tag", "WhiteElo=2050"))
     same("as a line", line_of(given), "name White=Anna WhiteElo=2050")

@@ -1,6 +1,6 @@
 """Which gaps between two turns of the loop are a time away."""
 
-from live.run.time_away import time_away
+from live.run.loop import time_away
 
 from decided.cases import cases
 from decided.table import same

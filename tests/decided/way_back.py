@@ -1,11 +1,9 @@
 """The way back, in words: what is asked and told, and which alarms end, given what the program says. Worked by hand from what the
 screen prints."""
 
-from live.child.report import Move
-from live.game.answers import Said, read_answer
+from live.child.lines import Move
 from live.game.looks import OVER, Look, Looks
-from live.game.typed import numbered
-from live.game.way_back import Way, asked_of, nothing_goes, played_since, refuse, stays_of, taken_up, way_of
+from live.game.typed import Said, Way, asked_of, not_back, nothing_goes, numbered, played_since, read_answer, stays_of, taken_up, way_of
 
 from decided.cases import cases
 from decided.table import same
@@ -25,7 +23,7 @@ def answers() -> None:
         same(text, way and [way.stays, len(way.gone), way.result], expected)
     for text, to, expected in cases("way_back", "refused"):
         said = said_of(text)
-        same(f"{text}, {to}", str(refuse(said, to, PLIES)), expected)
+        same(f"{text}, {to}", str(not_back(said, to, PLIES)), expected)
         same(f"{text} is no way", way_of(said, PLIES), None)
     same("how many were to stay", [stays_of(said_of(text)) for text in ("moved 11 6... Qxe4+", "unseen 7", "nearest 4. Bxc6", "none")], [11, 7, 0, 0])
     for count, to, expected in cases("way_back", "nothing"):

@@ -1,6 +1,6 @@
 """Which of two games a typed result is for."""
 
-from live.game.which_game import which_game
+from live.game.typed import which_game
 
 from decided.cases import cases
 from decided.table import same

@@ -40,15 +40,15 @@ class Killing:
 def main() -> None:
     killing = Killing(int(sys.argv[1]), sys.argv[2])
     sys.path.insert(0, str(TOP))
-    from live.board import taking_off
+    from live.board.arbiter import Arbiter
 
-    goes_back = taking_off.go_back
+    goes_back = Arbiter.go_back
 
     def counted(*words: Any) -> Any:
         killing.begin()
         return goes_back(*words)
 
-    setattr(taking_off, "go_back", counted)
+    setattr(Arbiter, "go_back", counted)
     threading.setprofile(killing.sees)
     sys.setprofile(killing.sees)
     sys.argv = sys.argv[3:]

@@ -225,16 +225,16 @@ def prepare_recorder(raising: Raising) -> None:
     """Hears of each guard. A board that isn't recorded is tried again soon: there are many errors."""
     sys.path.insert(0, str(TOP))
     from live.board import board
-    from live.run import guard
+    from live.run import loop
 
     setattr(board, "PAUSES", (0.1,))
-    begin = guard.Guard.__init__
+    begin = loop.Guard.__init__
 
     def begins(one: Any, loop: Any, *words: Any, **more: Any) -> None:
         begin(one, loop, *words, **more)
         raising.guard_made(one, loop)
 
-    setattr(guard.Guard, "__init__", begins)
+    setattr(loop.Guard, "__init__", begins)
 
 
 def main() -> None:

@@ -16,11 +16,11 @@ from typing import Any, Callable, Counter, Dict, List, Mapping, Optional, Sequen
 sys.dont_write_bytecode = True
 sys.path[:0] = [str(pathlib.Path(__file__).resolve().parents[number]) for number in (2, 1)]
 from live.out.spectators import Clocks, Player, Ply, Shot, SpectatorBoard  # noqa: E402
-from live.show.view import Board, BoardView, RoundView, Standing  # noqa: E402
 from live.run.loop import Loop, Watch  # noqa: E402
 from live.show import page, serving  # noqa: E402
 from live.show.address import Address, Door, names_of, read_address  # noqa: E402
 from live.show.page import ARBITER, SPECTATORS, Page  # noqa: E402
+from live.show.view import Board, BoardView, RoundView, Standing  # noqa: E402
 from paged.web import EMBEDDED, SpectatorsGiven, Work  # noqa: E402
 
 

@@ -384,9 +384,8 @@ def half_open(folder: pathlib.Path) -> None:
 
 def asks_what_was_told(folder: pathlib.Path) -> None:
     """The options of an open connection."""
-    from live.line.network_line import NetworkLine
-    from live.run.guard import Guard
-    from live.run.loop import Loop
+    from live.line.line import NetworkLine
+    from live.run.loop import Guard, Loop
 
     board = Served(folder)
     loop = Loop()

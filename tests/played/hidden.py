@@ -6,7 +6,7 @@ import pathlib
 from typing import List
 
 from live.game import times
-from live.game.began import summed, this_start
+from live.game.times import summed, this_start
 from live.out.spectators import Clocks, Ply, Shot
 from played.stage import bytes_of
 

@@ -62,7 +62,7 @@ def of_a_clone(folder: pathlib.Path) -> None:
     same((door.stat().st_size, says(command)), (before.st_size, changed))
     os.utime(door)
     same((says(command), digests(folder)), (changed, dict.fromkeys(modules, True)))
-    board = next(path for path in kept_in(folder) if path.name.startswith("recorder."))
+    board = next(path for path in kept_in(folder) if path.name.startswith("session."))
     for size in DAMAGES:
         whole = board.read_bytes()
         os.truncate(board, size)

@@ -10,6 +10,7 @@ from played.stage import (
     RUY,
     RUY_TEXT,
     a_board,
+    begin_game,
     begun,
     bytes_of,
     ended,
@@ -128,6 +129,23 @@ def carried_home(folder: pathlib.Path) -> None:
     until_game(live.name, "*")
     board.play("d2d4")
     until(lambda: sans(live) == ["d4"], "1. d4")
+    same(stop(live), 0)
+    is_whole(live)
+
+
+def withdrawn_at_once(folder: pathlib.Path) -> None:
+    """A result is typed, and goes a second later, before it ends the game: the recorder looks at what waits in between and afterwards, and
+    the board is heard all the time."""
+    board, live = begin_game(folder, typed=True)
+    for result, ply, text in (("1-0", "1... e5", "1. e4 e5"), ("0-1", "2. Nf3", "1. e4 e5 2. Nf3")):
+        answered(live, result, f"added by hand: the result {result}")
+        until_game(live.name, f"{text} {result}")
+        rest(1.5)
+        answered(live, "*", f"back to {ply}; no ply is taken off; the result {result} is gone")
+        until_game(live.name, f"{text} *")
+        rest(2.5)
+        board.play("g1f3" if result == "1-0" else "b8c6")
+    until_game(live.name, "1. e4 e5 2. Nf3 Nc6 *")
     same(stop(live), 0)
     is_whole(live)
 

@@ -6,14 +6,13 @@ import pathlib
 import time
 from typing import List
 
+from live.child.lines import Clock, Move, Position, line_of
 from live.child.program import Program
-from live.child.report import Clock, Move, Position, line_of
 from live.game import timed, times
-from live.game.began import Began, began_line, part_line, summed, this_start
 from live.game.files import Paths
 from live.game.game import put_options
 from live.game.options import Options
-from live.game.times import HEADED
+from live.game.times import HEADED, Began, began_line, part_line, summed, this_start
 from live.out.again import MARGIN, said_again
 from play_board import BLACK, KING
 from played import TOP

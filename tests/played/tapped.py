@@ -15,7 +15,9 @@ import os, pathlib, runpy, sys, threading
 sys.dont_write_bytecode = True
 folder, sys.argv = pathlib.Path(sys.argv[1]), sys.argv[2:]
 sys.path.insert(0, {top!r})
-from live.child import attending, program, reading
+from live.board import attending
+from live.child import program
+from live.game import reading
 logs, begins, told, said, reader = {{}}, [], {{}}, {{}}, threading.local()
 
 class Writing:

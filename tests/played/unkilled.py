@@ -6,12 +6,10 @@ import subprocess
 from typing import Iterator, List, Sequence, Tuple
 
 from attending.answers import Answer, Entry, all_answers, brings
-from live.board.exchanged import told_of_exchange
+from live.board.advice import told_of_exchange
 from live.board.state import Kind, State
-from live.child.attended import SUSPECT, Answers, Doubt
-from live.child.report import Move, line_of
-from live.game.doubted import look_of
-from live.game.looks import Looks
+from live.child.lines import SUSPECT, Answers, Doubt, Move, line_of
+from live.game.looks import Looks, look_of
 from played.stage import program
 
 FIRST = 2  # lines of a heading

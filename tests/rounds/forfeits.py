@@ -20,8 +20,8 @@ from rounds.hall import ROUND, Hall, agrees
 from rounds.hall import told as told_of
 from rounds.witness import served, texts_of
 
-from live.table.pairings import read_pairings
 from live.out.publish import Result, results_text
+from live.table.pairings import read_pairings
 
 KNIGHT = 3  # White's, as the board tells it
 WHITE, BLACK, BOTH = "1-0 forfeit", "0-1 forfeit", "* forfeit"

@@ -4,10 +4,10 @@ import pathlib
 from typing import List
 
 from live.game.options import Options
-from live.run.descriptors import Room, room
 from live.run.refused import Refused
-from live.table.pairings import Pairing, read_pairings
+from live.run.system import Room, room
 from live.show.table import Columns, RowView, head, row, screen
+from live.table.pairings import Pairing, read_pairings
 from played.stage import same
 
 LINE = "1,/dev/ttyUSB0,Jörg,Ben"

@@ -3,23 +3,25 @@
 from __future__ import annotations
 
 import collections
+import functools
 import math
 import os
 import subprocess
 from dataclasses import dataclass
-from typing import Callable, Deque, List, Optional, Protocol, Tuple, Union
+from typing import Callable, Deque, List, Optional, Tuple, Union
 
-from live.child.attended import CAPTURE, HOLD, KEEP, KEPT, LENT, NUMBER, TEXT, UNSEEN, WAITS, WAKE, Answer, Answers, entry, pieces
-from live.child.program import CHUNK, Child, HearsChild, Program
-from live.child.reading import Reader
+from live.child.lines import CAPTURE, HOLD, KEEP, KEPT, LENT, NUMBER, TEXT, UNSEEN, WAITS, WAKE, Answer, Answers, entry, pieces
+from live.child.program import CHUNK, Program, end_child, ending_of, let_go, wake
 from live.game import times
 from live.game.files import Capture
+from live.game.reading import Reader
 from live.game.timed import Times
-from live.run.guard import Guard
-from live.run.loop import Callback, Counting, Timer
+from live.run.loop import Callback, Counting, Guard, Timer
 from live.run.refused import FAILED, Refused
 from live.words.message import Message
 
+FAILURES = 5  # failures of one child in a row, with no line in between
+FRESH = 60.0  # seconds after which earlier failures no longer count
 LATER = 0.01  # seconds by which it is woken later than it has said: two times that are close need one wake
 OF_THE_LINE = (times.OPENED, times.ANSWERED, times.GONE, times.CALLED)
 OF_THE_PAST = (KEPT, CAPTURE, times.BEGIN, times.AWAY)  # with the answers to these no game gets bytes
@@ -38,11 +40,12 @@ class Told:
         self.thens: List[Callback] = []
 
 
-class HearsAnswers(HearsChild, Protocol):
-    """Gets what the program answers."""
+Hears = Callable[[Told, Answer], None]  # gets what is answered
+Ended = Callable[[str, bool], None]  # a child has ended too soon: that it is started again; or how, since none is started any more
 
-    def answered(self, told: Told, answer: Answer) -> None:
-        """This is answered."""
+
+def nobody_told(text: str, is_broken: bool) -> None:
+    """Nothing is said of a child that has ended too soon."""
 
 
 @dataclass(frozen=True)
@@ -58,6 +61,122 @@ class Past:
 Part = Union[bytes, Tuple[int, int]]  # to be told: bytes, or those of the capture from one offset to another
 
 
+class Child:
+    """A child that is told lines, and answers. If it ends, another one is started: at once, and then every half second."""
+
+    def __init__(self, guard: Guard, program: Program, words: Tuple[str, ...], ended: Ended) -> None:
+        self._guard, self._program, self._words, self._ended = guard, program, words, ended
+        self._failures = 0
+        self._failed_at = -FRESH
+        self._again: Optional[Timer] = None
+        self._child: Optional["subprocess.Popen[bytes]"] = None
+        self._is_blocked = self._is_closed = False
+        self._let_go: Callable[[], None] = lambda: None
+
+    def start(self) -> None:
+        """Starts it, and tells it what it must know first."""
+        self._is_blocked, self._child = False, None
+        begun = self._begins_anew()
+        try:
+            child = begun or self._program.start(self._words, subprocess.PIPE, subprocess.PIPE, subprocess.DEVNULL)
+        except OSError as error:
+            self._fail(Message("program.cannot_start", why=error.strerror))
+            return
+        self._child = child
+        self._let_go = self._guard.opened(functools.partial(end_child, child))
+        assert child.stdin and child.stdout
+        os.set_blocking(child.stdin.fileno(), False)
+        os.set_blocking(child.stdout.fileno(), False)
+        self._guard.watch(child.stdout.fileno(), self._readable)
+        self._feed()
+
+    def _begins_anew(self) -> Optional["subprocess.Popen[bytes]"]:
+        """Another child begins. Returns it, if it was started before."""
+        raise NotImplementedError
+
+    def _writes(self, number: int) -> bool:
+        """Writes something of what is to be told there. Returns whether there is more. Raises BlockingIOError if it must wait."""
+        raise NotImplementedError
+
+    def _takes(self, part: bytes) -> None:
+        """The child has written this."""
+
+    def _feed(self) -> None:
+        """Writes what the child takes."""
+        if self._child is None or self._is_blocked:
+            return
+        assert self._child.stdin
+        number = self._child.stdin.fileno()
+        try:
+            while self._writes(number):
+                pass
+        except BlockingIOError:
+            self._is_blocked = True
+            self._guard.watch(number, None, self._writable)
+        except OSError:
+            pass  # it has ended, as its output shows
+
+    def _writable(self) -> None:
+        assert self._child and self._child.stdin
+        self._guard.forget(self._child.stdin.fileno())
+        self._is_blocked = False
+        self._feed()
+
+    def _readable(self) -> None:
+        assert self._child and self._child.stdout
+        try:
+            part = os.read(self._child.stdout.fileno(), CHUNK)
+        except BlockingIOError:
+            return
+        if part:
+            self._takes(part)
+        else:
+            self._fail(ending_of(self._reap()))
+
+    def _fail(self, how: str) -> None:
+        """Tries again; gives up after repeated failures."""
+        now = self._guard.now()
+        self._failures = 1 if now - self._failed_at > FRESH else self._failures + 1
+        self._failed_at = now
+        what = Message("program.how", command=self._words[0], how=how)
+        if self._failures > FAILURES:
+            self._ended(what, True)
+        else:
+            self._ended(Message("program.started_again", what=what), False)
+            self._again = self._guard.after(0 if self._failures == 1 else 0.5, self.start)
+
+    def restart(self) -> None:
+        """Another child takes its place."""
+        if self._child is not None:
+            self._child.kill()
+            self._reap()
+            self.start()
+
+    def wake(self) -> None:
+        """Call this now and then: a child that was stopped from outside goes on."""
+        if self._child is not None:
+            wake(self._child)
+
+    def close(self) -> None:
+        """Ends it; nothing more is reported."""
+        self._is_closed = True
+        if self._again:
+            self._again.cancel()
+        if self._child is not None:
+            self._child.kill()
+            self._reap()
+
+    def _reap(self) -> int:
+        """Its exit status. Its output has ended, so it ends now; or it is being ended."""
+        child, self._child = self._child, None
+        assert child and child.stdin and child.stdout
+        self._guard.forget(child.stdout.fileno())
+        self._guard.forget(child.stdin.fileno())
+        let_go(child)
+        self._let_go()
+        return child.returncode
+
+
 class Attending(Child):
     """Attends a board. The first `known` lines of the report are known.
 
@@ -68,9 +187,10 @@ class Attending(Child):
     takes its place, a call begins for both: that child doesn't know what the one before it had held, and says as one that begins."""
 
     def __init__(
-        self, guard: Guard, program: Program, words: Tuple[str, ...], past: Optional[Past], hears: HearsAnswers, known: int = 0
-    ) -> None:
-        super().__init__(guard, program, ("live", *words), hears)
+        self, guard: Guard, program: Program, words: Tuple[str, ...], past: Optional[Past], hears: Hears, ended: Ended = nobody_told,
+        known: int = 0
+    ) -> None:  # fmt: skip
+        super().__init__(guard, program, ("live", *words), ended)
         self._past, self._hears, self._reader = past, hears, past.reader if past else None
         self._reported = known  # lines
         self._answers = Answers()
@@ -161,9 +281,9 @@ class Attending(Child):
         """Whether all that was told is answered."""
         return not self._told
 
-    def heard_by(self, hears: HearsAnswers) -> None:
+    def heard_by(self, hears: Hears, ended: Ended = nobody_told) -> None:
         """From now on this one gets what the program answers."""
-        self._hears = self._hears_child = hears
+        self._hears, self._ended = hears, ended
 
     @property
     def is_closed(self) -> bool:
@@ -286,7 +406,7 @@ class Attending(Child):
         self.keeps = answer.handling == KEEP
         self._is_due = False
         self._look_at_state(answer)
-        self._hears.answered(told, answer)
+        self._hears(told, answer)
         self._wake_at(told.at, answer.due)
         if answer.game is not None and self._gets_text:
             gets, self._gets_text = self._gets_text, None
