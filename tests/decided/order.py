@@ -2,37 +2,12 @@
 
 import ast
 import pathlib
-from typing import List, Tuple
+from typing import List
 
 from decided.table import same
 
 LIVE = pathlib.Path(__file__).resolve().parents[2] / "live"
 FOLDERS = ("words", "run", "line", "child", "game", "board", "table", "out", "show", "round", "doors")
-# Those that still go right: each to be mended, and taken off here.
-STILL_RIGHT: List[Tuple[str, str]] = [
-    ("board/attended_game.py", "show"),
-    ("board/board.py", "show"),
-    ("board/cable.py", "show"),
-    ("board/disk.py", "show"),
-    ("board/game_over.py", "show"),
-    ("board/obeying.py", "show"),
-    ("board/recorder.py", "show"),
-    ("board/recording.py", "show"),
-    ("board/setting_up.py", "show"),
-    ("board/single.py", "show"),
-    ("board/standing.py", "show"),
-    ("child/attending.py", "game"),
-    ("child/control.py", "game"),
-    ("child/program.py", "game"),
-    ("child/reading.py", "game"),
-    ("child/refusal.py", "game"),
-    ("line/connection.py", "child"),
-    ("line/connection.py", "game"),
-    ("line/first_dump.py", "child"),
-    ("line/first_dump.py", "game"),
-    ("line/numbers.py", "child"),
-    ("line/numbers.py", "game"),
-]
 
 
 def folders_of(code: str) -> List[str]:
@@ -59,7 +34,7 @@ def leftwards() -> None:
     for path in sorted(LIVE.glob("*/*.py")):
         right = to_the_right(path.parent.name, path.read_text("utf-8"))
         found += [(f"{path.parent.name}/{path.name}", name) for name in right]
-    same("to the right", found, STILL_RIGHT)
+    same("to the right", found, [])
 
 
 def planted() -> None:
