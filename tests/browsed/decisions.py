@@ -42,7 +42,7 @@ import('/web/kept/database.js').then(async ({ Database }) => {
 
 # A board that stays wrong is read once more, and the program can't do that.
 UNREAD = """
-Promise.all(['hidden', 'state'].map((name) => import(`/web/board/${name}.js`)).concat(import('/web/guard.js'))).then(
+Promise.all(['hidden', 'state'].map((name) => import(`/web/board/${name}.js`)).concat(import('/web/run/guard.js'))).then(
   async ([{ Hidden }, { Kind }, { Guard }]) => {
     let [now, broke, count] = [0, '', 0];
     const guard = new Guard({ now: () => now }, (error) => (broke = String(error)));
@@ -52,8 +52,8 @@ Promise.all(['hidden', 'state'].map((name) => import(`/web/board/${name}.js`)).c
     };
     const capture = { size: 5, view: () => new Uint8Array(5) };
     const course = { plies: [], newest: '' };
-    const recorder = { attending: { epoch: 1 }, calls: { lines: fails, whole: fails }, guard, capture, course, isOver: false, options: {}, state: { kind: Kind.WRONG } };
-    const hidden = new Hidden(recorder);
+    const parts = { attending: { showing: { epoch: 1 } }, hall: { calls: { output: fails } }, presence: { state: { kind: Kind.WRONG } } };
+    const hidden = new Hidden({ ...parts, guard, capture, course, isOver: false, options: {} });
     hidden.look();
     now = 15;
     hidden.look();

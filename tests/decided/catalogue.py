@@ -37,11 +37,10 @@ NO_SENTENCES: Dict[str, Tuple[str, ...]] = {
     "live/show/http.py": ("Method Not", "Content Too", "URI Too", "Request Header", "HTTP Version", "default-src"),  # as HTTP has them
     # Where there is no catalogue.
     "live/words/message.py": ("{} can't be read", "{} is no JSON", "{} is no object", "{} is no key", "{} has {}", "the catalogue has no {}"),
-    "web/device/protocol.js": ("not eight",),
-    "web/game/answers.js": ("input: too long",),
-    "web/game/attended.js": ("live wrote:",),  # what the program has written, and can't be read
-    "web/game/way_back.js": ("as it is", "input: too long"),
-    "web/loop.js": ("\n  onmessage",),  # code
+    "web/child/attended.js": ("live wrote:",),  # what the program has written, and can't be read
+    "web/game/typed.js": ("as it is", "input: too long"),
+    "web/line/protocol.js": ("not eight",),
+    "web/run/loop.js": ("\n  onmessage",),  # code
 }
 MESSAGE = "live/show/page/message.js"
 MAKING = ("message", "plural", "linked")  # its functions that make messages

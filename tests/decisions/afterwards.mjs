@@ -1,6 +1,6 @@
 /** A board whose game is over: what is said of it, and where the next game begins. The program says which moves count. */
-import { corrected, isReadAnew, nextBegins, unheard, wentOn } from "/web/game/afterwards.js";
-import { Looks, textOfLook } from "/web/game/looks.js";
+import { isReadAnew, nextBegins } from "/web/board/next_game.js";
+import { Looks, corrected, textOfLook, unheard, wentOn } from "/web/game/alarms.js";
 
 export function looks(counts, cases) {
   for (const [after, moves, result, expected] of cases("went_on")) counts.same(expected, textOfLook(wentOn(after, moves, result)), expected);

@@ -1,6 +1,5 @@
 /** What is typed in a line; what the program answers to it, and the sentences for that. */
-import { meaning, placeOf, readAnswer, refuse } from "/web/game/answers.js";
-import { BOTH_LOSE, HELP, readWords } from "/web/game/typed.js";
+import { BOTH_LOSE, HELP, meaning, placeOf, readAnswer, readWords, refuse } from "/web/game/typed.js";
 
 const ON_HELP = ["1-0", "Nf3 Nc6", "back", "14. Bxf6", "*", "ok"];
 

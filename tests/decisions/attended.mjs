@@ -1,6 +1,6 @@
 /** What `live` is told of a board and answers; and the state that it says, in words. */
 import { stateOf } from "/web/board/state.js";
-import { Answers, entryOf } from "/web/game/attended.js";
+import { Answers, entryOf } from "/web/child/attended.js";
 
 const latin = (bytes) => String.fromCharCode(...bytes);
 const bytesOf = (text) => Uint8Array.from(text, (letter) => letter.charCodeAt(0));

@@ -1,8 +1,7 @@
 /** Which alarms of the program are open in a game, and what they say. */
-import { Alarms, lookOf } from "/web/game/alarms.js";
-import { Answers } from "/web/game/attended.js";
-import { Looks, lookAt, textOfLook } from "/web/game/looks.js";
-import { eventOf } from "/web/game/report.js";
+import { Answers } from "/web/child/attended.js";
+import { eventOf } from "/web/child/report.js";
+import { Alarms, Looks, lookAt, lookOf, textOfLook } from "/web/game/alarms.js";
 
 const PLIES = ["move 1. e4", "move 1... e5", "move 2. Nf3"].map(eventOf);
 const SETTLED_AT = [100, 200, 300];

@@ -1,5 +1,5 @@
 /** Whether somebody has edited a game's text by hand. */
-import { isEarlier } from "/web/kept/edited.js";
+import { isEarlier } from "/web/kept/folder.js";
 
 function text([white, moves, result, named]) {
   return `[Event "?"]\n[White "${white}"]\n[Result "${named}"]\n\n${moves} ${result}\n\n`;

@@ -1,7 +1,7 @@
 /** Whether the cables of two boards may have been exchanged; which boards have one number; and what is said then. */
-import { toldOfExchange, toldOfSameNumber } from "/web/game/alarms.js";
-import { textOfLook } from "/web/game/looks.js";
-import { cameBack, mayBeExchanged, sameNumber } from "/web/hall/exchanged.js";
+import { cameBack } from "/web/board/presence.js";
+import { textOfLook, toldOfExchange, toldOfSameNumber } from "/web/game/alarms.js";
+import { mayBeExchanged, sameNumber } from "/web/hall/exchanged.js";
 
 const returned = ([heardAt, cameAt, number, placement]) => ({ heardAt, cameAt, number, placement });
 

@@ -1,6 +1,5 @@
 /** How long a capture may get in the page, and what of it goes then. */
-import { isLong, needless } from "/web/kept/limit.js";
-import { spread } from "/web/kept/spread.js";
+import { isLong, needless, spread } from "/web/kept/capture.js";
 import { bytesOf } from "./table.mjs";
 
 export function limits(counts, cases) {

@@ -1,5 +1,5 @@
 /** In which order the files of a folder are written. */
-import { nextFile, renamedAgain } from "/web/kept/order.js";
+import { nextFile, renamedAgain } from "/web/kept/folder.js";
 
 export function orders(counts, cases) {
   for (const [name, waiting, fails, expected, renamed] of cases("orders")) {

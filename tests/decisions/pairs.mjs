@@ -1,5 +1,5 @@
 /** Pairs that are pasted: which are taken, and how, and which are refused. */
-import { pairsOf } from "/web/game/pairs.js";
+import { pairsOf } from "/web/hall/rounds.js";
 
 const BOARDS = [1, 2, 3, 4];
 

@@ -1,5 +1,5 @@
 /** Placements. */
-import { differing, pictureOfPlacement } from "/web/device/protocol.js";
+import { differing, pictureOfPlacement } from "/web/line/protocol.js";
 
 export function pictures(counts, cases) {
   for (const [name, text, first, codes] of cases("placements")) {

@@ -1,6 +1,6 @@
 /** Lines of the program's report: what each is, and what they come to. */
+import { lineOf, shownOf } from "/web/child/report.js";
 import { Course, clocksOf } from "/web/game/course.js";
-import { lineOf, shownOf } from "/web/game/report.js";
 
 export function lines(counts, cases) {
   for (const [text, expected] of cases("lines")) {

@@ -1,5 +1,5 @@
 /** Which gaps between two turns of the loop are a time away. */
-import { timeAway } from "/web/time_away.js";
+import { timeAway } from "/web/run/loop.js";
 
 export function turns(counts, cases) {
   const turn = ([running, counting]) => ({ running, counting });

@@ -1,6 +1,6 @@
 /** The lines of NAME.times, and a clock that counts on. */
 import { cut, digest, heading, inParts, isEarlier, isOf, kept, lineAfter, lines, toldOf, toldOfOther, withAdded } from "/web/game/times.js";
-import { stoodStill } from "/web/time_away.js";
+import { stoodStill } from "/web/run/loop.js";
 
 const OF_A = "1 times 0\n1 digest 12638187200555641996\n"; // the capture began with the letter a
 const whole = (text) => text.replace("@", OF_A);

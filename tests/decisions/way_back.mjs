@@ -1,6 +1,6 @@
 /** The way back: what is asked and told. The program finds the ply and makes the capture anew. */
-import { Looks, OVER } from "/web/game/looks.js";
-import { askedOf, playedSince, question, readBack, refuseBack, refuseNothing, settled, takenUp, wordsOfBack } from "/web/game/way_back.js";
+import { Looks, OVER } from "/web/game/alarms.js";
+import { askedOf, playedSince, question, readBack, refuseBack, refuseNothing, settled, takenUp, wordsOfBack } from "/web/game/typed.js";
 
 const moveOf = ([number, san, clock]) => ({ kind: "move", number, san, clock, corrects: false });
 const read = (status, said) => readBack({ status, errors: new TextEncoder().encode(`${said}\n`), output: new Uint8Array(2) });

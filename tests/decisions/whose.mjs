@@ -1,6 +1,6 @@
 /** What is said if another board is on a cable. */
-import { another, back, mayTake } from "/web/board/whose.js";
-import { textOfLook } from "/web/game/looks.js";
+import { another, back, mayTake } from "/web/board/cable.js";
+import { textOfLook } from "/web/game/alarms.js";
 
 export function alarms(counts, cases) {
   for (const [other, hasMoves, text, takes] of cases("told")) {

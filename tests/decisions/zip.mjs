@@ -1,5 +1,5 @@
 /** The checksum of an archive. tests/recorder unpacks a whole one. */
-import { checksum } from "/web/kept/zip.js";
+import { checksum } from "/web/hall/saving.js";
 
 export function checksums(counts, cases) {
   for (const [text, expected] of cases("checksums")) {

@@ -474,7 +474,7 @@ def tsc(folder: pathlib.Path) -> None:
     """TypeScript's checker has no complaint about the modules of both pages and those that they import; it has one about a text for a
     number."""
     complains_of_nothing("node-typescript", "--project", TOP / "web" / "jsconfig.json")
-    (folder / "wrong.js").write_text(f"import {{ isLong }} from '{TOP}/web/kept/limit.js';\n\nisLong('1', 2);\n")
+    (folder / "wrong.js").write_text(f"import {{ differing }} from '{TOP}/web/line/protocol.js';\n\ndiffering('1', [2]);\n")
     wrong = folder / "jsconfig.json"
     wrong.write_text(json.dumps({"extends": str(TOP / "web" / "jsconfig.json"), "include": ["wrong.js"]}))
     try:
@@ -482,7 +482,7 @@ def tsc(folder: pathlib.Path) -> None:
     except AssertionError as error:
         same([line.split(": ")[1] for line in str(error).splitlines()], ["error TS2345"])
     else:
-        raise AssertionError("a text passes for a number")
+        raise AssertionError("a text passes for a picture")
 
 
 def compiles(folder: pathlib.Path) -> None:

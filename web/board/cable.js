@@ -1,67 +1,61 @@
 // The cable of a board: its line, and whose board is on it, as the program says. What a board with another number sends is lent to
 // the game that has this board; if there is none, it is kept back.
 
-import { Connection } from '../device/connection.js';
-import { Taken } from '../device/line.js';
-import { KEEP, OTHER } from '../game/attended.js';
-import { GONE, OPENED, TOOK } from '../game/times.js';
+import { GONE, HEARD, KEEP, OPENED, OTHER, TOOK } from '../child/attended.js';
+import { lookAt } from '../game/alarms.js';
+import { SerialLine, Taken } from '../line/line.js';
+import { linked, message } from '../../live/show/page/message.js';
 
-/**
- * @typedef {import('../guard.js').Guard} Guard
- * @typedef {import('../loop.js').Timer} Timer
- */
-
-/**
- * @typedef {object} Hears
- * @property {(what: string) => void} happened this is news of the line
- * @property {(bytes: Uint8Array) => void} came the board has sent this
- * @property {() => void} plugged
- * @property {() => void} unplugged
- * @property {(why: string) => void} taken another program has the port
- * @property {(number: string) => void} numbered the number of the game's board is known
- * @property {(number: string) => void} another a board with this number is on the cable
- * @property {(other: string) => void} back it was, and the game's own is there again
- */
-
+const WHERE = message('look.at_the_cable');
 const AGAIN = 2.0; // seconds until a port that another program has is tried again
 
+/** Whether `ok` gives the board on the cable to this game, and not to its owner: a game with moves keeps its board until it is over.
+ * @type {(owner: Owner | null, hasMoves: boolean) => boolean} */
+export const mayTake = (owner, hasMoves) => owner === null || owner.isOver || !(owner.hasMoves || hasMoves);
+
+/** @type {(own: string, shown: string, owner: Owner | null, hasMoves: boolean) => Look} another board, which may have its game */
+export function another(own, shown, owner, hasMoves) {
+  if (owner === null || owner.isOver) {
+    const unknown = message('cable.unknown_board', { number: shown, own });
+    const has = owner ? message('cable.board_of_one_over', { owner: owner.name, number: shown, own }) : unknown;
+    return lookAt(WHERE, message('cable.unknown_board_taken', { has }), WHERE);
+  }
+  const has = message('cable.board_of_another', { owner: owner.name, number: shown, own });
+  const takes = mayTake(owner, hasMoves) ? [message('cable.may_take')] : [];
+  return lookAt(WHERE, linked('semicolon', [has, ...takes]), WHERE);
+}
+
+/** @type {(own: string, other: string) => Look} the game's own board is on the cable again */
+export const back = (own, other) => lookAt(WHERE, message('cable.own_is_back', { other, own }), WHERE);
+
 export class Cable {
-  /**
-   * @param {Guard} guard
-   * @param {string} number
-   * @param {Hears} hears
-   */
-  constructor(guard, number, hears) {
-    this.guard = guard;
-    this.hears = hears;
+  /** @param {Session} session @param {string} number */
+  constructor(session, number) {
+    this.session = session;
     this.number = number; // the serial number of the game's board, empty if unknown
     this.other = ''; // that of the board on the cable, if it is another one
     this.told = ''; // that of the other board that was last reported, while it is on the cable
-    /** @type {Uint8Array[]} */
-    this.latest = []; // what the board has sent last
-    /** @type {SerialPort | null} */
-    this.port = null;
-    /** @type {Connection | null} */
-    this.connection = null;
-    /** @type {Timer | null} */
-    this.timer = null;
-    this.isTaken = false;
+    this.latest = /** @type {Uint8Array[]} */ ([]); // what the board has sent last
+    this.port = /** @type {SerialPort | null} */ (null);
+    this.connection = /** @type {SerialLine | null} */ (null);
+    this.timer = /** @type {Timer | null} */ (null);
+    this.trouble = /** @type {Words} */ (''); // why the port can't be opened: another program has it
     this.isLeft = false; // whether another game has its line
-    guard.opened(() => this.close());
+    this.isStopped = false; // whether somebody has stopped the recording
+    session.guard.opened(() => this.close());
   }
 
+  /** Whether its line is open, or is being opened. */
   get isOpen() {
     return this.connection !== null;
   }
 
-  /**
-   * Records from this port from now on.
-   * @type {(port: SerialPort) => Promise<void>}
-   */
+  /** @type {(port: SerialPort) => Promise<void>} records from it from now on */
   async begin(port) {
     this.close();
     this.port = port;
-    const connection = new Connection(this.guard, port, this);
+    const { guard } = this.session;
+    const connection = new SerialLine(guard, port, this);
     this.connection = connection;
     try {
       await connection.open();
@@ -72,31 +66,35 @@ export class Cable {
       connection.close();
       this.connection = null;
       if (!(error instanceof Taken)) throw error;
-      if (!this.isTaken) this.hears.taken(error.message);
-      this.isTaken = true;
-      this.timer = this.guard.after(AGAIN, () => this.begin(port));
+      if (!this.trouble) this.taken(error.message);
+      this.timer = guard.after(AGAIN, () => this.begin(port));
     }
   }
 
-  /**
-   * Goes on with an open connection, which has brought this.
-   * @type {(connection: Connection, came: Uint8Array[]) => void}
-   */
+  /** @type {(connection: SerialLine, came: Uint8Array[]) => void} goes on with an open connection, which has brought this */
   take(connection, came) {
     this.close();
     this.port = connection.port;
     this.connection = connection;
     connection.hears = this;
-    connection.guard = this.guard;
+    connection.guard = this.session.guard;
     this.opened();
     came.forEach((bytes) => this.heard(bytes));
   }
 
   opened() {
-    this.isTaken = false;
+    this.trouble = '';
     this.isLeft = false;
-    this.hears.happened(OPENED);
-    this.hears.plugged();
+    this.isStopped = false;
+    this.session.attending.tell(OPENED);
+    this.session.changed();
+  }
+
+  /** @type {(why: Words) => void} */
+  taken(why) {
+    this.trouble = message('port.not_opened');
+    this.session.says(linked('colon', [this.trouble, why]));
+    this.session.changed();
   }
 
   /** Leaves the line open to the game that has its board. */
@@ -104,7 +102,7 @@ export class Cable {
     const { connection, latest } = this;
     this.connection = null;
     this.isLeft = true;
-    this.hears.happened(GONE);
+    this.session.attending.tell(GONE);
     this.close();
     return { connection, came: latest };
   }
@@ -112,17 +110,14 @@ export class Cable {
   close() {
     if (this.timer) this.timer.cancel();
     if (this.connection) {
-      if (this.connection.isOpen) this.hears.happened(GONE);
+      if (this.connection.isOpen) this.session.attending.tell(GONE);
       this.connection.close();
     }
     this.connection = null;
     this.timer = null;
   }
 
-  /**
-   * Sends this to the board. Returns whether its line is there.
-   * @type {(bytes: Uint8Array) => boolean}
-   */
+  /** @type {(bytes: Uint8Array) => boolean} sends this to the board; whether its line is there */
   write(bytes) {
     if (this.connection) this.connection.write(bytes);
     return this.connection !== null;
@@ -132,34 +127,33 @@ export class Cable {
 
   /** @type {(bytes: Uint8Array) => void} */
   heard(bytes) {
-    this.hears.came(bytes);
+    this.session.attending.tell(HEARD, bytes);
   }
 
   lost() {
+    const { session } = this;
     this.connection = null;
-    this.hears.happened(GONE);
-    this.hears.unplugged();
+    session.attending.tell(GONE);
+    session.presence.isGone();
+    const name = message('port.its_device');
+    if (!session.isOver) session.says(message('cable.isnt_there', { name, advice: message('advice.plug_in') }));
+    session.changed();
   }
 
   // Whose board it is.
 
-  /**
-   * What is done with what the board sends. If its number is the game's, that was answered before it was taken.
-   * @type {(handling: string, number: string) => void}
-   */
+  /** @type {(handling: string, number: string) => void} if its number is the game's, that was answered before it was taken */
   handled(handling, number) {
     if (handling === KEEP) this.other = '';
     if (handling !== OTHER || number === this.number) return;
     this.other = number;
     if (number === this.told) return;
     this.told = number;
-    this.hears.another(number);
+    const { around, playing } = this.session;
+    playing.tellLook(playing.alarms.add(another(this.number, number, around.owner(number), playing.hasMoves)));
   }
 
-  /**
-   * The game gets these bytes, which its board has sent. With them its number may become known.
-   * @type {(bytes: Uint8Array, number: string) => void}
-   */
+  /** @type {(bytes: Uint8Array, number: string) => void} of the game's board; with them its number may become known */
   brings(bytes, number) {
     if (number && !this.number) {
       this.latest = [bytes];
@@ -168,17 +162,16 @@ export class Cable {
     } else if (this.told) {
       const before = this.told;
       this.told = '';
-      this.hears.back(before);
+      const { playing } = this.session;
+      playing.tellLook(playing.alarms.add(back(this.number, before)));
     }
   }
 
-  /**
-   * From now on the board with this number is the game's.
-   * @type {(number: string) => void}
-   */
+  /** @type {(number: string) => void} the board with this number is the game's from now on */
   isOwn(number) {
     this.number = number;
-    this.hears.numbered(number);
+    this.session.record.knows({ serial: number });
+    this.session.around.tells({ kind: 'numbered', number });
   }
 
   /** Another game has its board from now on. */
@@ -188,12 +181,12 @@ export class Cable {
     this.told = '';
   }
 
-  /** From now on the board on the cable is the game's, with all that it has sent. */
+  /** The board on the cable is the game's from now on, with all that it has sent. */
   takeOther() {
     if (!this.other) return;
     this.isOwn(this.other);
     this.told = '';
     this.other = '';
-    this.hears.happened(TOOK);
+    this.session.attending.tell(TOOK);
   }
 }

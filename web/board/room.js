@@ -1,76 +1,68 @@
 // The room in a capture. A board that is left on sends more than the program reads: so of what comes behind a game that is over, or
 // before a first move, only the last stays.
 
-import { joined } from '../device/protocol.js';
-import { MOST, isLong, needless } from '../kept/limit.js';
+import { MOST, isLong, needless } from '../kept/capture.js';
+import { joined } from '../line/protocol.js';
+import { Again } from '../run/guard.js';
 import { message } from '../../live/show/page/message.js';
-import { Again } from './again.js';
-
-/**
- * @typedef {import('../../live/show/page/message.js').Message} Message
- * @typedef {import('./recorder.js').Recorder} Recorder
- */
 
 const LATER = 60.0; // seconds until it is tried again
 
 export class Room {
-  /**
-   * `recorder` records the game.
-   * @param {Recorder} recorder
-   */
-  constructor(recorder) {
-    this.recorder = recorder;
-    this.again = new Again(recorder, LATER);
+  /** @param {Session} session */
+  constructor(session) {
+    this.session = session;
+    this.again = new Again(session.guard, (text) => session.says(text), LATER);
     this.isBusy = false;
   }
 
   /** Whether the game is over since it could have no more. */
   get isFull() {
-    const { isOver, game } = this.recorder;
-    return isOver && Number(game.end) >= MOST;
+    return Number(this.session.record.game.end) >= MOST; // null counts as 0
   }
 
   /** A game is over when it has as many bytes as it may have. */
   close() {
-    const { capture, isOver } = this.recorder;
-    if (!isOver && capture.size >= MOST) this.recorder.closeGame(capture.size, message('over.capture_has_most'));
+    const { capture, isOver } = this.session;
+    if (!isOver && capture.size >= MOST) this.session.closeGame(capture.size, message('over.capture_has_most'));
   }
 
   /** How many bytes of the capture are the game's; null if all that comes may be, or if the next game is just beginning. */
   get end() {
-    const { beginning, course, forfeit, isOld, isOver, next } = this.recorder;
+    const { isOver, next, playing } = this.session;
     if (isOver) return next.at === null ? next.end : null;
-    const isEmpty = !isOld && course.plies.length === 0 && course.result === '*' && !forfeit;
-    return isEmpty && !beginning.isOn ? 0 : null;
+    const isEmpty = !playing.isOld && !playing.hasMoves && playing.course.result === '*' && !playing.forfeit;
+    return isEmpty && !next.beginning.isOn ? 0 : null;
+  }
+
+  get isShort() {
+    return this.end !== null && isLong(this.session.capture.size, this.end);
   }
 
   /** Once a second. */
   look() {
-    const { capture, guard } = this.recorder;
-    const { end } = this;
-    if (end === null || !isLong(capture.size, end)) return;
-    if (!capture.isUnkept && !this.isBusy && !this.again.isWaiting) guard.call(() => this.tryIt());
+    if (this.isShort && !this.session.capture.isUnkept && !this.isBusy && !this.again.isWaiting) this.session.guard.call(() => this.tryIt());
   }
 
   async tryIt() {
-    const { recorder } = this;
+    const { session } = this;
     /** @type {(error: Error) => Message} */
-    const told = (error) => message('capture.not_shortened', { name: recorder.name, why: error.message });
+    const told = (error) => message('capture.not_shortened', { name: session.name, why: error.message });
     this.isBusy = true;
-    await this.again.try(() => recorder.typing.exclusively(() => this.shorten()), told, () => this.look());
+    await this.again.try(() => session.typing.exclusively(() => this.shorten()), told, () => this.look());
     this.isBusy = false;
   }
 
   async shorten() {
-    const { recorder } = this;
-    const { capture, game, isOver, name, overTo, typedTo } = recorder;
-    const { end } = this;
-    if (end === null || !isLong(capture.size, end)) return;
+    if (!this.isShort) return;
+    const { session } = this;
+    const { capture, isOver, name, overTo, record, typedTo } = session;
+    const end = Number(this.end);
     const bytes = capture.view();
     const [from, to] = needless(bytes, end);
     const content = joined(bytes.subarray(0, from), bytes.subarray(to));
-    const changes = { typedTo: Math.min(typedTo, end), overTo, played: game.played || 0 };
-    await recorder.renew(content, false, changes, isOver ? (one, other) => recorder.times.upTo(end, one, other) : undefined);
-    recorder.says(isOver ? message('capture.long_behind', { name }) : message('capture.long_before', { name }));
+    const changes = { typedTo: Math.min(typedTo, end), overTo, played: record.game.played || 0 };
+    await session.renew(content, false, changes, isOver ? (one, other) => session.times.upTo(end, one, other) : undefined);
+    session.says(isOver ? message('capture.long_behind', { name }) : message('capture.long_before', { name }));
   }
 }

@@ -5,12 +5,6 @@
 
 import { message } from '../../live/show/page/message.js';
 
-/**
- * @typedef {import('../../live/show/page/message.js').Message} Message
- * @typedef {import('../../live/show/page/message.js').Words} Words
- * @typedef {import('./options.js').Tags} Tags
- */
-
 export const BOTH = '--'; // nobody wins
 const [WHITE, BLACK] = ['+-', '-+']; // White wins, Black wins
 /** @type {{ [kind: string]: string }} */
@@ -21,34 +15,16 @@ const TERMINATION = 'rules infraction';
 const SPELT = { '+--': WHITE, '--+': BLACK }; // +:- and + - -, as pairing programs write them
 const MARKED = /^(?:([01])F?-([01])(?:F|FF|K|FORFEIT)|([01])F-([01])F)$/i;
 
-/**
- * The score of a forfeit; empty if there is none.
- * @type {(kind: string) => string}
- */
-export function scoreOf(kind) {
-  return SCORES[kind] || '';
-}
+/** @type {(kind: string) => string} the score of a forfeit; empty if there is none */
+export const scoreOf = (kind) => SCORES[kind] || '';
 
-/**
- * What it comes to.
- * @type {(kind: string) => Message}
- */
-export function wordsOfForfeit(kind) {
-  return message('forfeit.words', { score: SCORES[kind] });
-}
+/** @type {(kind: string) => Message} what it comes to */
+export const wordsOfForfeit = (kind) => message('forfeit.words', { score: SCORES[kind] });
 
-/**
- * The result in PGN.
- * @type {(kind: string) => string}
- */
-export function resultOf(kind) {
-  return kind === BOTH ? NO_RESULT : SCORES[kind];
-}
+/** @type {(kind: string) => string} the result in PGN */
+export const resultOf = (kind) => (kind === BOTH ? NO_RESULT : SCORES[kind]);
 
-/**
- * The forfeit that was typed in a line of its own; empty if it is something else.
- * @type {(text: string) => string}
- */
+/** @type {(text: string) => string} the forfeit that was typed in a line of its own; empty if it is something else */
 export function typedForfeit(text) {
   const words = text.split(/\s+/u).filter((word) => word);
   const word = words.join('').replace(/[–—−:]/g, '-');
@@ -61,53 +37,31 @@ export function typedForfeit(text) {
   return Object.keys(SCORES).find((kind) => SCORES[kind] === score) || '';
 }
 
-/**
- * The forfeit that counts in a game: it has no move, and no other result was typed. Empty if none does.
- * @type {(kind: string | undefined, plies: number, result: string) => string}
- */
+/** The forfeit that counts in a game: it has no move, and no other result was typed. Empty if none does.
+ * @type {(kind: string | undefined, plies: number, result: string) => string} */
 export function countingForfeit(kind, plies, result) {
   return kind && SCORES[kind] && plies === 0 && resultOf(kind) === result ? kind : '';
 }
 
-/**
- * Whether a text has no move.
- * @type {(pgn: string) => boolean}
- */
-export function isUnplayed(pgn) {
-  return pgn.slice(pgn.indexOf('\n\n') + 2).split(/\s+/).filter((word) => word).length <= 1;
-}
+/** @type {(pgn: string) => boolean} whether a text has no move */
+export const isUnplayed = (pgn) => pgn.slice(pgn.indexOf('\n\n') + 2).split(/\s+/).filter((word) => word).length <= 1;
 
-/**
- * The forfeit that counts in the game with this text; empty if none does.
- * @type {(kind: string | undefined, pgn: string) => string}
- */
+/** @type {(kind: string | undefined, pgn: string) => string} the forfeit that counts in the game with this text; empty if none does */
 export function forfeitOf(kind, pgn) {
   const [, result = NO_RESULT] = /^\[Result "(.*)"\]$/m.exec(pgn) || [];
   return countingForfeit(kind, isUnplayed(pgn) ? 0 : 1, result);
 }
 
-/**
- * Whether the game with this text, of which a forfeit may be kept, is none: it has no move and no result, and no forfeit counts.
- * @type {(kind: string | undefined, pgn: string) => boolean}
- */
-export function isEmpty(kind, pgn) {
-  return isUnplayed(pgn) && !forfeitOf(kind, pgn) && (!pgn || /^\[Result "\*"\]$/m.test(pgn));
-}
+/** Whether the game with this text, of which a forfeit may be kept, is none: it has no move and no result, and no forfeit counts.
+ * @type {(kind: string | undefined, pgn: string) => boolean} */
+export const isEmpty = (kind, pgn) => isUnplayed(pgn) && !forfeitOf(kind, pgn) && (!pgn || /^\[Result "\*"\]$/m.test(pgn));
 
-/**
- * Why a game with so many plies and this result can't be the one that is forfeited; empty if it can.
- * @type {(kind: string, plies: number, result: string) => Words}
- */
+/** @type {(kind: string, plies: number, result: string) => Words} empty if it can be forfeited */
 export function whyPlayed(kind, plies, result) {
   const how = kind === BOTH ? message('forfeit.both_lose') : message('forfeit.type_the_result', { result: resultOf(kind) });
   if (plies > 0) return message('forfeit.has_moves', { how });
   return kind === BOTH && result !== NO_RESULT ? message('forfeit.has_result', { result, reopens: NO_RESULT }) : '';
 }
 
-/**
- * The tag of what is published of a forfeited game.
- * @type {(kind: string) => Tags}
- */
-export function tagsOfForfeit(kind) {
-  return kind ? { Termination: TERMINATION } : {};
-}
+/** @type {(kind: string) => Tags} the tag of what is published of a forfeited game */
+export const tagsOfForfeit = (kind) => (kind ? { Termination: TERMINATION } : {});

@@ -1,8 +1,8 @@
-// Typed names and dates, changed to what a PGN text allows: a tag's value has at most 100 characters, all printable
-// ASCII. A date is `2024.05.31`, with `?` for each unknown digit.
+// Typed names and dates, changed to what a PGN text allows: a tag's value has at most 100 characters, all printable ASCII. A date is
+// `2024.05.31`, with `?` for each unknown digit. And the names of a game's files: NAME.pgn, NAME.dgt. Pure.
 
-import { printable } from './typed.js';
 import { Complaint, message } from '../../live/show/page/message.js';
+import { printable } from './typed.js';
 
 const LONGEST_NAME = 100; // characters of a tag's value
 
@@ -27,17 +27,10 @@ const PARTS = [
   /^(?<year>[0-9?]{4})$/,
 ];
 
-/**
- * What was typed can't be changed to PGN. The message says why, and what to write; the name of the value goes before
- * it.
- */
+/** What was typed can't be changed to PGN. The message says why, and what to write; the name of the value goes before it. */
 export class Unreadable extends Complaint {}
 
-/**
- * A name in printable ASCII: `Jörg Müller` becomes `Joerg Mueller`, `José` becomes `Jose`; an ASCII name stays as it
- * is.
- * @type {(text: string) => string}
- */
+/** @type {(text: string) => string} `Jörg Müller` becomes `Joerg Mueller`, `José` becomes `Jose`; an ASCII name stays as it is */
 export function asciiName(text) {
   const letters = [...text.normalize('NFC')];
   const turned = letters.map((letter, at) => written(letter, letters[at - 1] || '', letters[at + 1] || ''));
@@ -50,10 +43,7 @@ export function asciiName(text) {
 /** @type {(letter: string) => boolean} */
 const isUpper = (letter) => /^[\p{Lu}\p{Lt}]$/u.test(letter);
 
-/**
- * What is written for one character, or null if nothing is known for it.
- * @type {(letter: string, before: string, after: string) => string | null}
- */
+/** @type {(letter: string, before: string, after: string) => string | null} null if nothing is known for it */
 function written(letter, before, after) {
   if (letter >= ' ' && letter <= '~' && letter.length === 1) return letter;
   if (letter === '\t' || /^\p{Zs}$/u.test(letter)) return ' ';
@@ -71,10 +61,7 @@ function written(letter, before, after) {
   return /^[ -~]*$/.test(spelt) ? spelt : null;
 }
 
-/**
- * A date as PGN has it. `31.05.2024`, `2024-05-31`, `2024/5/31` are `2024.05.31`; `2024` is `2024.??.??`.
- * @type {(text: string) => string}
- */
+/** @type {(text: string) => string} `31.05.2024`, `2024-05-31`, `2024/5/31` are `2024.05.31`; `2024` is `2024.??.??` */
 export function pgnDate(text) {
   for (const pattern of PARTS) {
     const match = pattern.exec(text.trim());
@@ -83,18 +70,12 @@ export function pgnDate(text) {
   throw new Unreadable(message('date.unreadable', { text: `'${printable(text)}'` }));
 }
 
-/**
- * The day of a Date, as PGN has it.
- * @type {(date: Date) => string}
- */
+/** @type {(date: Date) => string} the day of a Date, as PGN has it */
 export function dayOf(date) {
   return [date.getFullYear(), date.getMonth() + 1, date.getDate()].map((part) => String(part).padStart(2, '0')).join('.');
 }
 
-/**
- * The date with these parts, if there is such a day.
- * @type {(text: string, parts: { [part: string]: string }) => string}
- */
+/** @type {(text: string, parts: { [part: string]: string }) => string} the date with these parts, if there is such a day */
 function dateOf(text, { year, month = '?', day = '?' }) {
   const parts = [year, padded(month), padded(day)];
   // A leap year and a long month replace unknown ones.
@@ -106,10 +87,32 @@ function dateOf(text, { year, month = '?', day = '?' }) {
   return parts.join('.');
 }
 
-/**
- * A month or a day, as two characters.
- * @type {(part: string) => string}
- */
-function padded(part) {
-  return part === '?' ? '??' : part.padStart(2, '0');
+/** @type {(part: string) => string} a month or a day, as two characters */
+const padded = (part) => (part === '?' ? '??' : part.padStart(2, '0'));
+
+export const ROUND = 'round'; // its PGN has the games of all boards
+const LONGEST_FILE = 60; // characters
+const RESERVED = /^(?:con|prn|aux|nul|com[0-9]|lpt[0-9]|round)$/i; // names that Windows reserves, and ours
+
+/** @type {(typed: string) => string} what every file system takes: letters, digits, spaces, and some signs inside */
+export function fileName(typed) {
+  const letters = typed.normalize('NFKC').replace(/[^\p{L}\p{M}\p{N} ,'&()._-]/gu, '-').replace(/\s+/gu, ' ');
+  const trimmed = [...letters].slice(0, LONGEST_FILE).join('').replace(/^[ .,-]+|[ .,-]+$/g, '');
+  if (!trimmed) return 'game';
+  return RESERVED.test(trimmed.split('.')[0]) ? `${trimmed}-game` : trimmed;
 }
+
+/** @type {(typed: string, taken: string[]) => string} or with the first number after it that is free; capitals make no difference */
+export function freeName(typed, taken) {
+  const name = fileName(typed);
+  const others = new Set([...taken].map((one) => one.toLowerCase()));
+  let free = name;
+  for (let number = 2; others.has(free.toLowerCase()); number += 1) free = `${name}-${number}`;
+  return free;
+}
+
+/** @type {(name: string, number: number) => string} `game.other.times`, `game.other-2.times` */
+export const otherName = (name, number) => name.replace(/times$/, number === 1 ? 'other.times' : `other-${number}.times`);
+
+/** @type {(white: string, black: string) => string} both players' names in one: `Anna - Ben`; empty if neither is known */
+export const nameOfPlayers = (white, black) => (white || black ? `${white || 'White'} - ${black || 'Black'}` : '');

@@ -4,12 +4,8 @@
 
 import { Complaint, message } from '../../live/show/page/message.js';
 
-/** @typedef {import('./options.js').Tags} Tags */
-
-/**
- * A period of a time control as it is written: no moves are 0, and an unknown unit is empty.
- * @typedef {{ moves: number, base: number, increment: string, unit: string }} Period
- */
+/** A period of a time control as it is written: no moves are 0, and an unknown unit is empty.
+ * @typedef {{ moves: number, base: number, increment: string, unit: string }} Period */
 
 const ROSTER = ['Event', 'Site', 'Date', 'Round', 'White', 'Black', 'Result']; // the first tags, in order
 const GAME_SAYS = ['Result', 'FEN', 'SetUp', 'PlyCount', 'Termination', 'Variant'];
@@ -36,10 +32,7 @@ export class Malformed extends Complaint {}
 /** @type {(text: string) => string} */
 const quoted = (text) => `'${text}'`;
 
-/**
- * The visible text: each kind of blank as a blank, and no invisible marks.
- * @type {(text: string) => string}
- */
+/** @type {(text: string) => string} the visible text: each kind of blank as a blank, and no invisible marks */
 export function cleaned(text) {
   const letters = [...text].map((letter) => {
     if (/^\p{Zs}$/u.test(letter)) return ' ';
@@ -48,18 +41,12 @@ export function cleaned(text) {
   return letters.join('').trim();
 }
 
-/**
- * Whether each character can be printed, except those that join letters.
- * @type {(text: string) => boolean}
- */
+/** @type {(text: string) => boolean} whether each character can be printed, except those that join letters */
 export function isSeen(text) {
   return [...text].every((letter) => letter === ' ' || JOINERS.includes(letter) || !/^[\p{C}\p{Z}]$/u.test(letter));
 }
 
-/**
- * The published value of a tag; empty if there is none. Throws Malformed if the tag can't have it.
- * @type {(name: string, text: string) => string}
- */
+/** @type {(name: string, text: string) => string} as it is published; throws Malformed if the tag can't have it */
 export function valueOf(name, text) {
   const value = cleaned(text);
   if (!isSeen(value)) throw new Malformed(message('tag.unseen_character'));
@@ -94,10 +81,7 @@ function fideId(text) {
   return text;
 }
 
-/**
- * In seconds, as PGN has it; `40/90+30` is 40 moves in 90 minutes, and 30 seconds for each move.
- * @type {(text: string) => string}
- */
+/** @type {(text: string) => string} in seconds, as PGN has it; `40/90+30` is 40 moves in 90 minutes, and 30 seconds for each move */
 function timeControl(text) {
   if (TIME_CONTROL.test(text)) return text;
   const parts = text.split(/[:,]/);
@@ -120,10 +104,7 @@ function timeControl(text) {
   return known.map((period) => typed({ ...period, base: period.base * (period.unit === MINUTES ? 60 : 1), unit: '' }, '')).join(':');
 }
 
-/**
- * A period of a time control as it is written: no moves are 0, and an unknown unit is empty. Null if it is something else.
- * @type {(text: string) => Period | null}
- */
+/** @type {(text: string) => Period | null} null if it is none */
 function periodOf(text) {
   const found = PERIOD.exec(text.trim());
   if (!found) return null;
@@ -133,25 +114,16 @@ function periodOf(text) {
   return { moves: Number(moves), base: Number(base), increment: increment ? `+${Number(increment)}` : '', unit };
 }
 
-/**
- * Whether a base time without a unit is in seconds.
- * @type {(period: Period) => boolean}
- */
+/** @type {(period: Period) => boolean} whether a base time without a unit is in seconds */
 const isLong = ({ base }) => base === 0 || base >= LEAST_SECONDS;
 
-/**
- * A period as it may be typed, in this unit if its own isn't known.
- * @type {(period: Period, unit: string) => string}
- */
+/** @type {(period: Period, unit: string) => string} a period as it may be typed, in this unit if its own isn't known */
 function typed(period, unit) {
   const shown = isLong(period) && period.unit !== MINUTES ? '' : period.unit || unit;
   return `${period.moves ? `${period.moves}/` : ''}${period.base}${shown}${period.increment}`;
 }
 
-/**
- * The periods with their units. A number alone has none, nor has a small one beside large ones.
- * @type {(periods: Period[]) => Period[]}
- */
+/** @type {(periods: Period[]) => Period[]} a number alone has no unit, nor has a small one beside large ones */
 function withUnits(periods) {
   const most = periods[0].moves ? MOST_MINUTES_FOR_MOVES : MOST_MINUTES;
   const areShort = periods.every(({ unit, base }) => unit || (base > 0 && base <= most));
@@ -163,27 +135,15 @@ function withUnits(periods) {
 /** @type {[string, (text: string) => string][]} */
 const CHECKS = [['Elo', rating], ['USCF', rating], ['Title', title], ['FideId', fideId], ['TimeControl', timeControl]];
 
-/**
- * The text between the quotes of a tag pair.
- * @type {(value: string) => string}
- */
-function escaped(value) {
-  return value.replaceAll('\\', '\\\\').replaceAll('"', '\\"');
-}
+/** @type {(value: string) => string} the text between the quotes of a tag pair */
+const escaped = (value) => value.replaceAll('\\', '\\\\').replaceAll('"', '\\"');
 
-/**
- * The tags of a text that `record` made.
- * @type {(head: string) => Map<string, string>}
- */
-function pairsOf(head) {
-  return new Map([...head.matchAll(PAIR)].map(([, name, value]) => [name, value.replace(/\\(.)/g, '$1')]));
-}
+/** @type {(head: string) => Map<string, string>} the tags of a text that `record` made */
+const pairsOf = (head) => new Map([...head.matchAll(PAIR)].map(([, name, value]) => [name, value.replace(/\\(.)/g, '$1')]));
 
-/**
- * The text of a game with these tags, { name: value }, as it is published: the roster first, the others in order of
- * their names. What the game itself says, also its result, comes from the recorded text; `says` is what else is known of it.
- * @type {(recorded: string, tags: Tags, says?: Tags) => string}
- */
+/** The text of a game with these tags, { name: value }, as it is published: the roster first, the others in order of their names. What the
+ * game itself says, also its result, comes from the recorded text; `says` is what else is known of it.
+ * @type {(recorded: string, tags: Tags, says?: Tags) => string} */
 export function published(recorded, tags, says = {}) {
   if (!recorded) return '';
   const end = recorded.indexOf('\n\n');

@@ -3,40 +3,15 @@
 //
 // The game follows from NAME.dgt alone: what is lost here costs times, and never a move.
 
+import {
+  ADDED, ANSWERED, ASKED, AWAY, BACK, BEGIN, BROUGHT, CALLED, GONE, HEARD, LOOKED, OPENED, OVER, REOPENED, STOPPED, SUSPECT, TOOK,
+} from '../child/attended.js';
 import { message } from '../../live/show/page/message.js';
-
-/**
- * @typedef {import('../../live/show/page/message.js').Message} Message
- * @typedef {import('../../live/show/page/message.js').Words} Words
- */
-
-/**
- * An event: when, what, and how much, which is null for a word alone.
- * @typedef {[when: number, what: string, count: number | null]} Noted
- * @typedef {[what: string, count: number]} Counted
- */
-
-/**
- * The content of a file with a heading: how often the game has gone back; how many bytes the heading describes, and their digest;
- * where the heading ends; where the events end; and how many bytes of the capture they account for.
- * @typedef {object} Found
- * @property {undefined} [version]
- * @property {number} generation
- * @property {number} size
- * @property {bigint} digest
- * @property {number} begins
- * @property {number} ends
- * @property {number} covered
- */
 
 /** @typedef {{ version: number, size?: undefined }} Newer a file of another version of the format */
 
 export const HEADED = 4096; // bytes of a capture that a new heading has the digest of, at most
 const DIGESTED = 64; // the same in a part of one
-export const [BEGIN, AWAY, OPENED, ANSWERED, GONE, CALLED] = ['begin', 'away', 'opened', 'answered', 'gone', 'called'];
-export const [HEARD, BROUGHT, ADDED] = ['heard', 'brought', 'added']; // the capture got so many bytes
-export const [STOPPED, ASKED, TOOK, OVER] = ['stopped', 'asked', 'took', 'over'];
-export const [LOOKED, BACK, REOPENED, SUSPECT] = ['ok', 'back', 'reopened', 'suspect'];
 
 const VERSION = 1;
 const OF_BYTES = [HEARD, BROUGHT, ADDED];
@@ -54,34 +29,19 @@ const HEADING = new RegExp(`^${VERSION} times ${NUMBER}\n${NUMBER} digest ${NUMB
 /** @type {(number: string | number) => boolean} */
 const isTooLarge = (number) => BigInt(number) >= TOO_LARGE;
 
-/**
- * FNV-1a with 64 bits.
- * @type {(content: Uint8Array) => bigint}
- */
+/** @type {(content: Uint8Array) => bigint} FNV-1a with 64 bits */
 export function digest(content) {
   return content.reduce((state, byte) => BigInt.asUintN(64, (state ^ BigInt(byte)) * FNV_TIMES), FNV_START);
 }
 
-/**
- * The heading of a file, given how often the game has gone back, and the first bytes of its capture.
- * @type {(generation: number, first: Uint8Array) => string}
- */
-export function heading(generation, first) {
-  return `${VERSION} times ${generation}\n${first.length} digest ${digest(first)}\n`;
-}
+/** @type {(generation: number, first: Uint8Array) => string} of a capture with these first bytes */
+export const heading = (generation, first) => `${VERSION} times ${generation}\n${first.length} digest ${digest(first)}\n`;
 
-/**
- * The line of an event: [when, what, how much], where the last is null for a word alone.
- * @type {(event: [when: number | string, what: string, count: number | null]) => string}
- */
-function line([at, what, count]) {
-  return count === null ? `${at} ${what}\n` : `${at} ${what} ${count}\n`;
-}
+/** The line of an event: [when, what, how much], where the last is null for a word alone.
+ * @type {(event: [when: number | string, what: string, count: number | null]) => string} */
+const line = ([at, what, count]) => (count === null ? `${at} ${what}\n` : `${at} ${what} ${count}\n`);
 
-/**
- * The lines of some events: those of a call that began then, and of calls that begin among them.
- * @type {(events: Noted[], began?: number) => string}
- */
+/** @type {(events: Noted[], began?: number) => string} of a call that began then, and of calls that begin among them */
 export function lines(events, began = 0) {
   let from = began;
   return events.map(([when, what, count]) => {
@@ -90,10 +50,8 @@ export function lines(events, began = 0) {
   }).join('');
 }
 
-/**
- * The events from an offset on, up to what is none: where each begins and ends, its time, its word and its number.
- * @type {(text: string, start: number) => Generator<{ begins: number, ends: number, at: string, what: string, count: number }>}
- */
+/** The events from an offset on, up to what is none: where each begins and ends, its time, its word and its number.
+ * @type {(text: string, start: number) => Generator<{ begins: number, ends: number, at: string, what: string, count: number }>} */
 function* eventsOf(text, start) {
   const event = new RegExp(EVENT, 'y');
   event.lastIndex = start;
@@ -105,21 +63,16 @@ function* eventsOf(text, start) {
   }
 }
 
-/**
- * How many bytes are accounted for, after an event.
- * @type {(before: number, event: { what: string, count: number }) => number}
- */
+/** @type {(before: number, event: { what: string, count: number }) => number} how many bytes are accounted for, after an event */
 function covers(before, { what, count }) {
   if (what === BEGIN) return count;
   return OF_BYTES.includes(what) ? before + count : before;
 }
 
-/**
- * The content of a file with a heading: how often the game has gone back; how many bytes the heading describes, and their digest;
- * where the heading ends; where the events end; and how many bytes of the capture they account for. Of a file of another version
- * of the format, { version } alone. Null if nothing can be read.
- * @type {(text: string) => Found | Newer | null}
- */
+/** The content of a file with a heading: how often the game has gone back; how many bytes the heading describes, and their digest; where the
+ * heading ends; where the events end; and how many bytes of the capture they account for. Of a file of another version of the format, {
+ * version } alone. Null if nothing can be read.
+ * @type {(text: string) => Found | Newer | null} */
 export function kept(text) {
   const [headed, ...numbers] = HEADING.exec(text) || [];
   if (!headed || numbers.some(isTooLarge)) {
@@ -135,22 +88,16 @@ export function kept(text) {
   return found;
 }
 
-/**
- * Whether what was found in a file belongs to this capture.
- * @param {Found | Newer | null} found
- * @param {Uint8Array} capture
- * @returns {found is Found}
- */
+/** Whether what was found in a file belongs to this capture.
+ * @param {Found | Newer | null} found @param {Uint8Array} capture @returns {found is Found} */
 export function isOf(found, capture) {
   if (!found || found.version !== undefined || capture.length === 0 || found.size > capture.length) return false;
   return digest(capture.subarray(0, found.size)) === found.digest;
 }
 
-/**
- * A file of which only those events stay that account for the capture's first so many bytes, which begin with `first`; and no
- * end, since the game goes on, or has another one. If somebody has looked at its alarms later, that stays too.
- * @type {(text: string, found: Found, size: number, first: Uint8Array) => string}
- */
+/** A file of which only those events stay that account for the capture's first so many bytes, which begin with `first`; and no end, since
+ * the game goes on, or has another one. If somebody has looked at its alarms later, that stays too.
+ * @type {(text: string, found: Found, size: number, first: Uint8Array) => string} */
 export function cut(text, found, size, first) {
   const parts = [found.size <= size ? text.slice(0, found.begins) : heading(found.generation, first)];
   let covered = found.size;
@@ -169,15 +116,12 @@ export function cut(text, found, size, first) {
   return parts.join('');
 }
 
-/**
- * A capture with its times in parts of so many bytes or up to twice as many; the text is empty if there are no times.
- * Told one after the other they tell what they tell whole. Bytes that came before a call are told before it, without a time.
- * @type {(text: string, capture: Uint8Array, most: number) => { text: string, bytes: Uint8Array }[]}
- */
+/** A capture with its times in parts of so many bytes or up to twice as many; the text is empty if there are no times. Told one after the
+ * other they tell what they tell whole. Bytes that came before a call are told before it, without a time.
+ * @type {(text: string, capture: Uint8Array, most: number) => { text: string, bytes: Uint8Array }[]} */
 export function inParts(text, capture, most) {
   if (capture.length <= most) return [{ text, bytes: capture }];
-  /** @type {{ text: string, bytes: Uint8Array }[]} */
-  const parts = [];
+  const parts = /** @type {{ text: string, bytes: Uint8Array }[]} */ ([]);
   const found = /** @type {Found} */ (kept(text));
   let [from, to, covered, events] = [0, 0, 0, ''];
   const end = () => {
@@ -205,21 +149,17 @@ export function inParts(text, capture, most) {
   return parts;
 }
 
-/**
- * A call that adds so many bytes after a game's end, with which the game ends: what happens in it, and how much. Bytes behind
- * them have no times any more.
- * @type {(size: number, added: number, total: number) => Counted[]}
- */
+/** A call that adds so many bytes after a game's end, with which the game ends: what happens in it, and how much. Bytes behind them have no
+ * times any more.
+ * @type {(size: number, added: number, total: number) => Counted[]} */
 export function adding(size, added, total) {
   const isLast = size + added === total;
   const end = size + added;
   return isLast ? [[BEGIN, size], [ADDED, added], [OVER, end]] : [[BEGIN, total], [OVER, end]];
 }
 
-/**
- * The file of a game that nobody records now, after so many bytes of whose capture these were added.
- * @type {(text: string, size: number, added: number, capture: Uint8Array) => string}
- */
+/** The file of a game that nobody records now, after so many bytes of whose capture these were added.
+ * @type {(text: string, size: number, added: number, capture: Uint8Array) => string} */
 export function withAdded(text, size, added, capture) {
   const found = kept(text);
   if (!isOf(found, capture.subarray(0, size))) return text;
@@ -228,31 +168,24 @@ export function withAdded(text, size, added, capture) {
   return cut(text, found, size, capture.subarray(0, Math.min(HEADED, size))) + lines(events);
 }
 
-/**
- * Whether a file found instead of this one is an earlier one of the same times: replacing it loses nothing. That the game was over
- * doesn't count.
- * @type {(found: string, now: string) => boolean}
- */
+/** Whether a file found instead of this one is an earlier one of the same times: replacing it loses nothing. That the game was over doesn't
+ * count.
+ * @type {(found: string, now: string) => boolean} */
 export function isEarlier(found, now) {
   /** @type {(text: string) => string} */
   const withoutEnds = (text) => text.replace(/^[0-9]+ over [0-9]+\n/gm, '');
   return withoutEnds(now).startsWith(withoutEnds(found));
 }
 
-/**
- * The words that say how the line is, after one more of them.
- * @type {(words: string[], what: string) => string[]}
- */
+/** @type {(words: string[], what: string) => string[]} the words that say how the line is, after one more of them */
 export function lineAfter(words, what) {
   if (what === OPENED || what === GONE) return [what];
   if (what === ANSWERED) return [OPENED, ANSWERED];
   return what === CALLED ? [] : words;
 }
 
-/**
- * What is said of a file of this size, whose capture has so many bytes.
- * @type {(found: Found, name: string, size: number, capture: string, have: number) => Message[]}
- */
+/** What is said of a file of this size, whose capture has so many bytes.
+ * @type {(found: Found, name: string, size: number, capture: string, have: number) => Message[]} */
 export function toldOf(found, name, size, capture, have) {
   const told = [];
   const more = found.covered - have;
@@ -262,28 +195,15 @@ export function toldOf(found, name, size, capture, have) {
   return told;
 }
 
-/**
- * What is said of a file that isn't the capture's: it is kept under this other name.
- * @type {(found: Found | Newer | null, name: string, other: string) => Message}
- */
+/** @type {(found: Found | Newer | null, name: string, other: string) => Message} it is kept under this other name */
 export function toldOfOther(found, name, other) {
   const isNewer = found && found.version !== undefined;
   const why = isNewer ? message('times.of_newer') : found ? message('times.of_another') : message('times.unreadable');
   return message('times.set_aside', { path: name, why, kept: other, nothing: NOTHING });
 }
 
-/**
- * What is said if there is no file beside so many bytes.
- * @type {(name: string, have: number) => Message}
- */
-export function toldOfMissing(name, have) {
-  return message('times.missing', { path: name, count: have, nothing: NOTHING });
-}
+/** @type {(name: string, have: number) => Message} what is said if there is no file beside so many bytes */
+export const toldOfMissing = (name, have) => message('times.missing', { path: name, count: have, nothing: NOTHING });
 
-/**
- * What is said if it can't be read or written.
- * @type {(name: string, why: Words) => Message}
- */
-export function toldOfTrouble(name, why) {
-  return message('times.unkept', { path: name, why, nothing: NOTHING });
-}
+/** @type {(name: string, why: Words) => Message} what is said if it can't be read or written */
+export const toldOfTrouble = (name, why) => message('times.unkept', { path: name, why, nothing: NOTHING });

@@ -1,61 +1,66 @@
-// The devices that somebody chooses in the browser's list. A game whose board has another device now, or whose device
-// the browser has forgotten, is known again by the board's serial number; if the board gives none, somebody is asked.
-// So no board gets a second card.
+// The devices that somebody chooses in the browser's list, and what they need on each system. A game whose board has another device now, or
+// whose device the browser has forgotten, is known again by the board's serial number; if the board gives none, somebody is asked. So no
+// board gets a second card.
 
-import { missingDevice, systemOf, whichDevice } from '../device/systems.js';
 import { Complaint, linked, message } from '../../live/show/page/message.js';
+import { Exchanges } from './exchanged.js';
+import { Ports } from './ports.js';
 
-/**
- * @typedef {import('../../live/show/page/message.js').Words} Words
- * @typedef {import('./hall.js').Hall} Hall
- * @typedef {import('./ports.js').Heard} Heard
- * @typedef {import('./seat.js').Recorded} Recorded
- * @typedef {import('./seat.js').Seat} Seat
- */
+/** The system of this browser: 'Windows', 'macOS', 'Linux' or 'ChromeOS'; empty if it is another one.
+ * @type {(browser: { userAgentData?: { platform: string }, platform?: string, userAgent?: string }) => string} */
+export function systemOf({ userAgentData, platform = '', userAgent = '' }) {
+  const name = `${userAgentData ? userAgentData.platform : platform} ${userAgent}`;
+  if (/CrOS|Chrom\w* ?OS/.test(name)) return 'ChromeOS';
+  if (/^Win/.test(name)) return 'Windows';
+  if (/^mac/i.test(name)) return 'macOS';
+  return /^Linux/.test(name) ? 'Linux' : '';
+}
 
-/**
- * @typedef {Omit<Heard, 'connection'> & { connection: Heard['connection'] | null }} Answered what a board has told, or that none answers
- * @typedef {[label: Words, done: () => Promise<unknown>]} Choice
- */
+/** @type {{ [system: string]: Message }} */
+const WHICH = {
+  Windows: message('port.which_on_windows'),
+  macOS: message('port.which_on_macos'),
+  Linux: message('port.which_on_linux'),
+  ChromeOS: message('port.which_on_chromeos'),
+};
+
+/** @type {{ [system: string]: Message }} */
+const MISSING = {
+  Windows: message('port.missing_on_windows'),
+  macOS: message('port.missing_on_macos'),
+  Linux: message('port.missing_on_linux'),
+  ChromeOS: message('port.missing_on_chromeos'),
+};
+
+/** @type {(system: string) => Words} which device is the board */
+export const whichDevice = (system) => linked('space', [WHICH[system] || WHICH.Windows, message('port.see_which_has_gone')]);
+
+/** @type {(system: string) => Words} what to do if the board isn't in the list */
+export const missingDevice = (system) => MISSING[system] || MISSING.Windows;
+
+/** @type {(system: string) => Words} what to do if the device can't be opened */
+export function lockedDevice(system) {
+  const onLinux = system === 'Linux' ? [message('port.locked_on_linux')] : [];
+  return linked('space', [message('port.locked'), ...onLinux, message('port.tried_again')]);
+}
+
+/** @typedef {Omit<Heard, 'connection'> & { connection: Heard['connection'] | null }} Answered what a board has told, or that none answers
+ * @typedef {[label: Words, done: () => Promise<unknown>]} Choice */
 
 /** @type {Answered} */
 const NO_ANSWER = { connection: null, came: [], number: '', isSilent: true };
 
-/**
- * Whose board is on a device: { seat }, or { asks } with the seats of which somebody must say whether it is one of them;
- * neither for a board that isn't there yet. `number` is what the board has sent, if anything. Each seat has its `serial`;
- * `isAway`, whether it doesn't hear its board; and `hadPort`, whether this was its device. Pure.
- * @template {{ serial: string, isAway: boolean, hadPort: boolean }} Asked
- * @param {Asked[]} seats
- * @param {{ number: string, isSilent: boolean }} heard
- * @returns {{ seat: Asked | null, asks: Asked[] }}
- */
-export function whoseBoard(seats, { number, isSilent }) {
-  const own = number ? seats.find(({ serial }) => serial === number) : null;
-  if (own) return { seat: own, asks: [] };
-  const away = seats.filter(({ isAway, serial }) => isAway && (!serial || !number));
-  const before = away.find(({ hadPort }) => hadPort);
-  if (before) return { seat: before, asks: [] };
-  return { seat: null, asks: isSilent ? [] : away };
-}
-
-/**
- * That something can't be done, and why.
- * @type {(error: Error) => Words}
- */
+/** @type {(error: Error) => Words} that something can't be done, and why */
 const toldOf = (error) => linked('colon', [message('failed.that'), error.message || String(error)]);
 
 export class Devices {
   /** @param {Hall} hall */
   constructor(hall) {
     this.hall = hall;
+    this.ports = new Ports(hall);
+    this.exchanges = new Exchanges(hall);
     this.asking = 0; // boards that are being asked who they are
-    /** @type {Promise<unknown>} */
-    this.last = Promise.resolve(); // boards are added one after the other
-  }
-
-  get isAsking() {
-    return this.asking > 0;
+    this.last = /** @type {Promise<unknown>} */ (Promise.resolve()); // boards are added one after the other
   }
 
   /** Somebody adds a board: the game that has it goes on, or a new card is made. */
@@ -67,15 +72,12 @@ export class Devices {
     else await this.hear(port, (heard) => this.inTurn(() => this.place(port, heard)));
   }
 
-  /**
-   * The device that somebody chooses in the browser's list; null if it is closed without a choice.
-   * @type {() => Promise<SerialPort | null>}
-   */
+  /** @type {() => Promise<SerialPort | null>} chosen in the browser's list; null if it is closed without a choice */
   async chosen() {
     try {
       const port = await navigator.serial.requestPort();
       this.hall.notice('device', '');
-      this.hall.ports.chosen.add(port);
+      this.ports.chosen.add(port);
       return port;
     } catch (error) {
       if (error.name !== 'NotFoundError') throw error;
@@ -85,28 +87,19 @@ export class Devices {
     }
   }
 
-  /**
-   * The board that is recorded from a port.
-   * @type {(port: SerialPort) => Recorded | undefined}
-   */
+  /** @type {(port: SerialPort) => Recorded | undefined} the board that is recorded from a port */
   holder(port) {
     return this.hall.recorded().find((seat) => seat.port === port && !seat.isAway);
   }
 
-  /**
-   * Does this after what was begun before it.
-   * @type {(work: () => unknown) => Promise<unknown>}
-   */
+  /** @type {(work: () => unknown) => Promise<unknown>} does this after what was begun before it */
   inTurn(work) {
     const done = this.last.then(work);
     this.last = done.catch(() => {});
     return done;
   }
 
-  /**
-   * Gives a board to the game that has it, or to a new one.
-   * @type {(port: SerialPort, heard: Answered) => Promise<void>}
-   */
+  /** @type {(port: SerialPort, heard: Answered) => Promise<void>} gives a board to the game that has it, or to a new one */
   async place(port, heard) {
     const { seat, asks } = this.whose(port, heard);
     if (seat && seat.isAway) await this.goOn(seat, port, heard);
@@ -115,10 +108,7 @@ export class Devices {
     else await this.addNew(port, heard);
   }
 
-  /**
-   * Somebody chooses the device of a board again. If another game's board is on it, that game goes on.
-   * @type {(seat: Seat) => Promise<void>}
-   */
+  /** @type {(seat: Seat) => Promise<void>} chooses its device again; if another game's board is on it, that game goes on */
   async choose(seat) {
     const port = await this.chosen();
     if (port) await this.recordFrom(port, seat);
@@ -131,10 +121,7 @@ export class Devices {
     await this.hear(port, (heard) => this.giveTo(seat, port, heard));
   }
 
-  /**
-   * Gives a board to this game, or to the one that has its number.
-   * @type {(seat: Seat, port: SerialPort, heard: Answered) => Promise<void>}
-   */
+  /** @type {(seat: Seat, port: SerialPort, heard: Answered) => Promise<void>} or to the game that has its number */
   async giveTo(seat, port, heard) {
     const owner = heard.number && heard.number !== seat.serial ? this.hall.seatOf(heard.number, seat) : null;
     if (owner && !owner.isAway) {
@@ -151,13 +138,13 @@ export class Devices {
     await this.record(seat, port, heard);
   }
 
-  /**
-   * A board's number has come. If it has a game already, and no move was made here, that game goes on. Returns whether it does.
-   * @type {(seat: Seat, number: string) => boolean}
-   */
+  /** @type {(seat: Seat, number: string) => void} if it has a game already, and no move was made here, that game goes on */
   numbered(seat, number) {
     const other = this.hall.seatOf(number, seat);
-    if (!other || !other.isAway || seat.hasMoves) return false;
+    if (!other || !other.isAway || seat.hasMoves) {
+      this.exchanges.numbered(seat);
+      return;
+    }
     const port = /** @type {SerialPort} */ (seat.port);
     const left = seat.recording.cable.leave();
     seat.port = null;
@@ -167,13 +154,9 @@ export class Devices {
     this.record(other, port, left).catch(fails);
     this.hall.remove(seat).catch(fails);
     if (isShown) this.show(other);
-    return true;
   }
 
-  /**
-   * A board has come by itself that isn't known to be an awaited one.
-   * @type {(port: SerialPort, heard: Heard) => void}
-   */
+  /** @type {(port: SerialPort, heard: Heard) => void} a board has come by itself that isn't known to be an awaited one */
   came(port, heard) {
     const { seat, asks } = this.whose(port, heard);
     if (seat || asks.length === 0) return;
@@ -183,25 +166,21 @@ export class Devices {
 
   // What is asked.
 
-  /** @type {(port: SerialPort, heard: Answered) => { seat: Recorded | null, asks: Recorded[] }} */
-  whose(port, heard) {
-    const seats = this.hall.recorded().map((seat) => {
-      const { serial, isAway } = seat;
-      return { seat, serial, isAway, hadPort: seat.port === port };
-    });
-    const { seat, asks } = whoseBoard(seats, heard);
-    return { seat: seat ? seat.seat : null, asks: asks.map((one) => one.seat) };
+  /** Whose board is on a device: a seat's, or perhaps one of those of which somebody must say so; else it isn't there yet.
+   * @type {(port: SerialPort, heard: Answered) => { seat: Recorded | null, asks: Recorded[] }} */
+  whose(port, { number, isSilent }) {
+    const seats = this.hall.recorded();
+    const away = seats.filter(({ isAway, serial }) => isAway && !(serial && number));
+    const seat = seats.find(({ serial }) => serial && serial === number) || away.find((one) => one.port === port) || null;
+    return { seat, asks: seat || isSilent ? [] : away };
   }
 
-  /**
-   * Asks the board on a port who it is, and calls `use` with that.
-   * @type {(port: SerialPort, use: (heard: Answered) => unknown) => Promise<void>}
-   */
+  /** @type {(port: SerialPort, use: (heard: Answered) => unknown) => Promise<void>} asks the board on it who it is */
   async hear(port, use) {
     this.asking += 1;
     this.hall.changed();
     try {
-      await this.hall.ports.withBoard(port, (heard) => use(heard || NO_ANSWER));
+      await this.ports.withBoard(port, (heard) => use(heard || NO_ANSWER));
     } finally {
       this.asking -= 1;
       this.hall.changed();
@@ -213,10 +192,7 @@ export class Devices {
     if (connection) await connection.close();
   }
 
-  /**
-   * Boards are awaited, and the number of this one doesn't say whether it is one of them.
-   * @type {(port: SerialPort, heard: Answered) => Promise<void>}
-   */
+  /** @type {(port: SerialPort, heard: Answered) => Promise<void>} the number doesn't say whether it is an awaited one */
   async askWhich(port, heard) {
     await this.close(heard);
     const { asks } = this.whose(port, heard);
@@ -229,10 +205,7 @@ export class Devices {
     ]);
   }
 
-  /**
-   * A board of this number is recorded from another device, and answers there.
-   * @type {(seat: Seat, port: SerialPort, heard: Answered) => Promise<void>}
-   */
+  /** @type {(seat: Seat, port: SerialPort, heard: Answered) => Promise<void>} its number is recorded from another device */
   async askWhetherSame(seat, port, heard) {
     await this.close(heard);
     this.ask(message('ask.same_number', { board: seat.id, number: heard.number }), [
@@ -241,10 +214,7 @@ export class Devices {
     ]);
   }
 
-  /**
-   * A question. Each answer ends it.
-   * @type {(text: Words, answers: Choice[]) => void}
-   */
+  /** @type {(text: Words, answers: Choice[]) => void} a question, which each answer ends */
   ask(text, answers) {
     /** @type {(done: () => Promise<unknown>) => () => void} */
     const answered = (done) => () => {
@@ -256,16 +226,13 @@ export class Devices {
 
   // What is done.
 
-  /**
-   * A seat is recorded from this device from now on.
-   * @type {(seat: Seat, port: SerialPort, heard: Pick<Answered, 'connection' | 'came'>) => Promise<void>}
-   */
+  /** @type {(seat: Seat, port: SerialPort, heard: Pick<Answered, 'connection' | 'came'>) => Promise<void>} */
   async record(seat, port, { connection, came }) {
     if (connection) seat.take(port, connection, came);
     else await seat.plug(port);
     this.hall.notice('which', '');
     this.hall.says(message('port.goes_on'), seat.id);
-    if (seat.recorder) seat.recorder.knows({ info: port.getInfo() });
+    if (seat.session) seat.session.record.knows({ info: port.getInfo() });
   }
 
   /** @type {(port: SerialPort) => Promise<void>} */

@@ -1,19 +1,9 @@
 // The folder that also keeps the games: chosen once, and asked for again when the page is opened anew.
 
+import { ROUND, freeName } from '../game/names.js';
+import { Front } from '../kept/capture.js';
 import { Folder } from '../kept/folder.js';
-import { ROUND, freeName } from '../kept/file_names.js';
 import { linked, message } from '../../live/show/page/message.js';
-
-/**
- * @typedef {import('../board/recorder.js').Finished} Finished
- * @typedef {import('../kept/database.js').Before} Before
- * @typedef {import('../loop.js').Timer} Timer
- * @typedef {import('../../live/show/page/message.js').Words} Words
- * @typedef {import('./hall.js').Hall} Hall
- * @typedef {import('./seat.js').Recorded} Recorded
- * @typedef {import('./seat.js').Seat} Seat
- * @typedef {import('./shown.js').Shown} Shown
- */
 
 const MODE = { mode: 'readwrite' };
 const AWAITED = 1.0; // seconds that a file waits until its text is kept in the browser
@@ -23,17 +13,12 @@ export class Folders {
   /** @param {Hall} hall */
   constructor(hall) {
     this.hall = hall;
-    /** @type {Folder | null} */
-    this.folder = null;
-    /** @type {FileSystemDirectoryHandle | null} */
-    this.kept = null; // the earlier folder, if the browser wants to ask about it
-    /** @type {Words} */
-    this.failed = ''; // what can't be written in it
+    this.folder = /** @type {Folder | null} */ (null);
+    this.kept = /** @type {FileSystemDirectoryHandle | null} */ (null); // the earlier folder, if the browser wants to ask about it
+    this.failed = /** @type {Words} */ (''); // what can't be written in it
     this.isPersistent = false;
-    /** @type {Timer | null} */
-    this.timer = null;
-    /** @type {Promise<unknown>} */
-    this.lastRound = Promise.resolve(); // ends when the last text of all games is waiting to be written
+    this.timer = /** @type {Timer | null} */ (null);
+    this.lastRound = /** @type {Promise<unknown>} */ (Promise.resolve()); // ends when the last text of all games is waiting to be written
     /** @type {Promise<unknown>} */
     this.lastBefore = Promise.resolve(); // ends when the last capture as it was before is waiting to be written
   }
@@ -58,14 +43,9 @@ export class Folders {
     else this.asks(message('filed.not_let', { folder: kept.name }));
   }
 
-  /**
-   * A notice with the button that lets somebody choose a folder.
-   * @type {(text: Words, name?: string, isAlarm?: boolean) => void}
-   */
+  /** @type {(text: Words, name?: string, isAlarm?: boolean) => void} a notice with the button that lets somebody choose a folder */
   asks(text, name = 'folder', isAlarm = false) {
-    /** @type {(error: Error) => void} */
-    const fails = (error) => this.asks(message('filed.unusable', { why: error.message || error.name }));
-    const choose = () => this.choose().catch(fails);
+    const choose = () => this.choose().catch((error) => this.asks(message('filed.unusable', { why: error.message || error.name })));
     this.hall.notice(name, text, text ? [[message('label.choose_folder'), choose]] : [], isAlarm);
   }
 
@@ -100,7 +80,7 @@ export class Folders {
       trouble: (text) => this.trouble(folder, text),
       says: (text) => this.hall.says(text),
     });
-    folder.before.set(`${ROUND}.pgn`, [before || []].flat());
+    folder.before.set(`${ROUND}.pgn`, before || []);
     for (const { filed, texts } of this.hall.recorded().flatMap((seat) => [seat.game, ...seat.finished])) {
       if (filed && filed.folder === folder.name) folder.before.set(`${filed.name}.pgn`, texts || []);
     }
@@ -113,31 +93,26 @@ export class Folders {
     this.hall.notice('folder', '');
     this.hall.notice('persist', '');
     this.hall.says(message('filed.at_each_move', { folder: handle.name }));
-    for (const seat of this.hall.seats.values()) {
+    for (const seat of this.hall.seated()) {
       seat.finished.forEach((game) => this.finishes(game));
       this.placed(seat);
     }
     this.hall.changed();
   }
 
-  /**
-   * The folder's capture of a game has more than the browser had kept of it, if its disk was full: the game gets that.
-   * @type {(seat: Recorded, folder: Folder) => Promise<void>}
-   */
-  async takeUp({ recorder }, folder) {
-    const { filed } = recorder.game;
+  /** The folder's capture of a game has more than the browser had kept of it, if its disk was full: the game gets that.
+   * @type {(seat: Recorded, folder: Folder) => Promise<void>} */
+  async takeUp({ session }, folder) {
+    const { filed } = session.record.game;
     if (!filed || filed.folder !== folder.name) return;
     const size = await folder.sizeOf(`${filed.name}.dgt`).catch(() => 0);
-    if (size <= recorder.opened) return;
+    if (size <= session.playing.opened) return;
     const bytes = await folder.bytesOf(`${filed.name}.dgt`).catch(() => null);
     const times = await folder.textOf(`${filed.name}.times`).catch(() => null);
-    if (bytes) await recorder.takeUp(bytes, times || '', `${filed.name}.dgt`);
+    if (bytes) await session.takeUp(bytes, times || '', `${filed.name}.dgt`);
   }
 
-  /**
-   * Something can't be written in a folder, or all is written again. One that was left alarms nobody.
-   * @type {(folder: Folder | null, text: Words) => void}
-   */
+  /** @type {(folder: Folder | null, text: Words) => void} empty if all is written again; a folder that was left alarms nobody */
   trouble(folder, text) {
     if (folder !== this.folder) return;
     this.failed = text;
@@ -146,44 +121,28 @@ export class Folders {
     this.hall.changed();
   }
 
-  /**
-   * What the page does, with where the files are.
-   * @type {(words: Words) => Words}
-   */
+  /** @type {(words: Words) => Words} what the page does, with where the files are */
   standing(words) {
     if (this.failed) return linked('semicolon', [words, message('standing.not_written')]);
     const where = this.folder ? message('standing.in_folder', { folder: this.folder.name }) : message('standing.in_browser');
     return linked('comma', [words, where]);
   }
 
-  get isAlarm() {
-    return Boolean(this.failed);
-  }
-
-  /**
-   * The text of a board's game has changed.
-   * @type {(seat: Seat | Shown) => void}
-   */
+  /** @type {(seat: Seat) => void} the text of a board's game has changed */
   placed(seat) {
-    if (seat.isCapture || !seat.isWritten || !this.folder || !seat.pgn) return;
+    if (!seat.isWritten || !this.folder || !seat.pgn) return;
     seat.wantsFiles = true;
     if (!seat.isFiling) this.orTrouble(this.file(/** @type {Recorded} */ (seat)));
     this.round();
   }
 
-  /**
-   * What goes wrong before a file can wait for the folder is the folder's trouble too.
-   * @type {(filing: Promise<unknown>) => Promise<unknown>}
-   */
+  /** @type {(filing: Promise<unknown>) => Promise<unknown>} what goes wrong before a file can wait is the folder's trouble too */
   orTrouble(filing) {
     const { folder } = this;
     return filing.catch((error) => this.trouble(folder, error.message || error.name));
   }
 
-  /**
-   * Writes a game, and again if its text has changed meanwhile, or another folder was chosen.
-   * @type {(seat: Recorded) => Promise<void>}
-   */
+  /** @type {(seat: Recorded) => Promise<void>} writes a game, and again if its text has changed meanwhile, or another folder was chosen */
   async file(seat) {
     seat.isFiling = true;
     try {
@@ -192,11 +151,11 @@ export class Folders {
         const folder = /** @type {Folder} */ (this.folder);
         const earlier = await this.nameFiles(seat, folder);
         await this.lastBefore;
-        const [name, text, times] = [`${seat.name}.pgn`, seat.pgn, seat.times()];
-        folder.put(`${seat.name}.dgt`, seat.front());
-        await this.soonKept(seat.recorder.keepTexts([...folder.textsOf(name), text]));
+        const [name, text, times] = [`${seat.name}.pgn`, seat.pgn, seat.session.times.all];
+        folder.put(`${seat.name}.dgt`, new Front(seat.session.capture));
+        await this.soonKept(seat.session.record.keepTexts([...folder.textsOf(name), text]));
         folder.put(name, text);
-        await seat.recorder.times.write(); // so that the folder never has lines that the browser lacks
+        await seat.session.times.write(); // so that the folder never has lines that the browser lacks
         this.putTimes(folder, name, times);
         if (earlier) folder.rename(earlier, seat.name);
       }
@@ -205,24 +164,18 @@ export class Folders {
     }
   }
 
-  /**
-   * Files that aren't its own are left alone: the game gets another name. Returns the name that its files have had, if it is another.
-   * @type {(seat: Recorded, folder: Folder) => Promise<string>}
-   */
+  /** Files that aren't its own are left alone: the game gets another name. Returns the name that its files have had, if it is another.
+   * @type {(seat: Recorded, folder: Folder) => Promise<string>} */
   async nameFiles(seat, folder) {
-    const { recorder } = seat;
-    const { filed } = recorder.game;
+    const { filed } = seat.game;
     const earlier = filed && filed.folder === folder.name ? filed.name : '';
     if (earlier === seat.name) return '';
     const name = await this.free(seat.name, folder);
-    await recorder.edit({ name, filed: { folder: folder.name, name } });
+    await seat.edit({ name, filed: { folder: folder.name, name } });
     return earlier;
   }
 
-  /**
-   * Writes the times of a capture beside the file of this name, if there are any.
-   * @type {(folder: Folder, name: string, times: string) => void}
-   */
+  /** @type {(folder: Folder, name: string, times: string) => void} beside the file of this name, if there are any */
   putTimes(folder, name, times) {
     if (times) folder.put(name.replace(/(?:pgn|dgt)$/, 'times'), times);
   }
@@ -232,10 +185,7 @@ export class Folders {
     this.orTrouble(this.finished(game));
   }
 
-  /**
-   * Writes a game that is over and no longer recorded.
-   * @type {(game: Finished) => Promise<void>}
-   */
+  /** @type {(game: Finished) => Promise<void>} writes a game that is over and no longer recorded */
   async finished(game) {
     const { folder } = this;
     if (!folder || !game.pgn) return;
@@ -251,10 +201,8 @@ export class Folders {
     this.putTimes(folder, `${game.name}.pgn`, game.times);
   }
 
-  /**
-   * The name, or another one if the folder has files of this name: they aren't this game's, and are left alone.
-   * @type {(wanted: string, folder: Folder) => Promise<string>}
-   */
+  /** The name, or another one if the folder has files of this name: they aren't this game's, and are left alone.
+   * @type {(wanted: string, folder: Folder) => Promise<string>} */
   async free(wanted, folder) {
     let name = wanted;
     const taken = this.hall.names().filter((other) => other !== wanted);
@@ -266,14 +214,11 @@ export class Folders {
     return name;
   }
 
-  /**
-   * Keeps a capture as it was before plies were taken off, with its times, before the new one is written.
-   * @type {(given: Before) => Promise<void>}
-   */
-  before(given) {
+  /** @type {(given: Before) => void} keeps a capture as it was before plies were taken off, before the new one is written */
+  keepsBefore(given) {
     const keeping = this.keepBefore(given);
     this.lastBefore = Promise.allSettled([this.lastBefore, keeping]);
-    return keeping;
+    this.orTrouble(keeping);
   }
 
   /** @type {(given: Before) => Promise<void>} */
@@ -295,10 +240,7 @@ export class Folders {
     });
   }
 
-  /**
-   * Writes the text of all games. First it is kept: so the page knows it again, whenever its tab is killed.
-   * @type {(folder: Folder) => Promise<void>}
-   */
+  /** @type {(folder: Folder) => Promise<void>} first it is kept: so the page knows it again, whenever its tab is killed */
   async putRound(folder) {
     const name = `${ROUND}.pgn`;
     const text = this.hall.round();
@@ -306,10 +248,7 @@ export class Folders {
     folder.put(name, text);
   }
 
-  /**
-   * Waits until this is kept, but not for long: the folder is written whatever the browser can keep.
-   * @type {(keeping: Promise<unknown>) => Promise<unknown>}
-   */
+  /** @type {(keeping: Promise<unknown>) => Promise<unknown>} but not for long: the folder is written whatever the browser can keep */
   soonKept(keeping) {
     return Promise.race([keeping.catch(() => {}), new Promise((done) => this.hall.loop.after(AWAITED, () => done(null)))]);
   }

@@ -1,25 +1,64 @@
-// What a board sent: in memory, and in the database before any of it is reported. If it can't be kept, it waits in
-// memory, is reported all the same, and is tried again each second; the state says so. If the database was lost
-// meanwhile, all that it lacks is put into it again.
+// What a board sent: in memory, and in the database before any of it is reported. If it can't be kept, it waits in memory, is reported all
+// the same, and is tried again each second; the state says so. If the database was lost meanwhile, all that it lacks is put into it again.
+// The program reads no more than LARGEST.
 
-import { DISK_FULL, NOT_WRITTEN } from '../board/state.js';
-import { LARGEST } from './limit.js';
+import { DUMP_ID, DUMP_SIZE, joined, same } from '../line/protocol.js';
+import { message } from '../../live/show/page/message.js';
 
-/**
- * @typedef {import('../../live/show/page/message.js').Words} Words
- * @typedef {import('./database.js').Chunk} Chunk
- * @typedef {import('./database.js').Database} Database
- */
+export const LARGEST = 64 * 1024 * 1024; // bytes that the program reads at most
+const BEHIND = 1024 * 1024; // bytes for what comes behind a game, and for what `recover` puts into it
+export const MOST = LARGEST - BEHIND; // bytes that a game may have
+const LOOKED_BACK = 65536; // bytes that are searched for the last dump
+
+/** @type {(size: number, end: number) => boolean} whether half of the room behind a game with so many bytes is taken */
+export const isLong = (size, end) => 2 * (size - end) > LARGEST - end;
+
+/** Where the last dump begins in the last bytes of a capture; where these begin, if no dump is there.
+ * @type {(bytes: Uint8Array, end: number) => number} */
+function lastDump(bytes, end) {
+  const from = Math.max(end, bytes.length - LOOKED_BACK);
+  for (let at = bytes.length - 3; at >= from; at -= 1) {
+    if (bytes[at] === DUMP_ID && bytes[at + 1] === 0 && bytes[at + 2] === DUMP_SIZE) return at;
+  }
+  return from;
+}
+
+/** Which bytes of a capture go if it gets long, [from, to]: those behind the game, up to the last dump.
+ * @type {(bytes: Uint8Array, end: number) => [from: number, to: number]} */
+export const needless = (bytes, end) => [end, lastDump(bytes, end)];
+
+const LONG = 1 << 20; // bytes; a longer capture is one chunk, since a database takes long for many
+
+/** @type {(content: Uint8Array, now: number) => Chunk[]} chunks as the database keeps them */
+export function spread(content, now) {
+  if (content.length > LONG) return [{ number: 0, at: now, bytes: content.slice() }];
+  const starts = [0];
+  for (let at = 1; at + 2 < content.length; at += 1) {
+    if (content[at] === DUMP_ID && content[at + 1] === 0 && content[at + 2] === DUMP_SIZE) starts.push(at);
+  }
+  return starts.map((start, number) => {
+    const bytes = content.slice(start, number + 1 < starts.length ? starts[number + 1] : content.length);
+    return { number, at: now - (starts.length - 1 - number), bytes };
+  });
+}
+
+/** A capture whose beginning of this size has more after it in `longer`: all of that, and then the rest of the capture. Null if the other
+ * one begins otherwise, or has no more.
+ * @type {(capture: Uint8Array, size: number, longer: Uint8Array) => Uint8Array | null} */
+export function withMore(capture, size, longer) {
+  /** @type {(whole: Uint8Array, part: Uint8Array) => boolean} */
+  const begins = (whole, part) => whole.length >= part.length && same(whole.subarray(0, part.length), part);
+  if (longer.length <= size || !begins(longer, capture.subarray(0, size)) || begins(capture, longer)) return null;
+  return joined(longer, capture.subarray(size));
+}
+
+export const DISK_FULL = message('state.disk_full'); // the disk has no room
+const NOT_WRITTEN = message('state.not_written'); // it can't be written for another reason
 
 /** @typedef {{ kept: (count: number) => void, changed: () => void }} Hears */
 
-/**
- * What keeps something from being written, as the state names it.
- * @type {(error: Error) => Words}
- */
-export function troubleOf(error) {
-  return error && error.name === 'QuotaExceededError' ? DISK_FULL : NOT_WRITTEN;
-}
+/** @type {(error: Error) => Words} what keeps something from being written, as the state names it */
+export const troubleOf = (error) => (error && error.name === 'QuotaExceededError' ? DISK_FULL : NOT_WRITTEN);
 
 const NOBODY = { kept: () => {}, changed: () => {} }; // hears before it is said who does
 
@@ -34,31 +73,21 @@ export class Front {
     this.length = capture.size;
   }
 
-  /**
-   * Its bytes from one offset to another, to be read.
-   * @type {(from: number, to: number) => Uint8Array}
-   */
+  /** @type {(from: number, to: number) => Uint8Array} its bytes from one offset to another, to be read */
   subarray(from, to) {
     return this.capture.view(Math.min(to, this.length)).subarray(from);
   }
 
-  /**
-   * Whether it begins with this.
-   * @param {unknown} before
-   * @returns {before is Front}
-   */
+  /** Whether it begins with this.
+   * @param {unknown} before @returns {before is Front} */
   goesOn(before) {
     return before instanceof Front && before.capture === this.capture && before.length <= this.length;
   }
 }
 
 export class Capture {
-  /**
-   * It begins with these chunks, which are kept.
-   * @param {Database} database
-   * @param {number} game
-   * @param {Chunk[]} [chunks]
-   */
+  /** It begins with these chunks, which are kept.
+   * @param {Database} database @param {number} game @param {Chunk[]} [chunks] */
   constructor(database, game, chunks = []) {
     this.database = database;
     this.game = game;
@@ -66,46 +95,33 @@ export class Capture {
     this.hears = NOBODY;
     this.content = new Uint8Array(0); // with room behind it
     this.size = 0;
-    this.number = 0; // of the next chunk
-    /** @type {[offset: number, at: number][]} */
-    this.marks = []; // [offset, at]: from this byte on all came then
+    this.marks = /** @type {[offset: number, at: number][]} */ ([]); // where each chunk begins, and when it came
     chunks.forEach((chunk) => this.take(chunk));
     this.epoch = database.epoch; // of the database in which all is kept but what waits
-    /** @type {Chunk[]} */
-    this.waiting = []; // chunks that aren't kept yet
+    this.waiting = /** @type {Chunk[]} */ ([]); // chunks that aren't kept yet
     this.told = 0; // how many of them were reported all the same
-    /** @type {Promise<void> | null} */
-    this.writing = null;
-    /** @type {Words} */
-    this.trouble = ''; // why nothing can be kept
+    this.writing = /** @type {Promise<void> | null} */ (null);
+    this.trouble = /** @type {Words} */ (''); // why nothing can be kept
     this.why = '';
   }
 
-  /**
-   * What the database has of a game.
-   * @type {(database: Database, game: number) => Promise<Capture>}
-   */
+  /** @type {(database: Database, game: number) => Promise<Capture>} what the database has of a game */
   static async read(database, game) {
     const capture = new Capture(database, game);
     for await (const chunks of database.chunks(game)) chunks.forEach((chunk) => capture.take(chunk));
     return capture;
   }
 
-  /**
-   * `kept(count)` gets how many bytes more are kept, from now on; `changed()` is called when nothing can be kept any more, or
-   * again. All that has come by now is known.
-   * @type {(hears: Hears) => void}
-   */
+  /** `kept(count)` gets how many bytes more are kept, from now on; `changed()` is called when nothing can be kept any more, or again. All
+   * that has come by now is known.
+   * @type {(hears: Hears) => void} */
   hearBy(hears) {
     this.hears = hears;
     this.told = this.waiting.length;
   }
 
-  /**
-   * It goes on with this chunk.
-   * @type {(chunk: Chunk) => void}
-   */
-  take({ number, at, bytes }) {
+  /** @type {(chunk: Chunk) => void} it goes on with this chunk */
+  take({ at, bytes }) {
     const size = this.size + bytes.length;
     if (size > this.content.length) {
       const larger = new Uint8Array(Math.max(size, Math.min(2 * this.content.length, LARGEST), 4096));
@@ -115,31 +131,21 @@ export class Capture {
     this.content.set(bytes, this.size);
     this.marks.push([this.size, at]);
     this.size = size;
-    this.number = number + 1;
   }
 
-  /**
-   * All that came, or this many bytes.
-   * @type {(end?: number) => Uint8Array}
-   */
+  /** @type {(end?: number) => Uint8Array} all that came, or this many bytes */
   bytes(end = this.size) {
     return this.view(end).slice();
   }
 
-  /**
-   * The same, to be read, and neither changed nor handed on: it is no copy.
-   * @type {(end?: number) => Uint8Array}
-   */
+  /** @type {(end?: number) => Uint8Array} the same, to be read, and neither changed nor handed on: it is no copy */
   view(end = this.size) {
     return this.content.subarray(0, Math.min(end, this.size));
   }
 
-  /**
-   * The board has sent this, or somebody has added it.
-   * @type {(bytes: Uint8Array, at: number) => void}
-   */
+  /** @type {(bytes: Uint8Array, at: number) => void} the board has sent this, or somebody has added it */
   append(bytes, at) {
-    const chunk = { number: this.number, at, bytes };
+    const chunk = { number: this.marks.length, at, bytes };
     this.take(chunk);
     this.waiting.push(chunk);
     this.write();
@@ -191,7 +197,7 @@ export class Capture {
   async lookAgain() {
     const count = await this.database.count(this.game);
     const { epoch } = this.database;
-    const kept = this.number - this.waiting.length;
+    const kept = this.marks.length - this.waiting.length;
     if (count < kept) {
       this.waiting = this.chunks();
       this.told += kept;
@@ -199,10 +205,7 @@ export class Capture {
     this.epoch = epoch;
   }
 
-  /**
-   * All that came, as the database keeps it.
-   * @type {() => Chunk[]}
-   */
+  /** @type {() => Chunk[]} all that came, as the database keeps it */
   chunks() {
     const { marks } = this;
     return marks.map(([offset, at], number) => {
@@ -211,10 +214,7 @@ export class Capture {
     });
   }
 
-  /**
-   * It can't be kept: it stays in memory, and is reported.
-   * @type {(error: Error) => void}
-   */
+  /** @type {(error: Error) => void} it can't be kept: it stays in memory, and is reported */
   fails(error) {
     const news = this.waiting.slice(this.told);
     this.told = this.waiting.length;

@@ -1,69 +1,13 @@
-// What the page keeps, in IndexedDB: boards, games, what the boards sent, captures as they were before `back`,
-// settings; and among these the times of captures, so that an older page can open the database too.
+// What the page keeps, in IndexedDB: boards, games, what the boards sent, captures as they were before `back`, and settings; among these the
+// times of captures.
 //
 // Each transaction but those of times alone is strict: it ends only after its data was handed to the disk. One whose requests are all
 // known is committed at once: else the browser waits until this page has heard of each of them, and draws before that.
 
 import { Complaint, message } from '../../live/show/page/message.js';
 
-/**
- * @typedef {import('../game/looks.js').Look} Look
- * @typedef {import('../game/options.js').Options} Options
- * @typedef {import('../game/options.js').Tags} Tags
- */
-
-/**
- * What is kept of a board: `game` is the one that is on, and `next` what the next one has, if it waits until the pieces are set up.
- * @typedef {{ id: number, serial: string, info: SerialPortInfo, game: number, next?: Given | null }} Board
- * @typedef {{ options?: Options, name?: string }} Given
- */
-
-/**
- * What is kept of a game. Its `end` is how many bytes of its capture are its own, null if it goes on.
- * @typedef {object} Game
- * @property {number} id
- * @property {number} board
- * @property {string} name
- * @property {Options} options
- * @property {number | null} end
- * @property {Look[]} looks alarms that nobody has acknowledged
- * @property {number} [goneBack] how often it has gone back
- * @property {number} [typedTo] where the last bytes end that somebody has typed
- * @property {number} [overTo] where it ended before plies were taken off it, if it stays over
- * @property {number} [played] moves that were made since it is over
- * @property {string} [forfeit] how it was forfeited
- * @property {string[]} [texts] those that its file may have soon
- * @property {{ folder: string, name: string }} [filed] where its files are
- * @property {boolean} [hasBefore] whether a capture of it is kept as it was before
- * @property {boolean} [isAgain] whether somebody has said that its names are right, though an earlier game has them
- */
-
-/**
- * @typedef {{ number: number, at: number, bytes: Uint8Array }} Chunk a part of a capture
- * @typedef {{ number: number, at: number, text: string }} Row lines of a game's times
- * @typedef {{ game: number, name: string, at: number, bytes: Uint8Array, times: string }} Before a capture before it was made anew
- */
-
-/**
- * What must be in the database when it is opened again.
- * @typedef {object} Remembered
- * @property {Board[]} boards
- * @property {Game[]} games
- * @property {(Chunk & { game: number })[]} captures
- * @property {(Row & { game: number })[]} times
- * @property {{ name: keyof Settings, value: unknown }[]} settings
- */
-
-/**
- * The settings: the folder that somebody has chosen, the texts that its `round.pgn` may have, and the tags of new games. An earlier version has
- * kept one such text.
- * @typedef {{ folder: FileSystemDirectoryHandle, round: string | string[], given: Tags }} Settings
- */
-
-/**
- * @typedef {(transaction: IDBTransaction) => IDBRequest | void} Make
- * @typedef {{ game: number, chunks: Chunk[], done: (nothing?: unknown) => void, failed: (error: Error) => void }} Part
- */
+/** @typedef {(transaction: IDBTransaction) => IDBRequest | void} Make
+ * @typedef {{ game: number, chunks: Chunk[], done: (nothing?: unknown) => void, failed: (error: Error) => void }} Part */
 
 const NAME = 'dgt_recorder';
 const VERSION = 1;
@@ -73,10 +17,7 @@ const RELAXED = 'relaxed'; // behind what was strict before it, at once or soon
 const MOST_READ = 512; // chunks that are read at a time
 const MOST_APPENDING = 3; // transactions with chunks at a time: the browser goes on with the next one without this page
 
-/**
- * The answer to a request.
- * @type {<Answer>(request: IDBRequest<Answer>) => Promise<Answer>}
- */
+/** @type {<Answer>(request: IDBRequest<Answer>) => Promise<Answer>} the answer to a request */
 function answerOf(request) {
   return new Promise((done, failed) => {
     request.onsuccess = () => done(request.result);
@@ -84,10 +25,8 @@ function answerOf(request) {
   });
 }
 
-/**
- * Makes changes in one transaction. When this ends, all of them are on the disk, if it is strict; if it fails, none.
- * @type {(database: IDBDatabase, stores: string[], make: Make, durability?: IDBTransactionDurability) => Promise<unknown>}
- */
+/** Makes changes in one transaction. When this ends, all of them are on the disk, if it is strict; if it fails, none.
+ * @type {(database: IDBDatabase, stores: string[], make: Make, durability?: IDBTransactionDurability) => Promise<unknown>} */
 function changed(database, stores, make, durability = STRICT) {
   return new Promise((done, failed) => {
     const transaction = database.transaction(stores, 'readwrite', { durability });
@@ -99,10 +38,7 @@ function changed(database, stores, make, durability = STRICT) {
   });
 }
 
-/**
- * Makes changes that need no answer.
- * @type {(make: Make) => Make}
- */
+/** @type {(make: Make) => Make} makes changes that need no answer */
 function whole(make) {
   return (transaction) => {
     const made = make(transaction);
@@ -117,10 +53,7 @@ const [TIMES, OTHER_TIMES] = ['times', 'other times']; // of a game's capture; a
 /** @type {(what: string, game: number) => IDBKeyRange} */
 const settingsOf = (what, game) => IDBKeyRange.bound([what, game, 0], [what, game, LAST]);
 
-/**
- * Puts lines of a game's times: instead of all, if that is said.
- * @type {(transaction: IDBTransaction, game: number, row: Row, isAll: boolean) => void}
- */
+/** @type {(transaction: IDBTransaction, game: number, row: Row, isAll: boolean) => void} instead of all, if that is said */
 function putTimes(transaction, game, { number, at, text }, isAll) {
   const store = transaction.objectStore('settings');
   if (isAll) store.delete(settingsOf(TIMES, game));
@@ -129,13 +62,10 @@ function putTimes(transaction, game, { number, at, text }, isAll) {
 
 export class Database {
   constructor() {
-    /** @type {IDBDatabase | null} */
-    this.database = null; // the open connection
-    /** @type {Promise<IDBDatabase> | null} */
-    this.opening = null;
+    this.database = /** @type {IDBDatabase | null} */ (null); // the open connection
+    this.opening = /** @type {Promise<IDBDatabase> | null} */ (null);
     this.epoch = 0; // how often it was opened
-    /** @type {Part[]} */
-    this.gathered = []; // chunks that the next transaction keeps
+    this.gathered = /** @type {Part[]} */ ([]); // chunks that the next transaction keeps
     this.appending = 0; // transactions with chunks that are under way
     // What must be in it when it is opened again.
     /** @type {() => Remembered} */
@@ -148,11 +78,9 @@ export class Database {
     return opened;
   }
 
-  /**
-   * The open connection. The browser closes it when its disk is full or its data is cleared, and another tab may delete
-   * all: then it is opened again.
-   * @type {() => Promise<IDBDatabase>}
-   */
+  /** The open connection. The browser closes it when its disk is full or its data is cleared, and another tab may delete all: then it is
+   * opened again.
+   * @type {() => Promise<IDBDatabase>} */
   async connection() {
     if (this.database) return this.database;
     if (!this.opening) {
@@ -183,10 +111,7 @@ export class Database {
     return database;
   }
 
-  /**
-   * This connection can't be used any more.
-   * @type {(database: IDBDatabase) => void}
-   */
+  /** @type {(database: IDBDatabase) => void} this connection can't be used any more */
   lose(database) {
     database.close();
     if (this.database === database) this.database = null;
@@ -196,10 +121,8 @@ export class Database {
     return this.database !== null;
   }
 
-  /**
-   * Puts what the page remembers into a database that was just opened again; captures that are whole only if they are gone.
-   * @type {(database: IDBDatabase) => Promise<void>}
-   */
+  /** Puts what the page remembers into a database that was just opened again; captures that are whole only if they are gone.
+   * @type {(database: IDBDatabase) => Promise<void>} */
   async keepAnew(database) {
     const { boards, games, captures, times, settings } = this.remembers();
     try {
@@ -221,10 +144,8 @@ export class Database {
     }
   }
 
-  /**
-   * Makes changes. When this ends, all of them are on the disk; if it fails, none.
-   * @type {(stores: string[], make: Make, durability?: IDBTransactionDurability) => Promise<unknown>}
-   */
+  /** Makes changes. When this ends, all of them are on the disk; if it fails, none.
+   * @type {(stores: string[], make: Make, durability?: IDBTransactionDurability) => Promise<unknown>} */
   async change(stores, make, durability = STRICT) {
     const database = await this.connection();
     return this.watched(database, () => changed(database, stores, make, durability));
@@ -236,10 +157,8 @@ export class Database {
     return this.watched(database, () => answerOf(query(database.transaction(store, 'readonly').objectStore(store))));
   }
 
-  /**
-   * Does this with the connection, and drops that if the browser has closed it.
-   * @type {<Answer>(database: IDBDatabase, use: () => Promise<Answer>) => Promise<Answer>}
-   */
+  /** Does this with the connection, and drops that if the browser has closed it.
+   * @type {<Answer>(database: IDBDatabase, use: () => Promise<Answer>) => Promise<Answer>} */
   async watched(database, use) {
     try {
       return await use();
@@ -269,18 +188,13 @@ export class Database {
     return this.change(['boards'], whole((transaction) => transaction.objectStore('boards').put(board)));
   }
 
-  /**
-   * Keeps a game, and returns its key.
-   * @type {(game: Game) => Promise<unknown>}
-   */
+  /** @type {(game: Game) => Promise<unknown>} keeps a game, and returns its key */
   putGame(game) {
     return this.change(['games'], whole((transaction) => transaction.objectStore('games').put(game)));
   }
 
-  /**
-   * Begins a game of a board, with the first chunks of its capture, after the game before it, if any. Returns its key.
-   * @type {(board: Board, game: Omit<Game, 'id'>, chunks: Chunk[], before?: Game | null) => Promise<number>}
-   */
+  /** Begins a game of a board, with the first chunks of its capture, after the game before it, if any. Returns its key.
+   * @type {(board: Board, game: Omit<Game, 'id'>, chunks: Chunk[], before?: Game | null) => Promise<number>} */
   async beginGame(board, game, chunks, before = null) {
     let key = 0;
     await this.change(['boards', 'games', 'chunks'], (transaction) => {
@@ -295,10 +209,7 @@ export class Database {
     return key;
   }
 
-  /**
-   * Removes a board and its games, with what was taken off them.
-   * @type {(id: number, games: number[]) => Promise<unknown>}
-   */
+  /** @type {(id: number, games: number[]) => Promise<unknown>} removes a board and its games, with what was taken off them */
   removeBoard(id, games) {
     return this.change(['boards', 'games', 'chunks', 'before', 'settings'], (transaction) => {
       transaction.objectStore('boards').delete(id);
@@ -317,10 +228,7 @@ export class Database {
     });
   }
 
-  /**
-   * What was kept of a game, in order, so many at a time.
-   * @type {(game: number) => AsyncGenerator<Chunk[]>}
-   */
+  /** @type {(game: number) => AsyncGenerator<Chunk[]>} what was kept of a game, in order, so many at a time */
   async *chunks(game) {
     for (let from = 0, count = MOST_READ; count === MOST_READ; ) {
       const range = IDBKeyRange.bound([game, from], [game, LAST]);
@@ -331,18 +239,13 @@ export class Database {
     }
   }
 
-  /**
-   * How many chunks of a game it has.
-   * @type {(game: number) => Promise<number>}
-   */
+  /** @type {(game: number) => Promise<number>} how many chunks of a game it has */
   count(game) {
     return this.read('chunks', (store) => store.count(chunksOf(game)));
   }
 
-  /**
-   * Keeps chunks of a game's capture, in one transaction with those of other games that come while others are under way.
-   * @type {(game: number, chunks: Chunk[]) => Promise<unknown>}
-   */
+  /** Keeps chunks of a game's capture, in one transaction with those of other games that come while others are under way.
+   * @type {(game: number, chunks: Chunk[]) => Promise<unknown>} */
   append(game, chunks) {
     return new Promise((done, failed) => {
       this.gathered.push({ game, chunks, done, failed });
@@ -357,10 +260,7 @@ export class Database {
     this.appending -= 1;
   }
 
-  /**
-   * If they can't be kept together, each game's are tried alone: one that can't be kept holds up no other.
-   * @type {(parts: Part[]) => Promise<void>}
-   */
+  /** @type {(parts: Part[]) => Promise<void>} if they can't be kept together, each game's are tried alone */
   async appendThese(parts) {
     const put = whole((transaction) => {
       const store = transaction.objectStore('chunks');
@@ -375,10 +275,8 @@ export class Database {
     }
   }
 
-  /**
-   * The capture of a game is this from now on, and its times are these; `before` is kept too, if given.
-   * @type {(game: Game, chunks: Chunk[], times: Row, before: Before | null) => Promise<unknown>}
-   */
+  /** The capture of a game is this from now on, and its times are these; `before` is kept too, if given.
+   * @type {(game: Game, chunks: Chunk[], times: Row, before: Before | null) => Promise<unknown>} */
   renew(game, chunks, times, before) {
     return this.change(['games', 'chunks', 'before', 'settings'], whole((transaction) => {
       if (before) transaction.objectStore('before').put(before);
@@ -389,19 +287,14 @@ export class Database {
     }));
   }
 
-  /**
-   * The lines of a game's times, in order.
-   * @type {(game: number) => Promise<Row[]>}
-   */
+  /** @type {(game: number) => Promise<Row[]>} the lines of a game's times, in order */
   async times(game) {
     const rows = await this.read('settings', (store) => store.getAll(settingsOf(TIMES, game)));
     return rows.map(({ name, value }) => ({ number: name[2], at: value.at, text: value.text }));
   }
 
-  /**
-   * Keeps lines of a game's times behind the others; or instead of them, if they are all; and what isn't of its capture beside.
-   * @type {(game: number, lines: Row, isAll: boolean, other: string) => Promise<unknown>}
-   */
+  /** Keeps lines of a game's times behind the others; or instead of them, if they are all; and what isn't of its capture beside.
+   * @type {(game: number, lines: Row, isAll: boolean, other: string) => Promise<unknown>} */
   appendTimes(game, lines, isAll, other) {
     const make = whole((transaction) => {
       putTimes(transaction, game, lines, isAll);
@@ -410,39 +303,29 @@ export class Database {
     return this.change(['settings'], make, RELAXED);
   }
 
-  /**
-   * What was found instead of a game's times, the oldest first.
-   * @type {(game: number) => Promise<string[]>}
-   */
+  /** @type {(game: number) => Promise<string[]>} what was found instead of a game's times, the oldest first */
   async otherTimes(game) {
     const rows = await this.read('settings', (store) => store.getAll(settingsOf(OTHER_TIMES, game)));
     return rows.map(({ value }) => value);
   }
 
-  /**
-   * All captures as they were before they were made anew.
-   * @type {() => Promise<Before[]>}
-   */
+  /** @type {() => Promise<Before[]>} all captures as they were before they were made anew */
   before() {
     return this.read('before', (store) => store.getAll());
   }
 
-  /**
-   * A setting; null if it isn't there.
+  /** A setting; null if it isn't there.
    * @template {keyof Settings} Name
    * @param {Name} name
-   * @returns {Promise<Settings[Name] | null>}
-   */
+   * @returns {Promise<Settings[Name] | null>} */
   async setting(name) {
     const found = await this.read('settings', (store) => store.get(name));
     return found === undefined ? null : found.value;
   }
 
-  /**
-   * @template {keyof Settings} Name
+  /** @template {keyof Settings} Name
    * @param {Name} name
-   * @param {Settings[Name]} value
-   */
+   * @param {Settings[Name]} value */
   set(name, value) {
     return this.change(['settings'], whole((transaction) => transaction.objectStore('settings').put({ name, value })));
   }
