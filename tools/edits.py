@@ -1,11 +1,11 @@
 #!/usr/bin/env python3
-"""Writes the tables of docs/EDITS.md from the first lines of the edits in crates/*/wrong-bodies/ and crates/*/wrong-definitions/.
+"""Writes the tables of docs/EDITS.md from the first lines of the edits in crates/*/wrong-bodies/, wrong-definitions/ and wrong-products/.
 
     tools/edits.py             writes the tables anew
     tools/edits.py --check     says what is to be done where the page isn't what the edits say
 
 An edit begins with a line '# says: ' and what its wrong body does, and may have a line '# refused by: ' and the clause behind
-it. A wrong definition must have that line, and its last word is the function that is refused.
+it. A wrong definition or product must have that line, and its last word is the function that is refused.
 """
 import dataclasses
 import pathlib
@@ -17,7 +17,7 @@ TOP = pathlib.Path(__file__).resolve().parent.parent
 PAGE = TOP / "docs" / "EDITS.md"
 SAYS = "# says: "
 REFUSED_BY = "# refused by: "
-FOLDERS = "wrong-bodies", "wrong-definitions"
+FOLDERS = "wrong-bodies", "wrong-definitions", "wrong-products"
 HEAD = ["| Edit | In | What the wrong body does | Refused by |", "|---|---|---|---|"]
 
 

@@ -20,6 +20,7 @@ from compared.calls import TOP, Answer, Call, answer, by_chance, captures, of_fi
 AARCH64, WASM = "aarch64-linux", "wasm"
 FILES = {AARCH64: "dgt_replay", WASM: "dgt_replay.wasm"}
 NATIVE = TOP / "bin" / "dgt_replay"
+BY_RATTLE = TOP / "crates" / "dgt_main" / "out" / "dgt_main.by-rattle"  # what `rt ci` builds with Rattle's own compiler
 LIBRARY = pathlib.Path("/usr/aarch64-linux-gnu")  # where Debian's cross packages put glibc for aarch64
 SEED = 20261126
 BY_CHANCE = 2500  # calls, for which Chromium takes ten seconds
@@ -153,6 +154,15 @@ def same(calls: Sequence[Call], got: Sequence[Answer]) -> None:
             raise Wrong(f"{told}:\n  got {there}\n  wanted {here}")
     statuses = sorted({str(it.status) for it in got})
     print(f"  {len(got)} calls, statuses {' '.join(statuses)}")
+
+
+def compilers_agree() -> None:
+    """The program that Rattle's own compiler makes answers as the one that LLVM makes: samples, captures worked by hand, calls by chance."""
+    if not shutil.which("rt"):
+        raise Skipped(NO_TOOLCHAIN)
+    if not BY_RATTLE.exists():
+        raise Wrong(f"{BY_RATTLE.relative_to(TOP)} isn't there: see what rt ci said")
+    same(calls_by_chance(), each([str(BY_RATTLE)], calls_by_chance()))
 
 
 def aarch64_answers_as_x86_64() -> None:

@@ -1,3 +1,4 @@
+mod GapLaws
 pub mod MaskLemmas
 mod OnceLemmas
 mod PlyLemmas

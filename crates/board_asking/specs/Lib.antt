@@ -7,3 +7,4 @@ pub mod Whose
 pub mod Serial
 pub mod Asking
 pub mod Laws
+pub mod Silences

@@ -1,5 +1,6 @@
 //! What holds of each history of a board's line.
 ghost use Rattle.board_asking.specs.Laws.{HeldUntilNumbered, HistoryAsksNothing, OldDumpsAreAsked, OneIsUnanswered, OthersAreNotKept, OwnSendsKnownNumber, RequestsAreApart};
+ghost use Rattle.board_asking.specs.Silences.{SilentAfterSevenSeconds};
 
 /// Two requests over one opening of the line are 0.2 s apart.
 pub fn requests_are_apart()
@@ -35,4 +36,9 @@ pub fn others_are_not_kept()
 /// said.
 pub fn own_sends_known_number()
     ensures { OwnSendsKnownNumber }
+{}
+
+/// A board that sends no dump over an open line is silent seven seconds later, if the recorder is woken in time.
+pub fn silent_after_seven_seconds()
+    ensures { SilentAfterSevenSeconds }
 {}

@@ -2,6 +2,7 @@ pub mod Once
 mod Fives
 mod Shown
 mod Kept
+mod Lost
 mod Owned
 mod Numberless
 mod Closed

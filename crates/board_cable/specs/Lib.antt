@@ -4,3 +4,4 @@ pub mod Turns
 pub mod Keeping
 pub mod Cable
 pub mod Laws
+pub mod Lost

@@ -13,7 +13,7 @@ use Rattle.board_doubts.specs.declared.heard.Seen.{Seen}
 use Rattle.board_doubts.specs.declared.heard.Why.{Why}
 use Rattle.board_doubts.specs.declared.heard.Why.TheVariants.{Late, Elsewhere, BothElsewhere, AfterGap, MovedOn, OtherTime, Returned, TakenBack, Unpressed}
 use Rattle.board_doubts.specs.Doubts.{at_once, doubt_by, doubted, hides, is_odd, is_on, may_be_played, is_unhurried, late, may_be_moved, takes_back, was_passed, why_agrees, why_corrects, why_moves, why_played, why_shows}
-use Rattle.board_doubts.specs.Laws.{IsDoubtedFor, OnlyBackIsTakenBack, OnOwnTime, OwnTimePasses, NobodyPresses, PairBackIsDoubted, PressedPlyPasses, PressesEach, QuickPlyPasses, SilentReplacementIsDoubted, SixthPlyIsDoubted, StaysUnpressed, has_press, has_press_by, is_own, is_ply, leaves_running, one_by, plies_after, waits_on}
+use Rattle.board_doubts.specs.Laws.{IsDoubtedFor, OnlyBackIsTakenBack, OnOwnTime, OwnTimePasses, NobodyPresses, PairBackIsDoubted, PressedPlyPasses, PressesEach, QuickPlyPasses, SilentReplacementIsDoubted, SixthPlyIsDoubted, StaysUnpressed, are_alike, has_press, has_press_by, is_own, is_ply, leaves_running, one_by, plies_after, waits_on}
 use Rattle.board_doubts.specs.Pace.{last_within, pace_of, quickest, took_longer}
 use Rattle.board_doubts.specs.Pictures.{has_stood, own, stands}
 use Rattle.board_doubts.specs.Plies.{both_back, both_further, ends_pair, is_back, played, played_by}
@@ -581,9 +581,15 @@ not_is : (b : Bool) → not b ≡ true → b ≡ false
 not_is true h = sym h
 not_is false h = refl
 
+not_other : (one other : Bool) → are_alike one other ≡ true → is_other one other ≡ false
+not_other true true h = refl
+not_other true false h = absurd (true≢false (sym h))
+not_other false true h = absurd (true≢false (sym h))
+not_other false false h = refl
+
 own_by : (what : Heard) (added : Bool) (counts : Option Bool) (before : List Bool) → is_own what counts ≡ true → AllOwn before → AllOwn (lent_by what added counts before)
 own_by (Plays ply) true (Some black) before own all = all
-own_by (Plays ply) false (Some black) before own all = (not_is (is_other black ply.black) own, all)
+own_by (Plays ply) false (Some black) before own all = (not_other black ply.black own, all)
 own_by (Plays ply) added None before own all = all
 own_by _ added counts before own all = all
 

@@ -12,16 +12,16 @@ use Rattle.board_doubts.specs.declared.heard.Seen.{Seen}
 use Rattle.board_doubts.specs.declared.heard.Why.{Why}
 use Rattle.board_doubts.specs.declared.heard.Why.TheVariants.{MovedOn, OtherTime, Returned, TakenBack, Unpressed}
 use Rattle.board_doubts.specs.declared.stopped_clock.Tried.{Tried}
-use Rattle.board_doubts.specs.Clock.{has_run, seen_late, stands_since, tried, tries_of}
-use Rattle.board_doubts.specs.Doubts.{doubt_by, doubt_of, is_on, late}
+use Rattle.board_doubts.specs.Clock.{has_run, stands_since, tried, tries_of}
+use Rattle.board_doubts.specs.Doubts.{doubt_by, doubt_of, is_on}
 use Rattle.board_doubts.specs.Elsewhere.{Sees, differs, elsewhere}
-use Rattle.board_doubts.specs.Pace.{fits_ply, last_within, quickest}
+use Rattle.board_doubts.specs.Pace.{fits_ply, last_within}
 use Rattle.board_doubts.specs.Pictures.{Laid, Squares, by_both, by_one, has_stood, others, own, stands}
 use Rattle.board_doubts.specs.Plies.{both_back, both_further, ends_pair, is_back, played}
 use Rattle.board_doubts.specs.Presses.{is_early, is_used, pressed_at, presses, quiet, runs, unpressed}
 use Rattle.board_doubts.specs.Silent.{is_pair}
 use Rattle.board_doubts.specs.Recent.{gap, has_gap, is_restart, pictures, since_news, touched}
-use Rattle.board_doubts.specs.Thinking.{counting, is_other, known_counting, told_late}
+use Rattle.board_doubts.specs.Thinking.{counting, known_counting}
 use Rattle.board_doubts.specs.Unheard.{is_unheard}
 use Rattle.board_doubts.specs.Unplayed.{odd, unplayed_of}
 use Rattle.board_doubts.specs.Waiting.{has_moved, ply_times, waited}
@@ -54,21 +54,21 @@ HandsOffPasses = (repeats : Bool) (now : ℕ) (past : List Event)
 -- While the board is heard, and nobody moves pieces of the side to move, no correction is doubted that isn't late.
 abbrev pub QuickCorrectionPasses : Type 0
 QuickCorrectionPasses = (repeats : Bool) (now : ℕ) (past : List Event)
-    → has_gap (since_news past) ≡ false → NoneShows own (pictures (since_news past)) → waited now past ≤ late
+    → has_gap (since_news past) ≡ false → NoneShows own (pictures (since_news past)) → waited now past ≤ 10000
     → doubt_by (Corrects repeats) now past ≡ None
 
 -- If the time in which the board wasn't heard is shorter than any ply, and no piece stood elsewhere since the last news, no move is
 -- doubted; nor is an agreement, if no piece of the side that moved last was in a hand after that time.
 abbrev pub ShortGapPasses : Type 0
 ShortGapPasses = (repeats : Bool) (now lasted : ℕ) (past : List Event)
-    → gap (since_news past) ≡ Some lasted → lasted < quickest → by_one (pictures (since_news past)) ≡ false
+    → gap (since_news past) ≡ Some lasted → lasted < 1000 → by_one (pictures (since_news past)) ≡ false
     → (doubt_by (Moves repeats) now past ≡ None) × (touched (since_news past) ≡ false → doubt_by Agrees now past ≡ None)
 
 -- A correction that isn't doubted, in a game that is on, isn't late; since the last news the board was heard all the time,
 -- and no piece of the side to move stood elsewhere.
 abbrev pub UndoubtedCorrection : Type 0
 UndoubtedCorrection = (repeats : Bool) (now : ℕ) (past : List Event) → is_on past ≡ true → doubt_by (Corrects repeats) now past ≡ None
-    → (has_gap (since_news past) ≡ false) × (has_stood own stands (pictures (since_news past)) ≡ false) × (waited now past ≤ late)
+    → (has_gap (since_news past) ≡ false) × (has_stood own stands (pictures (since_news past)) ≡ false) × (waited now past ≤ 10000)
 
 -- If a move isn't doubted in a game that is on and has a move, at most one side may have moved since the last news; and if the board
 -- wasn't heard for a time while the recorder was there, players as quick as these had no time for a ply in it, and the row didn't say
@@ -104,7 +104,7 @@ RunningClockPasses = (event said : Event) (past later : List Event) → said.wha
 -- long as a move may be seen late, or there were others.
 abbrev pub OnlyWhileStopped : Type 0
 OnlyWhileStopped = (event : Event) (past : List Event) (tried : Tried) → tries_of event past ≡ Some tried
-    → (has_run past ≡ true) × ((since : ℕ) × (stands_since past ≡ Some since) × ((since + seen_late ≤ event.at) ⊎ (1 < tried.moves)))
+    → (has_run past ≡ true) × ((since : ℕ) × (stands_since past ≡ Some since) × ((since + 3000 ≤ event.at) ⊎ (1 < tried.moves)))
 
 -- The clock doesn't say that it runs, the board is heard, and nobody says that he has looked.
 abbrev pub leaves_stopped : Heard → Bool
@@ -181,7 +181,7 @@ one_by other added quick = 0
 
 abbrev pub plies_after : List Event → List Event → ℕ
 plies_after past [] = 0
-plies_after past (event ∷ later) = plies_after past later + one_by event.what event.is_added (last_within quickest (ply_times (later ++ past)))
+plies_after past (event ∷ later) = plies_after past later + one_by event.what event.is_added (last_within 1000 (ply_times (later ++ past)))
 
 -- The clock doesn't say that it stands.
 abbrev pub leaves_running : Heard → Bool
@@ -198,7 +198,7 @@ StaysUnpressed past (event ∷ later) =
 abbrev pub SixthPlyIsDoubted : Type 0
 SixthPlyIsDoubted = (sixth press : Event) (ply : Ply) (past later : List Event)
     → runs past ≡ true → press.what ≡ Presses → StaysUnpressed (press ∷ past) later → plies_after (press ∷ past) later ≡ 5
-    → sixth.what ≡ Plays ply → sixth.is_added ≡ false → last_within quickest (ply_times (later ++ press ∷ past)) ≡ false
+    → sixth.what ≡ Plays ply → sixth.is_added ≡ false → last_within 1000 (ply_times (later ++ press ∷ past)) ≡ false
     → is_on (later ++ press ∷ past) ≡ true → is_some (doubt_of sixth (later ++ press ∷ past)) ≡ true
 
 -- Nothing is heard that ends a suspicion, or begins another one, and the board is heard.
@@ -226,9 +226,14 @@ SilentReplacementIsDoubted = (second clock : Event) (ply : Ply) (runs : Bool) (p
     → clock.what ≡ Clock runs → clock.is_added ≡ false → is_on (later ++ second ∷ past) ≡ true
     → is_some (doubt_of clock (later ++ second ∷ past)) ≡ true
 
+-- Both are so, or neither.
+abbrev pub are_alike : Bool → Bool → Bool
+are_alike true other = other
+are_alike false other = not other
+
 -- A ply was thought about on its own side's time, as far as that is known.
 abbrev pub is_own : Heard → Option Bool → Bool
-is_own (Plays ply) (Some black) = not (is_other black ply.black)
+is_own (Plays ply) (Some black) = are_alike black ply.black
 is_own other counts = true
 
 abbrev pub OnOwnTime : List Event → Type 0
@@ -241,7 +246,7 @@ OwnTimePasses = (event : Event) (past : List Event) → OnOwnTime (event ∷ pas
 
 -- Nor is a quick one: the clock may not yet have told of the press before it.
 abbrev pub QuickPlyPasses : Type 0
-QuickPlyPasses = (event : Event) (past : List Event) → last_within told_late (ply_times past) ≡ true → IsDoubtedFor OtherTime event past → ⊥
+QuickPlyPasses = (event : Event) (past : List Event) → last_within 2000 (ply_times past) ≡ true → IsDoubtedFor OtherTime event past → ⊥
 
 -- Nothing is heard that says something of the clock, no ply, and no further time in which the board isn't heard.
 abbrev pub is_no_sign : Heard → Bool

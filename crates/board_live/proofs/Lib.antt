@@ -1,4 +1,5 @@
 pub mod Alike
+pub mod Answered
 pub mod Dues
 pub mod Ends
 pub mod Fed
@@ -11,4 +12,5 @@ pub mod Owned
 pub mod Saids
 pub mod Says
 pub mod Sides
+pub mod Silent
 pub mod TakeLemmas

@@ -114,7 +114,7 @@ same_answer opens stops setting recovers m past other t u ts us a b valid alike 
     g.clock.news_is h.clock.news_is)
     state end (both_or_neither a.is_whole b.is_whole (R (kept (u ∷ us)) (came other us)) (subst V has (subst W alike.kept g.whole)) h.whole)
 
-same_said : OpensOnce → StopsOnce → (setting : Setting) (recovers : Bool) (m : Moment) (past other : List Moment) (t u : Turn) (ts us : List Turn) (a b : Answer) (looks alarms : List Look)
+pub same_said : OpensOnce → StopsOnce → (setting : Setting) (recovers : Bool) (m : Moment) (past other : List Moment) (t u : Turn) (ts us : List Turn) (a b : Answer) (looks alarms : List Look)
     → Valid setting.start → AnsweredAlike (m ∷ past) t ts (m ∷ other) u us → came past ts ≡ came other us → is_live (m ∷ past) ≡ is_live (m ∷ other)
     → a.state ≡ b.state → a.end ≡ b.end → IsAnswered setting recovers (m ∷ past) (t ∷ ts) a looks → IsAnswered setting recovers (m ∷ other) (u ∷ us) b alarms
     → (a ≡ b) × (looks ≡ alarms)

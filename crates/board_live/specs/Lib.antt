@@ -6,5 +6,6 @@ pub mod Laws
 pub mod Live
 pub mod Moments
 pub mod Numbers
+pub mod Once
 pub mod Restarts
 pub mod Saying

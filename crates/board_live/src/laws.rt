@@ -1,8 +1,9 @@
 //! What holds of each history. Each law is the contract of a function, which does nothing.
 ghost use Rattle.board_live.specs.Laws.{EndsAlike, IsSaidOnce, LaterChangesNothing, NothingElseIsLeftOut, OwnBoardIsNoOther, RestartsAlike, SaysAlike, WakesOnce};
+ghost use Rattle.board_live.specs.Once.{IsAnsweredOnce, MuteBoardIsSaid, SilentIsSaid};
 ghost use Rattle.board_live.specs.Restarts.{FilesSayTheSame, NumberMayFollow, RestartsSayTheSame, SaysOpenAlarms};
 
-use board_asking::laws::own_sends_known_number;
+use board_asking::laws::{own_sends_known_number, silent_after_seven_seconds};
 use board_game::laws::{
     end_due_once, end_stays_until_due, ends_once, hears_once, opens_once, silence_is_forgotten,
     stops_once,
@@ -112,4 +113,33 @@ pub fn number_may_follow()
     stays_until_due();
     // For its clause: the game stands as it does until time is due to end it.
     end_stays_until_due();
+}
+
+/// From a valid start, one history has one answer.
+pub fn is_answered_once()
+    ensures { IsAnsweredOnce }
+{
+    // For its clause: what came is heard in one way.
+    hears_once();
+    // For its clause: what came says which alarms are open.
+    opens_once();
+    // For its clause: what came says whether the clock is stopped.
+    stops_once();
+    // For its clause: what came says how the game stands.
+    ends_once();
+}
+
+/// While the board doesn't answer, the state says so.
+pub fn silent_is_said()
+    ensures { SilentIsSaid }
+{}
+
+/// What is read as AGREES was seen at most seven seconds ago, if the recorder is woken in time.
+pub fn mute_board_is_said()
+    ensures { MuteBoardIsSaid }
+{
+    // For its clause: a board that sends no dump is silent after seven seconds.
+    silent_after_seven_seconds();
+    // For its clause: while it is silent, the state says so.
+    silent_is_said();
 }

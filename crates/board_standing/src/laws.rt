@@ -1,5 +1,6 @@
 //! What holds of each history. Each law is the contract of a function, which does nothing.
 ghost use Rattle.board_standing.specs.Laws.{OldIsThroughout, OverdueIsThroughout, StaysUntilDue};
+ghost use Rattle.board_standing.specs.Meaning.{AgreesExactly, SilentExactly, UnpluggedExactly, WrongIsSaid, WrongNamesExactly};
 
 /// If nothing is heard, the state stays as it is until it is due.
 pub fn stays_until_due()
@@ -14,4 +15,29 @@ pub fn old_is_throughout()
 /// A game is overdue exactly if no picture that stood had come nearer to it, for as long as it gets.
 pub fn overdue_is_throughout()
     ensures { OverdueIsThroughout }
+{}
+
+/// AGREES means that the board shows its game's position, over a line that is there, and answers.
+pub fn agrees_exactly()
+    ensures { AgreesExactly }
+{}
+
+/// That the line is gone is said exactly while it is.
+pub fn unplugged_exactly()
+    ensures { UnpluggedExactly }
+{}
+
+/// That the board doesn't answer is said exactly while it doesn't.
+pub fn silent_exactly()
+    ensures { SilentExactly }
+{}
+
+/// WRONG names exactly the squares that have differed for ten seconds, or all that differ where the game is overdue.
+pub fn wrong_names_exactly()
+    ensures { WrongNamesExactly }
+{}
+
+/// What has differed for ten seconds is said.
+pub fn wrong_is_said()
+    ensures { WrongIsSaid }
 {}

@@ -35,7 +35,7 @@ abbrev pub EndsOnce : Type 0
 EndsOnce = (event one : Event) (past later : List Event) → is_some (ended_by event past) ≡ true → NobodyReopens later
     → ended_by one (later ++ event ∷ past) ≡ None
 
--- Where time ends a game, its result was given ten seconds ago or longer, and nothing has taken it back; the board was heard since.
+-- Where a game ends since its result has stood, that was given ten seconds ago or longer, and nothing has taken it back.
 abbrev pub StandsTenSeconds : Type 0
 StandsTenSeconds = (event : Event) (past : List Event) → ended_by event past ≡ Some Stood
     → (given : Given) × (last_given past ≡ Some given) × (given.at + ten_seconds ≤ event.at)

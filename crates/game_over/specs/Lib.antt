@@ -4,3 +4,4 @@ pub mod Moves
 pub mod Over
 pub mod Result
 pub mod Said
+pub mod Standing

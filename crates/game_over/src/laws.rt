@@ -1,5 +1,6 @@
 //! What holds of each history. Each law is the contract of a function, which does nothing.
 ghost use Rattle.game_over.specs.Laws.{AddedEndsNothing, EndsBehindFront, EndsOnce, EndsWithResult, GoesOnAfterEnd, IsOverExactly, MovesStay, OnlySetUpGoes, PassesOnce, SaidInOneWay, StandsTenSeconds, TakenBackEndsNothing, UnseenIsUnsure};
+ghost use Rattle.game_over.specs.Standing.{EndsAfterTenSeconds, EndsUnheard};
 
 /// One thing is said to an event, by those before it.
 pub fn said_in_one_way()
@@ -64,4 +65,14 @@ pub fn only_set_up_goes()
 /// A move that stood for three seconds, or was added, is the game's, whatever ends it later.
 pub fn moves_stay()
     ensures { MovesStay }
+{}
+
+/// A result that stands ends the game when the board is heard ten seconds later, and at no time before.
+pub fn ends_after_ten_seconds()
+    ensures { EndsAfterTenSeconds }
+{}
+
+/// If the board isn't heard, it ends the game 17 seconds later, or ten if an arbiter gave it, and at no time before.
+pub fn ends_unheard()
+    ensures { EndsUnheard }
 {}

@@ -3,6 +3,9 @@ mod ClockLemmas
 mod EntryLemmas
 mod NewsLemmas
 mod NextLemmas
+mod OnceLemmas
+mod WatchedOnce
+mod FunctionLemmas
 mod RecorderLemmas
 mod RecoveredLemmas
 mod HistoryLemmas

@@ -124,10 +124,13 @@ answered_by : (brings : Bool) (setup : Setup) (recovers : Bool) (heard : Heard) 
     → time_of heard past ≡ time_of heard other → moments past ≡ moments other
     → IsAnsweredBy brings setup recovers heard past more said → IsAnsweredBy brings setup recovers heard other more said
 answered_by true setup recovers heard past other more said e f is = is
-answered_by false setup recovers heard past other more said e f is = λ turn turns h.
-    let T : ℕ → List Moment → Type 0 = λ n ms. Told (cabled (moment_by n heard ∷ ms)) (turn ∷ turns) in
-    said_like setup recovers heard past other turn turns more said e f
-    (is turn turns (both T (time_of heard other) (time_of heard past) (moments other) (moments past) (sym e) (sym f) h))
+answered_by false setup recovers heard past other more said e f (turn, turns, happened, is) =
+    let T : ℕ → List Moment → Type 0 = λ n ms. Told (cabled (moment_by n heard ∷ ms)) (turn ∷ turns) in (
+      turn,
+      turns,
+      both T (time_of heard past) (time_of heard other) (moments past) (moments other) e f happened,
+      said_like setup recovers heard past other turn turns more said e f is,
+    )
 
 heard_by : (heard : Heard) (past other : List Heard) → waiting past ≡ waiting other → IsHeard heard past → IsHeard heard other
 heard_by heard past other e h =

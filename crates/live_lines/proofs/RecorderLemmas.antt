@@ -61,10 +61,13 @@ pub answered : (setup : Setup) (recovers : Bool) (heard : Heard) (past : List He
     → ((turns : List Turn) → Told (cabled (m ∷ moments past)) turns → IfSome due (λ d. MayChange (setting_of setup) recovers (came (m ∷ moments past) turns) (told turns) at d))
     → ((turns : List Turn) → Told (cabled (m ∷ moments past)) turns → EndStays (setting_of setup) recovers (came (m ∷ moments past) turns) at due)
     → ((turns : List Turn) → Told (cabled (m ∷ moments past)) turns → IsDue (setting_of setup) recovers (came (m ∷ moments past) turns) (told turns) at due)
-    → IsAnsweredBy false setup recovers heard past more (answer_text at answer k ls g looks due)
-answered setup recovers heard past m at answer due k ls more g looks em ea el says keeps answers gives asks handles stays changes ends wakes turn turns h =
+    → (turns : List Turn) → Told (cabled (m ∷ moments past)) turns → IsAnsweredBy false setup recovers heard past more (answer_text at answer k ls g looks due)
+answered setup recovers heard past m at answer due k ls more g looks em ea el says keeps answers gives asks handles stays changes ends wakes [] none = absurd none
+answered setup recovers heard past m at answer due k ls more g looks em ea el says keeps answers gives asks handles stays changes ends wakes (turn ∷ turns) happened =
     let now : ℕ = time_of heard past in
     let ps : List Moment = moments past in
+    let T : Moment → Type 0 = λ x. Told (cabled (x ∷ ps)) (turn ∷ turns) in
+    let h : T (moment_of heard past) = subst T em happened in
     let K : Moment → Type 0 = λ x. Told (cabled (x ∷ ps)) (turn ∷ turns) → k ≡ kept (turn ∷ turns) in
     let A : Moment → Type 0 = λ x. Told (cabled (x ∷ ps)) (turn ∷ turns) → Answers (setting_of setup) recovers x ps turn turns answer in
     let G : Moment → Type 0 = λ x. Told (cabled (x ∷ ps)) (turn ∷ turns)
@@ -83,24 +86,28 @@ answered setup recovers heard past m at answer due k ls more g looks em ea el sa
     let Sn : ℕ → Type 0 = λ n. StaysAlike (setting_of setup) recovers (came (moment_of heard past ∷ moments past) (turn ∷ turns)) n due in
     let Cn : ℕ → Type 0 = λ n. IfSome due (λ d. MayChange (setting_of setup) recovers (came (moment_of heard past ∷ moments past) (turn ∷ turns)) (told (turn ∷ turns)) n d) in
     let En : ℕ → Type 0 = λ n. EndStays (setting_of setup) recovers (came (moment_of heard past ∷ moments past) (turn ∷ turns)) n due in
-    let Wn : ℕ → Type 0 = λ n. IsDue (setting_of setup) recovers (came (moment_of heard past ∷ moments past) (turn ∷ turns)) (told (turn ∷ turns)) n due in
-    record {
-      answer = answer;
-      game = g;
-      looks = looks;
-      due = due;
-      text = ap (λ n. answer_text n answer k ls g looks due) ea ∙ ap (λ x. answer_text now answer x ls g looks due) (subst K em (keeps (turn ∷ turns)) h)
-          ∙ ap (λ x. answer_text now answer (kept (turn ∷ turns)) x g looks due) el;
-      alarms = subst L em (says (turn ∷ turns)) h;
-      answers = subst A em (answers turn turns) h;
-      gives = subst G em (gives (turn ∷ turns)) h;
-      asks = subst Qn ea (subst Q em (asks (turn ∷ turns)) h);
-      handling = subst Hn ea (subst H em (handles (turn ∷ turns)) h);
-      state = subst Sn ea (subst S em (stays (turn ∷ turns)) h);
-      changes = subst Cn ea (subst C em (changes (turn ∷ turns)) h);
-      end = subst En ea (subst E em (ends (turn ∷ turns)) h);
-      wakes = subst Wn ea (subst W em (wakes (turn ∷ turns)) h);
-    }
+    let Wn : ℕ → Type 0 = λ n. IsDue (setting_of setup) recovers (came (moment_of heard past ∷ moments past) (turn ∷ turns)) (told (turn ∷ turns)) n due in (
+      turn,
+      turns,
+      h,
+      record {
+        answer = answer;
+        game = g;
+        looks = looks;
+        due = due;
+        text = ap (λ n. answer_text n answer k ls g looks due) ea ∙ ap (λ x. answer_text now answer x ls g looks due) (subst K em (keeps (turn ∷ turns)) h)
+            ∙ ap (λ x. answer_text now answer (kept (turn ∷ turns)) x g looks due) el;
+        alarms = subst L em (says (turn ∷ turns)) h;
+        answers = subst A em (answers turn turns) h;
+        gives = subst G em (gives (turn ∷ turns)) h;
+        asks = subst Qn ea (subst Q em (asks (turn ∷ turns)) h);
+        handling = subst Hn ea (subst H em (handles (turn ∷ turns)) h);
+        state = subst Sn ea (subst S em (stays (turn ∷ turns)) h);
+        changes = subst Cn ea (subst C em (changes (turn ∷ turns)) h);
+        end = subst En ea (subst E em (ends (turn ∷ turns)) h);
+        wakes = subst Wn ea (subst W em (wakes (turn ∷ turns)) h);
+      },
+    )
 
 -- ---- an entry that is no capture
 

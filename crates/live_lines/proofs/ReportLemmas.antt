@@ -166,11 +166,11 @@ event_told plain setting past x lines valid e =
 -- ---- the line of a pair
 
 -- Both plies are legal, where they stand, in valid positions.
-record IsGood (r : Recovery) : Type 0 where
-  before : Valid r.before
-  middle : Valid r.middle
-  first : Legal r.before r.pair.first
-  second : Legal r.middle r.pair.second
+pub record IsGood (r : Recovery) : Type 0 where
+  pub before : Valid r.before
+  pub middle : Valid r.middle
+  pub first : Legal r.before r.pair.first
+  pub second : Legal r.middle r.pair.second
 
 root_played : (start : Parts) (corrects : Bool) (moves : List Move) → Played start moves → Played start (root corrects moves)
 root_played start false moves h = h
@@ -218,7 +218,7 @@ pair_lines plain offset r text good (san, reply, one, two, is) =
 -- ---- all that is told
 
 -- The pairs among the items are such.
-abbrev AreGood : List Item → Type 0
+abbrev pub AreGood : List Item → Type 0
 AreGood [] = ⊤
 AreGood (Sent time x ∷ items) = AreGood items
 AreGood (Pair time offset r ∷ items) = IsGood r × AreGood items
@@ -249,7 +249,7 @@ good_added setting recovers time past (x ∷ more) before items valid h (earlier
     (good_here setting recovers (map (λ t. t.event) more ++ past) time x found earlier valid
     (good_added setting recovers time past more before earlier valid h adds) finds)
 
-good : (setting : Setting) (recovers : Bool) (past : List Came) (items : List Item) → Valid setting.start → Makes setting recovers past items → AreGood items
+pub good : (setting : Setting) (recovers : Bool) (past : List Came) (items : List Item) → Valid setting.start → Makes setting recovers past items → AreGood items
 good setting recovers [] items valid is = subst AreGood (sym is) tt
 good setting recovers (Bytes time bytes ∷ past) items valid (before, events, more, makes, shown, all, adds) =
     good_added setting recovers _ (past_of events) more before items valid (good setting recovers past before valid makes) adds

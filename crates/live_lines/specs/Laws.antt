@@ -92,11 +92,6 @@ abbrev pub ReportsHaveLines : Type 0
 ReportsHaveLines = (setting : Setting) (recovers : Bool) (past later : List Came) (text more : List ℕ) → Valid setting.start
     → IsReport setting recovers past text → IsReport setting recovers later (text ++ more) → HasLines more
 
--- Later entries change nothing that was said: what is written of more entries begins with what was written of the first ones.
-abbrev pub LaterChangesNothing : Type 0
-LaterChangesNothing = (setup : Setup) (recovers : Bool) (later past : List Heard) (report said : List ℕ) → Writes setup recovers (later ++ past) report said
-    → (before earlier more : List ℕ) × Writes setup recovers past before earlier × (said ≡ earlier ++ more)
-
 -- what was told, with a wake for each entry that asks for the text
 abbrev pub as_wake : What → What
 as_wake WantsText = Wakes

@@ -8,6 +8,7 @@ pub mod Inside
 pub mod Laws
 pub mod Meaning
 pub mod Next
+pub mod Once
 pub mod Recorder
 pub mod Recovered
 pub mod Status

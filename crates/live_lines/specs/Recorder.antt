@@ -59,8 +59,8 @@ pub record IsSaidOf (setup : Setup) (recovers : Bool) (heard : Heard) (past : Li
 -- A capture is answered by its report alone.
 abbrev pub IsAnsweredBy : Bool → Setup → Bool → Heard → List Heard → List ℕ → List ℕ → Type 0
 IsAnsweredBy true setup recovers heard past more said = said ≡ capture_text more
-IsAnsweredBy false setup recovers heard past more said = (turn : Turn) (turns : List Turn) → Told (cabled (moment_of heard past ∷ moments past)) (turn ∷ turns)
-    → IsSaidOf setup recovers heard past turn turns more said
+IsAnsweredBy false setup recovers heard past more said = (turn : Turn) × (turns : List Turn) × Told (cabled (moment_of heard past ∷ moments past)) (turn ∷ turns)
+    × IsSaidOf setup recovers heard past turn turns more said
 
 -- The entry is answered.
 abbrev pub IsAnswered : Setup → Bool → Heard → List Heard → List ℕ → List ℕ → Type 0
@@ -68,5 +68,5 @@ IsAnswered setup recovers heard past more said = IsAnsweredBy (brings_capture he
 
 -- The text is the report of what came to the game.
 abbrev pub Reports : Setup → Bool → List Heard → List ℕ → Type 0
-Reports setup recovers past text = (turns : List Turn) → Told (cabled (moments past)) turns
-    → IsReport (setting_of setup) recovers (came (moments past) turns) text
+Reports setup recovers past text = (turns : List Turn) × Told (cabled (moments past)) turns
+    × IsReport (setting_of setup) recovers (came (moments past) turns) text

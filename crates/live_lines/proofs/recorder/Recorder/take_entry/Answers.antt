@@ -45,7 +45,8 @@ returns-clause-stands c = λ setup recovers past text s.
           (λ turns h. c.due-due.ensures.state (setting_of setup) recovers (m ∷ moments past) (text ++ more) turns took.2 h)
           (λ turns h. c.due-due.ensures.changes (setting_of setup) recovers (m ∷ moments past) (text ++ more) turns took.2 h)
           (λ turns h. c.due-due.ensures.end (setting_of setup) recovers (m ∷ moments past) (text ++ more) turns took.2 h)
-          (λ turns h. c.due-due.ensures.wakes (setting_of setup) recovers (m ∷ moments past) (text ++ more) turns took.2 h)),
+          (λ turns h. c.due-due.ensures.wakes (setting_of setup) recovers (m ∷ moments past) (text ++ more) turns took.2 h)
+          took.2.attends.cable.turns took.2.attends.cable.happened),
       record {
         clock = clock ∙ sym (clock_goes_on heard past other);
         tags = s.tags;

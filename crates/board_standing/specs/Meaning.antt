@@ -1,0 +1,114 @@
+-- What it means that a state is read. Events are listed with the latest first, times are milliseconds.
+use Rattle.std.specs.Prelude.{◌≡◌, ◌⊎◌, ◌<◌, ◌↔◌, ◌==◌, ℕ, IsTrue, not, Bool, true, false, List, [], ◌∷◌, count_ones, if◌then◌else◌}
+use Rattle.std.specs.Int.{bit_at}
+use Rattle.square_runs.specs.Laws.{HoldsThroughout, InOrder}
+use Rattle.square_runs.specs.Shown.{has}
+use Rattle.board_standing.specs.declared.heard.Event.{Event}
+use Rattle.board_standing.specs.declared.heard.Heard.{Heard}
+use Rattle.board_standing.specs.declared.heard.Heard.TheVariants.{Shows, Repeats, Moves, Ends, Reopens, Stops, Answers, Unplugs, Plugs, Begins}
+use Rattle.board_standing.specs.declared.state.Kind.TheVariants.{Waits, Agrees, Ended, Wrong, NoStart, SettingUp, Silent, Unplugged}
+use Rattle.board_standing.specs.Line.{pictures}
+use Rattle.board_standing.specs.Pictures.{is_no_nearer, is_set_up, last_squares, since_set_up}
+use Rattle.board_standing.specs.States.{kind_at, names_at}
+
+-- One of these was heard, and since the last of them none of those.
+abbrev pub stands_by : Bool → Bool → Bool → Bool
+stands_by true undone before = true
+stands_by false true before = false
+stands_by false false before = before
+
+abbrev pub stands : (Heard → Bool) → (Heard → Bool) → List Event → Bool
+stands does undoes [] = false
+stands does undoes (event ∷ past) = stands_by (does event.what) (undoes event.what) (stands does undoes past)
+
+abbrev pub goes : Heard → Bool
+goes Unplugs = true
+goes other = false
+
+abbrev pub opens : Heard → Bool
+opens Plugs = true
+opens other = false
+
+abbrev pub stops : Heard → Bool
+stops Stops = true
+stops other = false
+
+-- The board answers again, or the line is another one now.
+abbrev pub answers : Heard → Bool
+answers Answers = true
+answers Unplugs = true
+answers Plugs = true
+answers other = false
+
+abbrev pub begins : Heard → Bool
+begins Begins = true
+begins other = false
+
+-- The board shows its pieces.
+abbrev pub shows : Heard → Bool
+shows (Shows picture) = true
+shows Repeats = true
+shows Moves = true
+shows Ends = true
+shows Reopens = true
+shows other = false
+
+abbrev pub ends : Heard → Bool
+ends Ends = true
+ends other = false
+
+abbrev pub reopens : Heard → Bool
+reopens Reopens = true
+reopens other = false
+
+-- The board shows the position of its game; or another one.
+abbrev pub shows_position : Heard → Bool
+shows_position (Shows picture) = count_ones picture.differs == 0
+shows_position Moves = true
+shows_position Ends = true
+shows_position Reopens = true
+shows_position other = false
+
+abbrev pub shows_other : Heard → Bool
+shows_other (Shows picture) = not (count_ones picture.differs == 0)
+shows_other other = false
+
+-- The line is there, the board answers, it has shown its pieces since the recorder began, and its game has no result.
+pub record IsPlayed (past : List Event) : Type 0 where
+  pub line : stands goes opens past ≡ false
+  pub answers : stands stops answers past ≡ false
+  pub shown : stands begins shows past ≡ false
+  pub result : stands ends reopens past ≡ false
+
+-- AGREES is read exactly if that is so, and the last picture that the board has shown is the position of its game.
+abbrev pub AgreesExactly : Type 0
+AgreesExactly = (now : ℕ) (past : List Event) → (kind_at now past ≡ Agrees) ↔ (IsPlayed past × (stands shows_position shows_other past ≡ true))
+
+-- UNPLUGGED exactly if the line went, and wasn't opened since.
+abbrev pub UnpluggedExactly : Type 0
+UnpluggedExactly = (now : ℕ) (past : List Event) → (kind_at now past ≡ Unplugged) ↔ (stands goes opens past ≡ true)
+
+-- SILENT exactly if the line is there, the board has stopped to answer, and hasn't answered since.
+abbrev pub SilentExactly : Type 0
+SilentExactly = (now : ℕ) (past : List Event) → (kind_at now past ≡ Silent) ↔ ((stands goes opens past ≡ false) × (stands stops answers past ≡ true))
+
+-- Just these squares are named.
+abbrev pub Names : ℕ → List Event → (ℕ → Type 0) → Type 0
+Names now past Meets = (s : ℕ) → s < 64 → IsTrue (names_at now past s) ↔ Meets s
+
+-- The square has differed in each picture for ten seconds, since a set-up left few.
+abbrev pub HasDiffered : ℕ → List Event → ℕ → Type 0
+HasDiffered now past s = HoldsThroughout (has s) 10000 now (since_set_up (pictures past))
+
+-- Where WRONG is read it names exactly the squares that have differed for ten seconds; or there are none, the board has come no nearer
+-- to its game for 15 seconds, and all are named on which it differs.
+abbrev pub WrongNamesExactly : Type 0
+WrongNamesExactly = (now : ℕ) (past : List Event) → InOrder now (pictures past) → kind_at now past ≡ Wrong
+    → Names now past (HasDiffered now past)
+    ⊎ (((s : ℕ) → s < 64 → HasDiffered now past s → ⊥) × HoldsThroughout is_no_nearer 15000 now (pictures past)
+    × Names now past (λ s. IsTrue (bit_at (last_squares (pictures past)) s == 1)))
+
+-- If a square has differed for ten seconds, and the pieces aren't set up, WRONG is read, or that the start is not there.
+abbrev pub WrongIsSaid : Type 0
+WrongIsSaid = (now s : ℕ) (past : List Event) → InOrder now (pictures past) → IsPlayed past → is_set_up (pictures past) ≡ false → s < 64
+    → HasDiffered now past s → (kind_at now past ≡ Wrong) ⊎ (kind_at now past ≡ NoStart)

@@ -1,0 +1,42 @@
+-- When a result that stands ends the game. Events are listed with the latest first, times are milliseconds.
+use Rattle.std.specs.Prelude.{◌≡◌, ◌+◌, ◌≤◌, ◌<◌, ◌⊎◌, ℕ, Bool, true, false, List, ◌∷◌, ◌++◌, Some, None, if◌then◌else◌}
+use Rattle.std.specs.List.{list_all}
+use Rattle.game_over.specs.declared.happened.Event.{Event}
+use Rattle.game_over.specs.declared.happened.Happening.{Happening}
+use Rattle.game_over.specs.declared.happened.Happening.TheVariants.{Moves, Ends, Declares, Reopens, Resumes, Passes, Hears}
+use Rattle.game_over.specs.declared.happened.Outcome.{Outcome}
+use Rattle.game_over.specs.declared.said.Why.TheVariants.{Stood}
+use Rattle.game_over.specs.Over.{ended_by, is_over}
+
+-- The result is given, by the position, the kings or an arbiter.
+abbrev pub GivesIt : Bool → Happening → Type 0
+GivesIt added what = (outcome : Outcome) × ((what ≡ Ends outcome added) ⊎ (what ≡ Declares outcome added))
+
+-- With this a result stands on: no move is made or corrected, none is given or taken off, and somebody listened.
+abbrev pub leaves_what : Happening → Bool
+leaves_what (Moves move) = false
+leaves_what (Ends outcome added) = false
+leaves_what (Declares outcome added) = false
+leaves_what Reopens = false
+leaves_what Resumes = false
+leaves_what other = true
+
+abbrev pub leaves_it : Event → Bool
+leaves_it event = leaves_what event.what
+
+-- This ends the game from that time on, and no sooner.
+abbrev pub EndsFrom : ℕ → Event → List Event → Type 0
+EndsFrom from event past = (from ≤ event.at → ended_by event past ≡ Some Stood) × (event.at < from → ended_by event past ≡ None)
+
+-- A result that was given, and that nothing has touched since, ends the game at the first time at which the board is heard ten seconds
+-- later. Until then no hearing ends it.
+abbrev pub EndsAfterTenSeconds : Type 0
+EndsAfterTenSeconds = (added : Bool) (given heard : Event) (later past : List Event) → GivesIt added given.what → list_all leaves_it later ≡ true
+    → is_over (later ++ given ∷ past) ≡ false → heard.what ≡ Hears → EndsFrom (given.at + 10000) heard (later ++ given ∷ past)
+
+-- If the board isn't heard, it ends the game at the first time that is told 17 seconds later, or ten seconds if an arbiter gave it. Until
+-- then no time ends it.
+abbrev pub EndsUnheard : Type 0
+EndsUnheard = (added : Bool) (given time : Event) (later past : List Event) → GivesIt added given.what → list_all leaves_it later ≡ true
+    → is_over (later ++ given ∷ past) ≡ false → time.what ≡ Passes
+    → EndsFrom (given.at + (if added then 10000 else 17000)) time (later ++ given ∷ past)
