@@ -13,6 +13,7 @@ from live.board.single import Choice, Single
 from live.child.program import Program
 from live.doors.options import LIVE, Outcome, Outgoing, out_given, pages_given, read, through
 from live.game import files
+from live.game.changing import publish_now
 from live.game.files import Paths
 from live.game.game import check_name, has_delay, kept_tags
 from live.game.log import Screen
@@ -140,7 +141,7 @@ def record_in(call: Call, program: Program, signals: Signals) -> Outcome:
     single.close()
     complaints, unseen = audience.close() if audience else ((), "")
     if audience is None and kept_tags(single.board.paths):  # the first of them was typed
-        door("kept_game").publish_now(single.board.paths)
+        publish_now(single.board.paths)
     terminal.clear()
     if unseen:
         single.say(unseen)

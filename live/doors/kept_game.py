@@ -12,15 +12,14 @@ from live.child.program import Program
 from live.doors.dgt_live import Call
 from live.doors.options import Outcome
 from live.game import files, packing
-from live.game.changing import add_by_name, told_of_round, told_of_series
+from live.game.changing import add_by_name, publish_now, told_of_round, told_of_series
 from live.game.files import LOCK_PATIENCE, Paths
-from live.game.forfeits import forfeit_of, told_to_readers
-from live.game.game import check_name, has_delay, kept_options
+from live.game.game import check_name, has_delay
 from live.game.log import log_once
 from live.game.making_pgn import first_time
 from live.game.opening import Opening, checked, is_recorded, read_otherwise
 from live.game.options import Options, line_of
-from live.game.tags import published, today
+from live.game.tags import today
 from live.line.line import devices, login_name
 from live.out.again import is_hidden
 from live.run.loop import Loop
@@ -35,17 +34,6 @@ def publish_anew(paths: Paths, given: Options = Options()) -> List[str]:
     if has_delay(paths) and is_hidden(paths):
         return [Message("text.gets_its_tags", path=paths.broadcast)]
     return [publish_now(paths)]
-
-
-def publish_now(paths: Paths) -> str:
-    """Publishes the text of a game that nobody records. Returns a message about it."""
-    kept = kept_options(paths)
-    try:
-        text = files.existing(paths.pgn)
-        files.put_in_place(paths.broadcast, published(text, dict(kept.tags) if kept else {}, told_to_readers(forfeit_of(paths, text))))
-    except OSError as error:
-        raise Refused(FAILED, files.not_written(paths.broadcast, error)) from None
-    return Message("text.has_its_tags", path=paths.broadcast)
 
 
 def existing_game(name: str, *more: str) -> Paths:

@@ -15,7 +15,7 @@ from typing import Callable, Optional, Sequence, Tuple
 from live.child.lines import Move, Picture, line_of
 from live.child.program import Program
 from live.game.files import Capture, Paths, existing, not_written, open_game, put_in_place, sync_folder
-from live.game.forfeits import Forfeit, drop_forfeit, keep_forfeit, kept_forfeit, read_typed, refuse_played
+from live.game.forfeits import Forfeit, drop_forfeit, forfeit_of, keep_forfeit, kept_forfeit, read_typed, refuse_played, told_to_readers
 from live.game.game import ROUND, Game, end_mark, forget_question, is_unplayed, keep_front, keep_options, kept_options, mark_end, result_in, unmark_end
 from live.game.log import log_once
 from live.game.looks import acknowledge, keep_looks, kept_looks
@@ -23,10 +23,11 @@ from live.game.making_pgn import Made, Text, told_of_edit, told_of_result
 from live.game.opening import Chooses, named
 from live.game.options import Options, is_naming
 from live.game.reading import Course, game_of, read_game
+from live.game.tags import published
 from live.game.timed import Times
 from live.game.times import ADDED, BACK, LOOKED, OVER, REOPENED
 from live.game.typed import ALL, ANEW, AS_IT_IS, BOARD, CUT, NO_RESULT, PLACED, PLIES, SIGNED, STILL_SHOWN, WAYS, Acknowledged, Back, Nothing, Quit, Reopened, Said, Way, ask_to_add, ask_to_go_back, asked_of, dump_at_end, meaning, not_added, not_back, nothing_goes, place_of, played_since, result_typed, stays_of, taken_up, way_of
-from live.run.refused import DGT_LIVE, DONE, FAILED, Answer, Asked, NotDone, refusal
+from live.run.refused import DGT_LIVE, DONE, FAILED, Answer, Asked, NotDone, Refused, refusal
 from live.words.message import Message, linked
 
 NO_LINKS = (errno.EPERM, errno.EOPNOTSUPP, errno.EMLINK)  # a file system without hard links
@@ -449,3 +450,14 @@ def next_of(paths: Paths) -> Optional[Paths]:
         return None
     following = Paths(f"{name}-{int(number) + 1}")
     return following if os.path.lexists(following.capture) else None
+
+
+def publish_now(paths: Paths) -> str:
+    """Publishes the text of a game that nobody records. Returns a message about it."""
+    kept = kept_options(paths)
+    try:
+        text = existing(paths.pgn)
+        put_in_place(paths.broadcast, published(text, dict(kept.tags) if kept else {}, told_to_readers(forfeit_of(paths, text))))
+    except OSError as error:
+        raise Refused(FAILED, not_written(paths.broadcast, error)) from None
+    return Message("text.has_its_tags", path=paths.broadcast)
