@@ -5,7 +5,7 @@ to `dgt_replay live`; `child/lines.py` has the line about it, and reads the answ
 (`game/files.py`) before anything else is done. What the board is asked goes back through `board/cable.py`. Then the answer counts, in
 the stage of the game (`board/playing.py`): its report is printed (`game/log.py`), its course kept (`game/reading.py`), the board's
 state shown (`board/state.py`), and NAME.pgn made anew (`game/making_pgn.py`). What goes up from the session are values, which
-`board/board.py` takes in the same turn. `out/published.py` writes `round.pgn`.
+`board/board.py` takes in the same turn. `out/publish.py` puts `round.pgn` in place.
 
 In that order:
 
@@ -16,9 +16,9 @@ In that order:
 `game/`: a game: its files, its options, what an arbiter adds or takes off, where it ended.
 `board/`: one board and its games, whatever goes wrong there; its state.
 `table/`: the table of a round, a tournament, the tables of pairing programs.
-`out/`: what goes out of games, and when; `round.pgn`, the site.
+`out/`: what goes out of games, and when; `round.pgn`.
+`show/`: what a terminal and a browser show; the site.
 `round/`: the boards of a round with their rows.
-`show/`: what a terminal and a browser show.
 `doors/`: the command lines of `dgt_live` and `dgt_round`, and how a call ends.
 """
 

@@ -396,6 +396,7 @@ def result_and_device(folder: pathlib.Path) -> None:
     hall.until_text(1, "1. e4 e5 1-0")
     until_line(live, "1: added to ")
     same((live.says("Type it again"), live.says("typed by mistake")), (False, False))
+    until(lambda: b'[Result "1-0"]' in bytes_of(hall.games / "round.pgn"), "that the round has the result")
     line("board2", "0-1")
     live.type("r")
     until_line(live, "1: its line has 0-1, and the game ended 1-0: it stays so. To change it, type 1 0-1")
