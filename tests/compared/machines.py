@@ -162,7 +162,9 @@ def compilers_agree() -> None:
         raise Skipped(NO_TOOLCHAIN)
     if not BY_RATTLE.exists():
         raise Wrong(f"{BY_RATTLE.relative_to(TOP)} isn't there: see what rt ci said")
-    same(calls_by_chance(), each([str(BY_RATTLE)], calls_by_chance()))
+    with tempfile.TemporaryDirectory() as folder:
+        program = shutil.copy(BY_RATTLE, pathlib.Path(folder) / NATIVE.name)  # its own name stands in what it prints
+        same(calls_by_chance(), each([str(program)], calls_by_chance()))
 
 
 def aarch64_answers_as_x86_64() -> None:
