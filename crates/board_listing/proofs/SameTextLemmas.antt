@@ -164,7 +164,7 @@ timed_once offset old new a b (inl x) (inr y) = absurd (y.0 x.0)
 timed_once offset old new a b (inr x) (inl y) = absurd (x.0 y.0)
 timed_once offset old new a b (inr x) (inr y) = x.1 ∙ sym y.1
 
-event_lines_once : MovesTellTexts → (setting : Setting) (past : List Event) (x : Timed) (a b : List GameLine) → Valid setting.start → x.offset < limit
+pub event_lines_once : MovesTellTexts → (setting : Setting) (past : List Event) (x : Timed) (a b : List GameLine) → Valid setting.start → x.offset < limit
     → WatchesEvent setting past x a → WatchesEvent setting past x b → a ≡ b
 event_lines_once law setting past x a b valid low g h =
     let start = setting.start in

@@ -38,7 +38,7 @@ use Rattle.live_lines.specs.Once.{HasOneAnswer, HasOneReport, LaterChangesNothin
 use Rattle.live_lines.specs.Recorder.{IsAnswered}
 use Rattle.live_lines.specs.Streams.{Writes}
 use Rattle.live_lines.proofs.ReportLemmas.{AreGood, IsGood, good}
-use Rattle.live_lines.proofs.WatchedOnce.{event_lines_once}
+use Rattle.board_listing.proofs.SameTextLemmas.{event_lines_once}
 
 -- ---- the offsets of what is told
 

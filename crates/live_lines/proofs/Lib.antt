@@ -4,7 +4,6 @@ mod EntryLemmas
 mod NewsLemmas
 mod NextLemmas
 mod OnceLemmas
-mod WatchedOnce
 mod FunctionLemmas
 mod RecorderLemmas
 mod RecoveredLemmas
