@@ -14,12 +14,12 @@ _dgt() {
         dgt_round,*) words="--new --encoding --matches --embed --web --output --event --place --site --date --round $shown" ;;
         dgt_replay,*)
             if [ "$COMP_CWORD" -eq 1 ]; then
-                words='record follow watch recover add back live show pictures check times moves positions help --help --version'
+                words='record follow watch recover add back instead live show pictures check times moves positions help --help --version'
             else
                 case ${COMP_WORDS[1]} in
                     record) words="$game --event --site $tags --help" ;;
                     follow | watch | recover) words="$game --help" ;;
-                    add) words="$game --recover --line --help" ;;
+                    add | instead) words="$game --recover --line --help" ;;
                     back) words="$game --recover --to --help" ;;
                     live) words="$game --event --site $tags --recover --help" ;;
                     pictures) words='--rotated --help' ;;

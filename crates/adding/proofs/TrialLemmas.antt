@@ -15,7 +15,7 @@ use Rattle.board_events.specs.Session.{entries_in}
 use Rattle.board_events.specs.Settings.{Setting}
 use Rattle.board_captures.specs.Reading.{IsRead, StandsForCapture}
 use Rattle.board_captures.specs.declared.reading.Captured.{Captured}
-use Rattle.typed_lines.specs.Lines.{AreMoves, ReadsLine}
+use Rattle.typed_lines.specs.Lines.{ReadsLine}
 use Rattle.typed_lines.specs.declared.reading.Typed.{Typed}
 use Rattle.adding.specs.declared.adding.Answer.{Answer}
 use Rattle.adding.specs.Answers.{HasEnded, IsAnswerTo, IsAnswered, position_of}
@@ -36,13 +36,7 @@ unclocked_more moves i d lt = ap (map unclocked) (take_more moves i d lt) ∙ ma
 pub take_same : {A : Type 0} (xs ys : List A) (i : ℕ) (d : A) → i < length xs → i < length ys → take i xs ≡ take i ys → get_or xs i d ≡ get_or ys i d → take (i + 1) xs ≡ take (i + 1) ys
 take_same xs ys i d in_xs in_ys before here = take_more xs i d in_xs ∙ ap (λ zs. zs ++ get_or xs i d ∷ []) before ∙ ap (λ z. take i ys ++ z ∷ []) here ∙ sym (take_more ys i d in_ys)
 
--- moves that words name are legal one after the other, also as plies
-pub named_line : (p : Parts) (words : List (List ℕ)) (moves : List Move) → AreMoves p words moves → Line p moves
-named_line p [] [] named = tt
-named_line p (word ∷ words) (m ∷ moves) named = (named.0.legal, named_line (after p m) words moves named.1)
-named_line p [] (m ∷ moves) named = absurd named
-named_line p (word ∷ words) [] named = absurd named
-
+-- legal moves are legal one after the other as plies too
 pub unclocked_line : (p : Parts) (moves : List Move) → Line p moves → Line p (moves_of (map unclocked moves))
 unclocked_line p [] line = tt
 unclocked_line p (m ∷ moves) line = (line.0, unclocked_line (after p m) moves line.1)

@@ -3,9 +3,9 @@ use Rattle.std.proofs.Common.{◌≡◌, ◌<◌, ◌≤◌, ◌==◌, ℕ, Bool
 use Rattle.std.specs.Prelude.{codes, if◌then◌else◌}
 use Rattle.std.specs.Str.{bytes_eq}
 use Rattle.std.proofs.lemmas.List.{append_assoc}
-use Rattle.board_asking.specs.declared.line.Request.{Request}
-use Rattle.board_asking.specs.declared.whose.Handling.{Handling}
-use Rattle.board_asking.specs.declared.whose.Handling.TheVariants.{Keep, Hold, Other}
+use Rattle.board_cable.specs.declared.line.Request.{Request}
+use Rattle.board_cable.specs.declared.whose.Handling.{Handling}
+use Rattle.board_cable.specs.declared.whose.Handling.TheVariants.{Keep, Hold, Other}
 use Rattle.board_standing.specs.declared.state.State.{State}
 use Rattle.answer_lines.specs.declared.said.Said.{Said}
 use Rattle.answer_lines.specs.Answers.{answer_text, clock_line, clock_words, done_line, done_words, handling_line, handling_words, number_line, number_words, request_line, request_words, room_line, state_line, state_words}

@@ -4,9 +4,9 @@ use Rattle.std.specs.Prelude.{codes, if◌then◌else◌}
 use Rattle.std.specs.Str.{bytes_eq}
 use Rattle.std.proofs.lemmas.Fmt.{decimal_injective}
 use Rattle.std.proofs.lemmas.List.{append_assoc}
-use Rattle.board_asking.specs.declared.line.Request.{Request}
-use Rattle.board_asking.specs.declared.whose.Handling.{Handling}
-use Rattle.board_asking.specs.declared.whose.Handling.TheVariants.{Keep, Hold, Other}
+use Rattle.board_cable.specs.declared.line.Request.{Request}
+use Rattle.board_cable.specs.declared.whose.Handling.{Handling}
+use Rattle.board_cable.specs.declared.whose.Handling.TheVariants.{Keep, Hold, Other}
 use Rattle.board_endings.specs.declared.news.End.{End}
 use Rattle.board_standing.specs.declared.state.State.{State}
 use Rattle.game_over.specs.declared.happened.Outcome.{Outcome}

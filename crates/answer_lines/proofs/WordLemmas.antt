@@ -6,10 +6,10 @@ use Rattle.std.specs.Str.{bytes_eq}
 use Rattle.std.proofs.lemmas.Bool.{and_parts}
 use Rattle.std.proofs.lemmas.Fmt.{decimal_injective}
 use Rattle.std.proofs.lemmas.List.{append_assoc, append_cancel_left, append_cancel_right}
-use Rattle.board_asking.specs.declared.line.Request.{Request}
-use Rattle.board_asking.specs.declared.line.Request.TheVariants.{Dump, Numbered, Start}
-use Rattle.board_asking.specs.declared.whose.Handling.{Handling}
-use Rattle.board_asking.specs.declared.whose.Handling.TheVariants.{Keep, Hold, Other}
+use Rattle.board_cable.specs.declared.line.Request.{Request}
+use Rattle.board_cable.specs.declared.line.Request.TheVariants.{Dump, Numbered, Start}
+use Rattle.board_cable.specs.declared.whose.Handling.{Handling}
+use Rattle.board_cable.specs.declared.whose.Handling.TheVariants.{Keep, Hold, Other}
 use Rattle.board_standing.specs.declared.state.Hint.{Hint}
 use Rattle.board_standing.specs.declared.state.Hint.TheVariants.{TurnedRound, OtherBoard}
 use Rattle.board_standing.specs.declared.state.Kind.{Kind}

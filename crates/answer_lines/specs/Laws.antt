@@ -1,8 +1,8 @@
 -- What holds of each answer.
 use Rattle.std.specs.Prelude.{◌≡◌, ◌<◌, ◌^◌, ◌==◌, ◌⊎◌, not, ℕ, Bool, true, List, [], ◌++◌, Option, Some, None, ⊤, codes}
 use Rattle.std.specs.List.{list_all}
-use Rattle.board_asking.specs.declared.whose.Handling.{Handling}
-use Rattle.board_asking.specs.declared.whose.Handling.TheVariants.{Other}
+use Rattle.board_cable.specs.declared.whose.Handling.{Handling}
+use Rattle.board_cable.specs.declared.whose.Handling.TheVariants.{Other}
 use Rattle.board_standing.specs.declared.state.State.{State}
 use Rattle.answer_lines.specs.declared.said.Said.{Said}
 use Rattle.answer_lines.specs.Answers.{answer_text, done_line}

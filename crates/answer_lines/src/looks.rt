@@ -1,10 +1,10 @@
 //! The lines of alarms.
 ghost use Rattle.std.specs.Prelude.{◌≡◌, ◌++◌, IfOk, codes, decimal};
-ghost use Rattle.board_looks.specs.declared.look.Look.{Look as LookOf};
+ghost use Rattle.board_alarms.specs.declared.look.Look.{Look as LookOf};
 ghost use Rattle.answer_lines.specs.Looks.{look_words, looks_text, place_word, why_word};
 
+use board_alarms::Look;
 use board_doubts::{Doubt, Place, Why};
-use board_looks::Look;
 use itoa::Buffer;
 use std::alloc::AllocError;
 

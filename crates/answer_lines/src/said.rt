@@ -1,6 +1,6 @@
 //! What is said.
 
-use board_asking::{Handling, Request};
+use board_cable::{Handling, Request};
 use board_standing::State;
 
 /// What is answered to one event.

@@ -4,7 +4,7 @@ ghost use Rattle.std.specs.Int.{bit_at};
 ghost use Rattle.answer_lines.specs.Answers.{answer_text, clock_line, done_line, handling_line, hint_text, kind_word, number_line, request_line, room_line, square_text, squares_below, state_line, state_words, time_text};
 
 use crate::said::Said;
-use board_asking::{Handling, Request};
+use board_cable::{Handling, Request};
 use board_standing::{Hint, Kind, State};
 use itoa::Buffer;
 use std::alloc::{AllocError, Global};

@@ -1,21 +1,13 @@
 -- Times in which the board wasn't heard.
-use Rattle.std.proofs.Common.{◌≡◌, ◌≤◌, ◌<◌, ◌-◌, ◌⊎◌, inl, inr, ◌||◌, ◌&&◌, ℕ, Bool, true, false, List, ◌∷◌, Option, Some, None, refl, ap, ◌∙◌, arith}
+use Rattle.std.proofs.Common.{◌≡◌, ◌≤◌, ◌<◌, ◌-◌, ◌⊎◌, inl, inr, ◌&&◌, ℕ, Bool, true, false, List, ◌∷◌, Some, None, refl, ap, ◌∙◌, arith}
 use Rattle.std.specs.Prelude.{◌/◌, if◌then◌else◌, nat_le, not}
-use Rattle.std.proofs.lemmas.Bool.{le-leb, leb-true}
+use Rattle.std.proofs.lemmas.Bool.{le-leb, lt-leb}
 use Rattle.dgt_frame.specs.declared.events.Event.{Event}
 use Rattle.board_doubts.specs.declared.heard.Gap.{Gap}
 use Rattle.board_alarms.specs.declared.chunk.Chunk.{Chunk}
-use Rattle.board_alarms.specs.declared.news.News.TheVariants.{Gone}
 use Rattle.board_alarms.specs.Gaps.{gap_before, gap_from, has_begun, heard_at, is_cut, was_late}
-use Rattle.board_alarms.specs.Items.{Item, Noted, Sent, is_sent}
+use Rattle.board_alarms.specs.Items.{Item, Sent, is_sent}
 use Rattle.board_alarms.specs.Laws.{CutIsAGap, QuietIsAGap}
-
-cases_of : (b : Bool) → (b ≡ true) ⊎ (b ≡ false)
-cases_of true = inl refl
-cases_of false = inr refl
-
-not_yet : (a b : ℕ) → b < a → nat_le a b ≡ false
-not_yet a b low = elim (cases_of (nat_le a b)) [ inl le ↦ (let h : a ≤ b = leb-true a b le in absurd (let never : ⊥ = omega arith in never)) | inr other ↦ other ]
 
 -- Where this was sent, the time since then counts alone.
 since_sent : (last chunk : Chunk) (event : Event) (items : List Item) → is_sent last ≡ true → is_sent chunk ≡ true
@@ -40,8 +32,8 @@ quiet_is_a_gap last chunk event items (sent, now) =
     let lasted : ℕ = chunk.when.at - last.when.at in
     let brought : ℕ = chunk.end - last.end in
     let is = since_sent last chunk event items sent now in (
-      λ long few. is ∙ gap_if lasted brought true false (le-leb 6000 lasted long) (not_yet (lasted / 1000 - 1) (brought / 67) few),
-      λ short. is ∙ gap_if lasted brought false (was_late lasted brought) (not_yet 6000 lasted short) refl ∙ no_gap lasted (was_late lasted brought),
+      λ long few. is ∙ gap_if lasted brought true false (le-leb 6000 lasted long) (lt-leb (lasted / 1000 - 1) (brought / 67) few),
+      λ short. is ∙ gap_if lasted brought false (was_late lasted brought) (lt-leb 6000 lasted short) refl ∙ no_gap lasted (was_late lasted brought),
     )
 
 pub cut_is_a_gap : CutIsAGap

@@ -18,9 +18,9 @@ use Rattle.board_doubts.specs.declared.heard.Heard.{Heard}
 use Rattle.board_doubts.specs.declared.heard.Heard.TheVariants.{Shows, Plays, Replaces}
 use Rattle.board_doubts.specs.declared.heard.Seen.{Seen}
 use Rattle.board_doubts.specs.Elsewhere.{Sees}
-use Rattle.board_looks.specs.declared.look.Told.{Told}
+use Rattle.board_alarms.specs.declared.look.Told.{Told}
 use Rattle.board_doubts.specs.Clock.{has_stopped}
-use Rattle.board_looks.specs.Looks.{alarms, heard}
+use Rattle.board_alarms.specs.Looks.{alarms, heard}
 use Rattle.square_runs.specs.Squares.{Marks}
 use Rattle.board_alarms.specs.declared.chunk.Chunk.{Chunk}
 use Rattle.board_alarms.specs.Hearing.{Again, Another, EventHeard, HasResult, HearsEvent, HearsPicture, HearsResult, IsShown, Nothing, Shown, agrees, stands, with_event, with_news}

@@ -13,7 +13,7 @@ use Rattle.board_events.specs.History.{reading_at}
 use Rattle.board_events.specs.Session.{entries_in}
 use Rattle.board_events.specs.Settings.{Setting}
 use Rattle.board_doubts.specs.declared.heard.Heard.{Heard}
-use Rattle.board_looks.specs.declared.look.Told.{Told}
+use Rattle.board_alarms.specs.declared.look.Told.{Told}
 use Rattle.board_alarms.specs.declared.chunk.Chunk.{Chunk}
 use Rattle.board_alarms.specs.Clock.{clock_of, counts_by, counts_of, counts_said, goes_down, later, lever_at, lever_in, lever_said, presses_of, running_in, runs_said, seconds_of}
 use Rattle.board_alarms.specs.Hearing.{Again, Another, IsShown, Nothing, Shown, last_shown, with_heard}

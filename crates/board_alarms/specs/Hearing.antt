@@ -1,4 +1,4 @@
--- What is heard of a game, as `board_looks` is told it. Lists have the latest first.
+-- What is heard of a game, as an alarm is told of it. Lists have the latest first.
 use Rattle.std.specs.Prelude.{◌≡◌, ◌≢◌, ◌<◌, ◌^◌, ◌⊎◌, ℕ, Bool, true, false, List, [], ◌∷◌, length, Option, Some, None, is_some, if◌then◌else◌}
 use Rattle.std.specs.Str.{bytes_eq}
 use Rattle.chess_rules.specs.declared.parts.Parts.{Parts}
@@ -18,11 +18,11 @@ use Rattle.board_doubts.specs.declared.heard.Heard.TheVariants.{Shows, Ends, Reo
 use Rattle.board_doubts.specs.declared.heard.Gap.{Gap}
 use Rattle.board_doubts.specs.declared.heard.Seen.{Seen}
 use Rattle.board_doubts.specs.Elsewhere.{Sees}
-use Rattle.board_looks.specs.declared.look.Look.{Look}
-use Rattle.board_looks.specs.declared.look.Told.{Told}
-use Rattle.board_looks.specs.declared.look.Told.TheVariants.{Hears, Suspects as IsSuspected}
+use Rattle.board_alarms.specs.declared.look.Look.{Look}
+use Rattle.board_alarms.specs.declared.look.Told.{Told}
+use Rattle.board_alarms.specs.declared.look.Told.TheVariants.{Hears, Suspects as IsSuspected}
 use Rattle.board_doubts.specs.Clock.{has_stopped}
-use Rattle.board_looks.specs.Looks.{alarms, heard}
+use Rattle.board_alarms.specs.Looks.{alarms, heard}
 use Rattle.board_alarms.specs.declared.chunk.Chunk.{Chunk}
 use Rattle.board_alarms.specs.declared.news.News.{News}
 use Rattle.board_alarms.specs.declared.news.News.TheVariants.{Gone, Begins, PutsIn, Looked, PutsBack, Suspects}

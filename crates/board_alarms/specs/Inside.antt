@@ -7,7 +7,7 @@ use Rattle.dgt_frame.specs.declared.First.{First}
 use Rattle.settle_core.specs.declared.plies.Ply.{Ply}
 use Rattle.settle_core.specs.Masks.{IsDiff}
 use Rattle.board_events.specs.History.{reading_at}
-use Rattle.board_looks.specs.declared.look.Told.{Told}
+use Rattle.board_alarms.specs.declared.look.Told.{Told}
 use Rattle.board_alarms.specs.declared.chunk.Chunk.{Chunk}
 use Rattle.board_alarms.specs.declared.news.Sight.{Sight}
 use Rattle.board_alarms.specs.declared.news.Sight.TheVariants.{Nothing, Again, Another, Moves}

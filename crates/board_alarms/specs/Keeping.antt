@@ -8,8 +8,9 @@ use Rattle.settle_core.specs.Folding.{Folds, Score}
 use Rattle.board_events.specs.History.{reading_at}
 use Rattle.board_events.specs.Session.{entries_in}
 use Rattle.board_events.specs.Settings.{Setting}
-use Rattle.board_looks.specs.declared.look.Told.{Told}
-use Rattle.board_looks.specs.Keeping.{StandsFor as LooksStandFor}
+use Rattle.board_doubts.specs.Keeping.{AfterWrongStandsFor, ClockStandsFor, StandsFor as DoubtsStandFor}
+use Rattle.board_alarms.specs.declared.look.Told.{Told}
+use Rattle.board_alarms.specs.declared.looks.Looks.{Looks}
 use Rattle.board_alarms.specs.declared.alarms.Alarms.{Alarms}
 use Rattle.board_alarms.specs.declared.course.Course.{Course}
 use Rattle.board_alarms.specs.declared.course.Positions.{Positions}
@@ -18,6 +19,7 @@ use Rattle.board_alarms.specs.Clock.{lever_at}
 use Rattle.board_alarms.specs.Gaps.{has_begun, heard_at, is_cut}
 use Rattle.board_alarms.specs.Hearing.{HasResult, Tells}
 use Rattle.board_alarms.specs.Items.{Item, bytes_of, events_of}
+use Rattle.board_alarms.specs.Looks.{alarms, heard}
 use Rattle.board_alarms.specs.Plies.{before, black_moves, position}
 
 -- What is kept of the line.
@@ -44,6 +46,13 @@ pub record KeepsCourse (course : Course) (start : Parts) (plies : List Ply) : Ty
   pub counted : course.count ≡ length plies
   pub side : course.black ≡ black_moves start plies
   pub keeps : KeepsPositions course.positions start plies
+
+-- This was told, the latest first.
+pub record LooksStandFor (looks : Looks) (past : List Told) : Type 0 where
+  pub doubts : DoubtsStandFor looks.doubts (heard past)
+  pub clock : ClockStandsFor looks.clock (heard past)
+  pub after_wrong : AfterWrongStandsFor looks.after_wrong (heard past)
+  pub alarms_are : looks.alarms.items ≡ alarms past
 
 -- These items came.
 pub record StandsFor (kept : Alarms) (setting : Setting) (items : List Item) : Type 0 where

@@ -1,15 +1,17 @@
 -- What holds of each history. Items are listed with the latest first, alarms in the order in which they came.
-use Rattle.std.specs.Prelude.{◌≡◌, ◌≤◌, ◌<◌, ◌-◌, ◌/◌, ℕ, Bool, true, false, List, [], ◌∷◌, Some, None}
+use Rattle.std.specs.Prelude.{◌≡◌, ◌≢◌, ◌≤◌, ◌<◌, ◌-◌, ◌/◌, ℕ, Bool, true, false, List, [], ◌∷◌, ◌++◌, Some, None, ⊤}
 use Rattle.chess_rules.specs.Valid.{Valid}
 use Rattle.board_events.specs.Settings.{Setting}
-use Rattle.board_looks.specs.declared.look.Look.{Look}
-use Rattle.board_looks.specs.declared.look.Told.{Told}
+use Rattle.board_alarms.specs.declared.look.Look.{Look}
+use Rattle.board_alarms.specs.declared.look.Look.TheVariants.{Suspected}
+use Rattle.board_alarms.specs.declared.look.Told.{Told}
 use Rattle.dgt_frame.specs.declared.events.Event.{Event}
 use Rattle.board_alarms.specs.declared.chunk.Chunk.{Chunk}
-use Rattle.board_alarms.specs.declared.news.News.TheVariants.{Gone, Looked}
+use Rattle.board_alarms.specs.declared.news.News.TheVariants.{Gone, Looked, Suspects}
 use Rattle.board_alarms.specs.Gaps.{gap_before}
 use Rattle.board_alarms.specs.Hearing.{AreOpen, ClockIsStopped, Tells}
 use Rattle.board_alarms.specs.Items.{Item, Noted, Sent, is_sent}
+use Rattle.board_alarms.specs.Looking.{Has}
 
 -- From a valid start, one thing is told of what came: so the alarms that are open follow from it.
 abbrev pub TellsOnce : Type 0
@@ -42,3 +44,17 @@ QuietIsAGap = (last chunk : Chunk) (event : Event) (items : List Item) → AreSe
 abbrev pub CutIsAGap : Type 0
 CutIsAGap = (last chunk : Chunk) (event : Event) (items : List Item) (at : ℕ) → AreSent last chunk
     → gap_before chunk (Noted at Gone ∷ Sent last event ∷ items) ≡ Some (record { lasted = chunk.when.at - last.when.at; is_restart = false })
+
+-- Nobody says that he has looked.
+abbrev pub IsNoLook : Item → Type 0
+IsNoLook (Sent chunk event) = ⊤
+IsNoLook (Noted at news) = news ≢ Looked
+
+abbrev pub NobodyHasLooked : List Item → Type 0
+NobodyHasLooked [] = ⊤
+NobodyHasLooked (item ∷ items) = IsNoLook item × NobodyHasLooked items
+
+-- What is suspected is open until then, whatever the board sends, and whatever else happens.
+abbrev pub SuspicionStaysOpen : Type 0
+SuspicionStaysOpen = (setting : Setting) (n at : ℕ) (items later : List Item) (looks : List Look) → NobodyHasLooked later
+    → AreOpen setting (later ++ Noted at (Suspects n) ∷ items) looks → Has (Suspected n) looks

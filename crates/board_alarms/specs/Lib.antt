@@ -5,4 +5,6 @@ pub mod Inside
 pub mod Items
 pub mod Keeping
 pub mod Laws
+pub mod Looking
+pub mod Looks
 pub mod Plies

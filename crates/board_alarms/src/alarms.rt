@@ -2,20 +2,20 @@
 ghost use Rattle.std.specs.Prelude.{◌≡◌, ◌∷◌, [], List, OnOk};
 ghost use Rattle.board_events.specs.Session.{HasTakenEvents};
 ghost use Rattle.board_events.specs.Settings.{Setting};
-ghost use Rattle.board_looks.specs.declared.look.Told.{Told as ToldOf};
-ghost use Rattle.board_looks.specs.Keeping.{StandsFor as LooksStandFor};
+ghost use Rattle.board_alarms.specs.declared.look.Told.{Told as ToldOf};
 ghost use Rattle.board_alarms.specs.Hearing.{AreOpen, ClockIsStopped, HasMoved, HasResult, IsShown, last_shown, moves, shown_at, with_news};
 ghost use Rattle.board_alarms.specs.Items.{Item, Noted, Sent, events_of};
-ghost use Rattle.board_alarms.specs.Keeping.{StandsFor};
+ghost use Rattle.board_alarms.specs.Keeping.{LooksStandFor, StandsFor};
 
 use crate::chunk::{Chunk, When};
 use crate::course::Course;
 use crate::event_heard::{tell, tell_clock, tell_gap, tell_picture, tell_plies, tell_result};
 use crate::line::Line;
+use crate::look::{Look, Told};
+use crate::looks::Looks;
 use crate::news::{News, Sight};
 use board_doubts::Heard;
 use board_events::Session;
-use board_looks::{Look, Looks, Told};
 use chess_clock::Reading;
 use chess_game::result_at;
 use chess_rules::Position;

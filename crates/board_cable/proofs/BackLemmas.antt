@@ -1,8 +1,8 @@
 -- What is kept back, one turn later.
 use Rattle.std.proofs.Common.{◌≡◌, ℕ, List, [], ◌∷◌, ◌++◌, Option, ap, subst, ◌∙◌}
 use Rattle.std.specs.Prelude.{if◌then◌else◌}
-use Rattle.board_asking.specs.declared.whose.Handling.{Handling}
-use Rattle.board_asking.specs.Whose.{own_number}
+use Rattle.board_cable.specs.declared.whose.Handling.{Handling}
+use Rattle.board_cable.specs.Whose.{own_number}
 use Rattle.board_cable.specs.declared.back.Back.{Back}
 use Rattle.board_cable.specs.declared.happened.What.{What}
 use Rattle.board_cable.specs.Keeping.{HasBack, aside, aside_by, ends_aside, ends_held, held_by, owner, owner_by, released_by}

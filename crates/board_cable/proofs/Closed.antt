@@ -7,14 +7,14 @@ use Rattle.dgt_frame.specs.declared.events.Event.{Event as Shown}
 use Rattle.dgt_frame.specs.declared.events.Event.TheVariants.{Message as MessageEvent, Fault}
 use Rattle.dgt_frame.specs.declared.events.Message.TheVariants.{Dump, Update, Time, Other as OtherMessage}
 use Rattle.dgt_frame.specs.Streams.{Timed}
-use Rattle.board_asking.specs.declared.line.Event.{Event}
-use Rattle.board_asking.specs.declared.line.Request.{Request}
-use Rattle.board_asking.specs.declared.line.Happening.TheVariants.{Numbers}
-use Rattle.board_asking.specs.Asking.{next_request, with_request}
-use Rattle.board_asking.specs.Line.{is_open}
-use Rattle.board_asking.specs.Pace.{may_ask, would_help}
-use Rattle.board_asking.specs.Serial.{is_serial}
-use Rattle.board_asking.specs.Whose.{shown_number}
+use Rattle.board_cable.specs.declared.line.Event.{Event}
+use Rattle.board_cable.specs.declared.line.Request.{Request}
+use Rattle.board_cable.specs.declared.line.Happening.TheVariants.{Numbers}
+use Rattle.board_cable.specs.Asking.{next_request, with_request}
+use Rattle.board_cable.specs.Line.{is_open}
+use Rattle.board_cable.specs.Pace.{may_ask, would_help}
+use Rattle.board_cable.specs.Serial.{is_serial}
+use Rattle.board_cable.specs.Whose.{shown_number}
 use Rattle.board_cable.specs.declared.happened.What.{What}
 use Rattle.board_cable.specs.declared.happened.What.TheVariants.{Begins, Opens, Takes, Closes, HangsUp}
 use Rattle.board_cable.specs.Frames.{last_five, told_of, with_happening, with_shown}

@@ -2,16 +2,16 @@
 use Rattle.std.proofs.Common.{◌≡◌, ◌+◌, ◌&&◌, ℕ, nat_lt, not, Bool, true, false, List, [], ◌∷◌, ◌++◌, Option, Some, None, refl, sym, ap, ap₂, subst, ◌∙◌, arith}
 use Rattle.std.specs.Prelude.{if◌then◌else◌}
 use Rattle.std.proofs.lemmas.Bool.{lt-leb}
-use Rattle.board_asking.specs.declared.line.Event.{Event}
-use Rattle.board_asking.specs.declared.line.Request.{Request}
-use Rattle.board_asking.specs.declared.line.Request.TheVariants.{Dump, Numbered, Start}
-use Rattle.board_asking.specs.declared.line.Happening.TheVariants.{Asks}
-use Rattle.board_asking.specs.declared.whose.Handling.{Handling}
-use Rattle.board_asking.specs.declared.whose.Handling.TheVariants.{Hold, Keep, Other}
-use Rattle.board_asking.specs.Asking.{next_request, request_at, with_request}
-use Rattle.board_asking.specs.Line.{is_open}
-use Rattle.board_asking.specs.Pace.{asks, would_help}
-use Rattle.board_asking.specs.Whose.{awaited_at, awaited_by, dumps_by, dumps_since, handling_at, handling_by, is_awaited, own_number, shown_number}
+use Rattle.board_cable.specs.declared.line.Event.{Event}
+use Rattle.board_cable.specs.declared.line.Request.{Request}
+use Rattle.board_cable.specs.declared.line.Request.TheVariants.{Dump, Numbered, Start}
+use Rattle.board_cable.specs.declared.line.Happening.TheVariants.{Asks}
+use Rattle.board_cable.specs.declared.whose.Handling.{Handling}
+use Rattle.board_cable.specs.declared.whose.Handling.TheVariants.{Hold, Keep, Other}
+use Rattle.board_cable.specs.Asking.{next_request, request_at, with_request}
+use Rattle.board_cable.specs.Line.{is_open}
+use Rattle.board_cable.specs.Pace.{asks, would_help}
+use Rattle.board_cable.specs.Whose.{awaited_at, awaited_by, dumps_by, dumps_since, handling_at, handling_by, is_awaited, own_number, shown_number}
 use Rattle.board_cable.specs.declared.happened.What.{What}
 use Rattle.board_cable.specs.declared.happened.What.TheVariants.{Wakes}
 use Rattle.board_cable.specs.Keeping.{are_same, aside, aside_by, ends_aside, ends_held, held, held_by, kept, kept_by, owner, released_by}

@@ -1,9 +1,9 @@
 -- What the game gets was sent, in this order.
 use Rattle.std.proofs.Common.{ℕ, nat_lt, Bool, true, false, List, [], ◌∷◌, ◌++◌, Option, Some, length, refl, sym, subst, ◌∙◌, append_assoc, append-nil, inl, inr}
 use Rattle.std.specs.Prelude.{if◌then◌else◌}
-use Rattle.board_asking.specs.declared.whose.Handling.{Handling}
-use Rattle.board_asking.specs.declared.whose.Handling.TheVariants.{Hold, Keep, Other}
-use Rattle.board_asking.specs.Whose.{own_number}
+use Rattle.board_cable.specs.declared.whose.Handling.{Handling}
+use Rattle.board_cable.specs.declared.whose.Handling.TheVariants.{Hold, Keep, Other}
+use Rattle.board_cable.specs.Whose.{own_number}
 use Rattle.board_cable.specs.Keeping.{are_same, aside, aside_by, ends_aside, ends_held, held, held_by, kept_by, limit, limited, owner, released_by}
 use Rattle.board_cable.specs.Laws.{AreSomeOf, IsKeptInOrder, all_kept, all_sent}
 use Rattle.board_cable.specs.Moments.{sent}

@@ -1,27 +1,27 @@
 -- How many bytes are kept, kept back and dropped.
-use Rattle.std.proofs.Common.{◌≡◌, ◌+◌, ◌≤◌, ◌<◌, ◌⊎◌, inl, inr, ℕ, nat_lt, Bool, true, false, List, [], ◌∷◌, ◌++◌, Option, Some, length, refl, sym, ap, subst, ◌∙◌, append_assoc, append-nil, length-append, arith}
+use Rattle.std.proofs.Common.{◌≡◌, ◌+◌, ◌≤◌, ◌<◌, inl, inr, ℕ, nat_lt, Bool, true, false, List, [], ◌∷◌, ◌++◌, Option, Some, length, refl, sym, ap, subst, ◌∙◌, append_assoc, append-nil, length-append, arith}
 use Rattle.std.specs.Prelude.{if◌then◌else◌}
 use Rattle.std.specs.List.{list_all}
-use Rattle.std.proofs.lemmas.Bool.{and_parts, ltb-true, true≢false}
-use Rattle.board_asking.specs.declared.whose.Handling.{Handling}
-use Rattle.board_asking.specs.declared.whose.Handling.TheVariants.{Hold, Keep, Other}
-use Rattle.board_asking.specs.Whose.{own_number}
+use Rattle.std.proofs.lemmas.Bool.{and_parts, cases_Bool, ltb-true, true≢false}
+use Rattle.board_cable.specs.declared.whose.Handling.{Handling}
+use Rattle.board_cable.specs.declared.whose.Handling.TheVariants.{Hold, Keep, Other}
+use Rattle.board_cable.specs.Whose.{own_number}
 use Rattle.board_cable.specs.declared.happened.What.{What}
-use Rattle.board_cable.specs.declared.happened.What.TheVariants.{Begins, Opens, Answers, Closes, HangsUp, Hears, Interrupts, Takes, Owns, Lends, Wakes}
-use Rattle.board_cable.specs.Keeping.{are_same, aside, aside_by, ends_aside, ends_held, held, held_by, kept, kept_by, limit, limited, owner, released, released_by}
+use Rattle.board_cable.specs.declared.happened.What.TheVariants.{Begins, Opens, Closes, HangsUp, Lends}
+use Rattle.board_cable.specs.Keeping.{are_same, aside, aside_by, ends_aside, ends_held, held, held_by, kept, kept_by, limit, limited, owner, released_by}
 use Rattle.board_cable.specs.Laws.{all_kept, all_sent}
-use Rattle.board_cable.specs.Lost.{HeldComesWhole, NoByteIsLost, all_lent, begins, dropped, dropped_by, dropped_now, holds, holds_on, is_cut, is_lent, lends, lent_now, too_many}
+use Rattle.board_cable.specs.Lost.{HeldComesWhole, NoByteIsLost, all_lent, begins, dropped_by, holds, holds_on, is_cut, is_lent, lends, lent_now, too_many}
 use Rattle.board_cable.specs.Moments.{sent}
 use Rattle.board_cable.specs.Turns.{Turn, handling_of}
 
-cut_is : (what : What) → ends_held what ≡ is_cut what
+pub cut_is : (what : What) → ends_held what ≡ is_cut what
 cut_is Begins = refl
 cut_is Opens = refl
 cut_is Closes = refl
 cut_is HangsUp = refl
 cut_is other = refl
 
-lent_is : (what : What) → ends_aside what ≡ is_lent what
+pub lent_is : (what : What) → ends_aside what ≡ is_lent what
 lent_is Begins = refl
 lent_is Lends = refl
 lent_is other = refl
@@ -106,12 +106,8 @@ no_byte_is_lost (turn ∷ turns) =
     let l = two (all_sent turns) s in
     omega arith
 
-cases_of : (b : Bool) → (b ≡ true) ⊎ (b ≡ false)
-cases_of true = inl refl
-cases_of false = inr refl
-
-fits : (limit n : ℕ) → n ≤ limit → nat_lt limit n ≡ false
-fits limit n few = elim (cases_of (nat_lt limit n)) [ inl more ↦ (let h : limit < n = ltb-true limit n more in absurd (let never : ⊥ = omega arith in never)) | inr other ↦ other ]
+pub fits : (limit n : ℕ) → n ≤ limit → nat_lt limit n ≡ false
+fits limit n few = elim (cases_Bool (nat_lt limit n)) [ inl more ↦ (let h : limit < n = ltb-true limit n more in absurd (let never : ⊥ = omega arith in never)) | inr other ↦ other ]
 
 abbrev is_other : Handling → Bool
 is_other (Other number) = true

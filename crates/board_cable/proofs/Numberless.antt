@@ -1,9 +1,9 @@
 -- A game whose board's number isn't known gets what is sent, as it comes.
 use Rattle.std.proofs.Common.{◌≡◌, ℕ, Bool, true, false, List, [], ◌∷◌, ◌++◌, Option, Some, None, is_some, refl, sym, ap, ap₂, ◌∙◌}
 use Rattle.std.specs.Prelude.{if◌then◌else◌}
-use Rattle.board_asking.specs.declared.whose.Handling.{Handling}
-use Rattle.board_asking.specs.declared.whose.Handling.TheVariants.{Keep}
-use Rattle.board_asking.specs.Whose.{awaited_at, dumps_since, handling_by, is_awaited, own_number, shown_number}
+use Rattle.board_cable.specs.declared.whose.Handling.{Handling}
+use Rattle.board_cable.specs.declared.whose.Handling.TheVariants.{Keep}
+use Rattle.board_cable.specs.Whose.{awaited_at, dumps_since, handling_by, is_awaited, own_number, shown_number}
 use Rattle.board_cable.specs.Keeping.{are_same, aside, aside_by, ends_aside, ends_held, held, held_by, kept_by, owner, released_by}
 use Rattle.board_cable.specs.Laws.{IsKeptWithoutNumber}
 use Rattle.board_cable.specs.Moments.{Moment, is_heard, sent, stream}

@@ -2,9 +2,9 @@
 use Rattle.std.proofs.Common.{◌≡◌, ℕ, nat_lt, Bool, true, false, List, [], ◌∷◌, ◌++◌, refl, sym, ap, ap₂, subst, ◌∙◌}
 use Rattle.std.proofs.lemmas.List.{append_cancel_left}
 use Rattle.dgt_frame.proofs.OnceLemmas.{shows_once}
-use Rattle.board_asking.specs.declared.line.Event.{Event}
-use Rattle.board_asking.specs.declared.line.Happening.TheVariants.{Comes}
-use Rattle.board_asking.specs.Asking.{StandsFor as AskingStandsFor}
+use Rattle.board_cable.specs.declared.line.Event.{Event}
+use Rattle.board_cable.specs.declared.line.Happening.TheVariants.{Comes}
+use Rattle.board_cable.specs.Asking.{StandsFor as AskingStandsFor}
 use Rattle.board_cable.specs.declared.cable.Cable.{Cable}
 use Rattle.board_cable.specs.Cable.{StandsFor}
 use Rattle.board_cable.specs.Frames.{TellsRead, with_shown}

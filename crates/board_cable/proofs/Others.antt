@@ -4,9 +4,9 @@ use Rattle.std.specs.Prelude.{if◌then◌else◌}
 use Rattle.std.specs.List.{list_all}
 use Rattle.std.specs.Str.{bytes_eq}
 use Rattle.std.proofs.lemmas.Bool.{and_parts}
-use Rattle.board_asking.specs.declared.whose.Handling.{Handling}
-use Rattle.board_asking.specs.declared.whose.Handling.TheVariants.{Hold, Keep, Other}
-use Rattle.board_asking.specs.Whose.{awaited_at, dumps_since, handling_by, is_awaited, own_number, shown_number}
+use Rattle.board_cable.specs.declared.whose.Handling.{Handling}
+use Rattle.board_cable.specs.declared.whose.Handling.TheVariants.{Hold, Keep, Other}
+use Rattle.board_cable.specs.Whose.{awaited_at, dumps_since, handling_by, is_awaited, own_number, shown_number}
 use Rattle.board_cable.specs.Keeping.{are_same, aside, ends_aside, ends_held, held, held_by, kept_by, owner, owner_by, released_by}
 use Rattle.board_cable.specs.Laws.{AreSomeOf, OthersAreNotKept, all_kept, all_sent, owns}
 use Rattle.board_cable.specs.Moments.{Moment, is_heard, sent, stream}

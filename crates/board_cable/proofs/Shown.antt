@@ -1,7 +1,7 @@
 -- What the events of the bytes tell, one after the other.
 use Rattle.std.proofs.Common.{◌≡◌, ℕ, suc, ◌+◌, List, [], ◌∷◌, ◌++◌, length, take, refl, ap, ◌∙◌, arith}
 use Rattle.dgt_frame.specs.Streams.{Timed}
-use Rattle.board_asking.specs.declared.line.Event.{Event}
+use Rattle.board_cable.specs.declared.line.Event.{Event}
 use Rattle.board_cable.specs.Frames.{told_of, with_happening, with_shown}
 
 pub shown_more : (at : ℕ) (bytes : List ℕ) (shown : List Timed) (one : Timed) (past : List Event)

@@ -1,6 +1,6 @@
 -- What a cable stands for, and what it answers.
 use Rattle.std.specs.Prelude.{◌≡◌, List}
-use Rattle.board_asking.specs.Asking.{StandsFor as AskingStandsFor}
+use Rattle.board_cable.specs.Asking.{StandsFor as AskingStandsFor}
 use Rattle.board_cable.specs.declared.cable.Answer.{Answer}
 use Rattle.board_cable.specs.declared.cable.Cable.{Cable}
 use Rattle.board_cable.specs.Frames.{HasFrames}

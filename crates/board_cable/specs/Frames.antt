@@ -5,10 +5,10 @@ use Rattle.dgt_frame.specs.declared.events.Event.TheVariants.{Message as Message
 use Rattle.dgt_frame.specs.declared.events.Message.TheVariants.{Dump, Update, Time, Other}
 use Rattle.dgt_frame.specs.Decoder.{Decoded}
 use Rattle.dgt_frame.specs.Streams.{Shows, Timed}
-use Rattle.board_asking.specs.declared.line.Event.{Event}
-use Rattle.board_asking.specs.declared.line.Happening.{Happening}
-use Rattle.board_asking.specs.declared.line.Happening.TheVariants.{Comes, Dumps, Faults, Numbers, Updates}
-use Rattle.board_asking.specs.Serial.{is_serial}
+use Rattle.board_cable.specs.declared.line.Event.{Event}
+use Rattle.board_cable.specs.declared.line.Happening.{Happening}
+use Rattle.board_cable.specs.declared.line.Happening.TheVariants.{Comes, Dumps, Faults, Numbers, Updates}
+use Rattle.board_cable.specs.Serial.{is_serial}
 use Rattle.board_cable.specs.declared.frames.Frames.{Frames}
 
 -- the last five bytes, with zeros in front of fewer

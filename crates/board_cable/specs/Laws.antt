@@ -1,10 +1,10 @@
 -- What holds of each history at a cable. Lists have the latest first, except bytes.
-use Rattle.std.specs.Prelude.{◌≡◌, ◌⊎◌, ℕ, not, Bool, true, false, List, [], ◌∷◌, ◌++◌, ◌<◌, ◌≤◌, ◌^◌, Option, None, ⊤}
+use Rattle.std.specs.Prelude.{◌≡◌, ◌⊎◌, ℕ, not, Bool, true, false, List, [], ◌∷◌, ◌++◌, ◌<◌, ◌≤◌, ◌^◌, Option, Some, None, ⊤}
 use Rattle.std.specs.List.{list_all}
-use Rattle.board_asking.specs.declared.whose.Handling.TheVariants.{Other}
-use Rattle.board_asking.specs.Lasting.{IsBefore}
-use Rattle.board_asking.specs.Pace.{AsksAlike}
-use Rattle.board_asking.specs.Whose.{HandledAlike, own_number}
+use Rattle.board_cable.specs.declared.whose.Handling.TheVariants.{Hold, Keep, Other}
+use Rattle.board_cable.specs.Lasting.{IsBefore}
+use Rattle.board_cable.specs.Pace.{AsksAlike}
+use Rattle.board_cable.specs.Whose.{HandledAlike, own_number, shown_number}
 use Rattle.board_cable.specs.declared.happened.What.{What}
 use Rattle.board_cable.specs.declared.happened.What.TheVariants.{Begins, Opens, Takes, Owns, Wakes}
 use Rattle.board_cable.specs.Keeping.{kept}
@@ -69,3 +69,10 @@ EarlyWakesChangeNothing = (past : List Moment) (wake turn : Turn) (turns : List 
     → wake.moment.what ≡ Wakes → wake.moment.at < 2 ^ 64 → turn.moment.at ≤ wake.moment.at → IsBefore wake.moment.at due
     → AsksAlike turn.moment.at (told (turn ∷ turns)) due → HandledAlike turn.moment.at (told (turn ∷ turns)) due
     → (request_of wake ≡ None) × (kept (wake ∷ turn ∷ turns) ≡ [])
+
+-- If the arbiter takes the board on the cable, the number that it has shown is the game's, and what it sends is no other board's. If it
+-- has shown none, nothing changes.
+abbrev pub TakenBoardIsOwn : Type 0
+TakenBoardIsOwn = (past : List Moment) (turn : Turn) (turns : List Turn) → Told past (turn ∷ turns) → turn.moment.what ≡ Takes
+    → ((number : List ℕ) → shown_number (told turns) ≡ Some number → (own_number turn.now ≡ Some number) × ((handling_of turn ≡ Keep) ⊎ (handling_of turn ≡ Hold)))
+    × (shown_number (told turns) ≡ None → turn.now ≡ told turns)

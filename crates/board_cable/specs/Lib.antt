@@ -1,3 +1,15 @@
+pub mod Lasting
+pub mod Line
+pub mod Pace
+pub mod Starting
+pub mod Silence
+pub mod Whose
+pub mod Serial
+pub mod Asking
+pub mod Still
+pub mod Requests
+pub mod Silences
+pub mod Numbers
 pub mod Moments
 pub mod Frames
 pub mod Turns

@@ -1,9 +1,10 @@
 -- What a cable drops, and why. Turns are listed with the latest first.
-use Rattle.std.specs.Prelude.{◌≡◌, ◌+◌, ◌≤◌, ℕ, nat_lt, Bool, true, false, if◌then◌else◌, List, [], ◌∷◌, ◌++◌, length, Option, Some}
+use Rattle.std.specs.Prelude.{◌≡◌, ◌+◌, ◌≤◌, ◌&&◌, ◌||◌, not, ℕ, nat_lt, Bool, true, false, if◌then◌else◌, List, [], ◌∷◌, ◌++◌, length, Option, Some}
 use Rattle.std.specs.List.{list_all}
-use Rattle.board_asking.specs.declared.whose.Handling.{Handling}
-use Rattle.board_asking.specs.declared.whose.Handling.TheVariants.{Keep, Hold, Other}
-use Rattle.board_asking.specs.Whose.{own_number}
+use Rattle.std.specs.Str.{bytes_eq}
+use Rattle.board_cable.specs.declared.whose.Handling.{Handling}
+use Rattle.board_cable.specs.declared.whose.Handling.TheVariants.{Keep, Hold, Other}
+use Rattle.board_cable.specs.Whose.{own_number}
 use Rattle.board_cable.specs.declared.happened.What.{What}
 use Rattle.board_cable.specs.declared.happened.What.TheVariants.{Begins, Opens, Closes, HangsUp, Lends}
 use Rattle.board_cable.specs.Keeping.{are_same, aside, held, kept, owner}
@@ -82,3 +83,20 @@ abbrev pub HeldComesWhole : Type 0
 HeldComesWhole = (turn : Turn) (since before : List Turn) → held before ≡ [] → list_all holds_on since ≡ true → is_cut turn.moment.what ≡ false
     → handling_of turn ≡ Keep → length (all_sent since) ≤ 1048576
     → (front : List ℕ) × (kept (turn ∷ since ++ before) ≡ front ++ all_sent (turn ∷ since))
+
+-- What is sent at this turn is kept back: it is held, or it is known that the board with this number sends it. And nothing is dropped or
+-- lent.
+abbrev pub kept_back_by : List ℕ → Handling → Bool
+kept_back_by number Keep = false
+kept_back_by number Hold = true
+kept_back_by number (Other other) = bytes_eq other number
+
+abbrev pub is_kept_back : List ℕ → Turn → Bool
+is_kept_back number turn = kept_back_by number (handling_of turn) && not (is_cut turn.moment.what || is_lent turn.moment.what)
+
+-- What was aside comes whole: once the game has the number of a board, all that it has sent while that was kept back comes to the game,
+-- in its order, unless it is more than 1,048,576 bytes.
+abbrev pub AsideComesWhole : Type 0
+AsideComesWhole = (number : List ℕ) (turn : Turn) (since before : List Turn) → aside before ≡ [] → held before ≡ [] → list_all (is_kept_back number) since ≡ true
+    → (is_cut turn.moment.what || is_lent turn.moment.what) ≡ false → handling_of turn ≡ Keep → own_number turn.now ≡ Some number
+    → length (all_sent since) ≤ 1048576 → kept (turn ∷ since ++ before) ≡ all_sent (turn ∷ since)

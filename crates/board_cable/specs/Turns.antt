@@ -1,12 +1,12 @@
 -- What is told of a board's line as things happen, one turn for each. Lists have the latest first.
 use Rattle.std.specs.Prelude.{◌≡◌, ℕ, Bool, true, false, List, [], ◌∷◌, Option, Some, None, ⊤}
-use Rattle.board_asking.specs.declared.line.Event.{Event}
-use Rattle.board_asking.specs.declared.line.Request.{Request}
-use Rattle.board_asking.specs.declared.line.Happening.{Happening}
-use Rattle.board_asking.specs.declared.line.Happening.TheVariants.{Begins as LineBegins, Opens as LineOpens, Answers as LineAnswers, Closes as LineCloses, HangsUp as LineHangsUp, Interrupts as LineInterrupts, Owns as LineOwns}
-use Rattle.board_asking.specs.declared.whose.Handling.{Handling}
-use Rattle.board_asking.specs.Asking.{request_at, with_request}
-use Rattle.board_asking.specs.Whose.{handling_at, shown_number}
+use Rattle.board_cable.specs.declared.line.Event.{Event}
+use Rattle.board_cable.specs.declared.line.Request.{Request}
+use Rattle.board_cable.specs.declared.line.Happening.{Happening}
+use Rattle.board_cable.specs.declared.line.Happening.TheVariants.{Begins as LineBegins, Opens as LineOpens, Answers as LineAnswers, Closes as LineCloses, HangsUp as LineHangsUp, Interrupts as LineInterrupts, Owns as LineOwns}
+use Rattle.board_cable.specs.declared.whose.Handling.{Handling}
+use Rattle.board_cable.specs.Asking.{request_at, with_request}
+use Rattle.board_cable.specs.Whose.{handling_at, shown_number}
 use Rattle.board_cable.specs.declared.happened.What.{What}
 use Rattle.board_cable.specs.declared.happened.What.TheVariants.{Begins, Opens, Answers, Closes, HangsUp, Hears, Interrupts, Takes, Owns, Lends, Wakes}
 use Rattle.board_cable.specs.Moments.{Moment, is_heard, stream}

@@ -3,7 +3,7 @@ ghost use Rattle.std.specs.Prelude.{◌≡◌, ◌++◌, [], None, Some, OnOk, i
 ghost use Rattle.board_cable.specs.Keeping.{HasBack, are_same, aside_by, ends_aside, ends_held, held_by, limited, owner_by, released_by};
 
 use crate::happened::{What, ends_aside, ends_held};
-use board_asking::Handling;
+use crate::whose::Handling;
 use std::alloc::{AllocError, Global};
 
 /// The most bytes that are held, and that are kept aside.

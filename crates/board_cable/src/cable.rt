@@ -1,20 +1,22 @@
 //! The machine: it takes what happens at a board's cable, and answers what the board is sent and which bytes the game gets.
 ghost use Rattle.std.specs.Prelude.{◌≡◌, ◌<◌, ◌∷◌, [], List, IfOk, IfSome, OnOk};
-ghost use Rattle.board_asking.specs.declared.line.Event.{Event as ToldOf};
-ghost use Rattle.board_asking.specs.Asking.{Changes, StandsFor as AskingStandsFor};
-ghost use Rattle.board_asking.specs.Pace.{AsksAlike};
-ghost use Rattle.board_asking.specs.Silence.{is_silent};
-ghost use Rattle.board_asking.specs.Whose.{HandledAlike, is_own, own_number, shown_number};
+ghost use Rattle.board_cable.specs.declared.line.Event.{Event as ToldOf};
+ghost use Rattle.board_cable.specs.Asking.{Changes, StandsFor as AskingStandsFor};
+ghost use Rattle.board_cable.specs.Pace.{AsksAlike};
+ghost use Rattle.board_cable.specs.Silence.{is_silent};
+ghost use Rattle.board_cable.specs.Whose.{HandledAlike, is_own, own_number, shown_number};
 ghost use Rattle.board_cable.specs.Moments.{Moment, moment_of, sent, stream};
 ghost use Rattle.board_cable.specs.Frames.{HasFrames, with_happening};
 ghost use Rattle.board_cable.specs.Turns.{Tells, Told, Turn, told, told_by};
 ghost use Rattle.board_cable.specs.Keeping.{aside, released};
 ghost use Rattle.board_cable.specs.Cable.{Answers, StandsFor};
 
+use crate::asking::Asking;
 use crate::back::Back;
 use crate::frames::Frames;
 use crate::happened::{Happened, is_heard, told_by};
-use board_asking::{Asking, Event, Handling, Request};
+use crate::line::{Event, Request};
+use crate::whose::Handling;
 use std::alloc::{AllocError, Global};
 
 /// A board's cable.

@@ -2,13 +2,15 @@
 ghost use Rattle.std.specs.Prelude.{◌≡◌, ◌∷◌, ◌++◌, [], ℕ, List, drop, if◌then◌else◌};
 ghost use Rattle.dgt_frame.specs.Decoder.{Decoded};
 ghost use Rattle.dgt_frame.specs.Streams.{Timed};
-ghost use Rattle.board_asking.specs.declared.line.Event.{Event as ToldOf};
-ghost use Rattle.board_asking.specs.Asking.{StandsFor};
+ghost use Rattle.board_cable.specs.declared.line.Event.{Event as ToldOf};
+ghost use Rattle.board_cable.specs.Asking.{StandsFor};
 ghost use Rattle.board_cable.specs.Moments.{is_anew};
 ghost use Rattle.board_cable.specs.Frames.{HasFrames, TellsRead, last_five, number_in, told_of, with_happening, with_shown};
 
+use crate::asking::Asking;
 use crate::happened::{What, is_anew};
-use board_asking::{Asking, Event as Told, Happening, serial_in};
+use crate::line::{Event as Told, Happening};
+use crate::serial::serial_in;
 use dgt_frame::{BLANK, Decoder, Event, Message};
 
 /// Reads the frames of what a board sends.

@@ -4,7 +4,7 @@ ghost use Rattle.board_cable.specs.Keeping.{ends_aside, ends_held};
 ghost use Rattle.board_cable.specs.Moments.{is_anew, is_heard};
 ghost use Rattle.board_cable.specs.Turns.{told_by};
 
-use board_asking::Happening;
+use crate::line::Happening;
 
 /// What happens.
 #[derive(Clone, Copy)]

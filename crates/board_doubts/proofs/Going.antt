@@ -2,6 +2,7 @@
 use Rattle.std.proofs.Common.{◌≡◌, ◌==◌, ◌&&◌, ◌/◌, ◌%◌, not, ℕ, Bool, true, false, List, slice_index, refl, ap, ◌∙◌, arith}
 use Rattle.std.specs.Int.{abs_diff}
 use Rattle.std.proofs.lemmas.Bool.{eq-eqb}
+use Rattle.std.proofs.Math.Bool.{and-false}
 use Rattle.square_runs.proofs.Squares.{any_none, any_some}
 use Rattle.board_doubts.specs.Elsewhere.{comes, comes_from, differs, elsewhere, may_have_gone}
 use Rattle.board_doubts.specs.Laws.{CouldGoBack, NoPawnCounts, ReturnCounts}
@@ -28,10 +29,6 @@ return_counts seen black earlier before position picture s home low sees = (
   (λ back. sees.others s low ∙ counts (not black) position picture s home back),
 )
 
-and_false : (b : Bool) → (b && false) ≡ false
-and_false true = refl
-and_false false = refl
-
 no_pawn : (kind ranks files : ℕ) → kind ≡ 1 → goes kind ranks files ≡ false
 no_pawn kind ranks files e = ap (λ k. goes k ranks files) e
 
@@ -39,8 +36,8 @@ never : (black : Bool) (position picture : List ℕ) (s : ℕ) → kind_of (slic
 never black position picture s pawn =
     ap (λ b. elsewhere black position picture s && b) (any_none 64 (comes_from position picture s) (λ from low.
     let here : Bool = (slice_index position from == slice_index picture s) && differs position picture from in
-    ap (λ b. here && b) (no_pawn (kind_of (slice_index picture s)) (ranks from s) (files from s) pawn) ∙ and_false here))
-    ∙ and_false (elsewhere black position picture s)
+    ap (λ b. here && b) (no_pawn (kind_of (slice_index picture s)) (ranks from s) (files from s) pawn) ∙ and-false here))
+    ∙ and-false (elsewhere black position picture s)
 
 pub no_pawn_counts : NoPawnCounts
 no_pawn_counts seen black earlier before position picture s low sees pawn =

@@ -1,4 +1,3 @@
-pub mod Masks
 pub mod Paces
 pub mod Lent
 pub mod Passing
@@ -8,3 +7,12 @@ pub mod Again
 pub mod Going
 pub mod Walking
 pub mod Naming
+pub mod Bits
+pub mod Counted
+pub mod Ended
+pub mod FirstTried
+pub mod Pressed
+pub mod Returning
+pub mod BackAtOnce
+pub mod Odd
+pub mod Seventh

@@ -4,6 +4,7 @@ use Rattle.std.specs.Prelude.{if◌then◌else◌, is_some, nat_lt}
 use Rattle.std.specs.Int.{bit_at}
 use Rattle.std.proofs.lemmas.Bool.{le-ltb, true≢false}
 use Rattle.std.proofs.lemmas.Nat.Bits.{bit_at-zero}
+use Rattle.std.proofs.Math.Bool.{and-false}
 use Rattle.square_runs.specs.Lasting.{carry, has_lasted}
 use Rattle.square_runs.specs.Shown.{has, since_when}
 use Rattle.square_runs.proofs.Squares.{any_none}
@@ -127,22 +128,18 @@ none_stands (Counts black) at true since nothing none = refl
 none_stands (Counts black) at false since nothing none = none
 none_stands other at unheard since nothing none = none
 
-runs_on : (said : Event) (past later : List Event) → said.what ≡ Clock true → NoClock later → stands_since (later ++ said ∷ past) ≡ None
+pub runs_on : (said : Event) (past later : List Event) → said.what ≡ Clock true → NoClock later → stands_since (later ++ said ∷ past) ≡ None
 runs_on said past [] runs none = ap (λ what. stands_by what said.at (is_unheard past) (stands_since past)) runs
 runs_on said past (event ∷ later) runs none =
     none_stands event.what event.at (is_unheard (later ++ said ∷ past)) (stands_since (later ++ said ∷ past)) none.0 (runs_on said past later runs none.1)
-
-and_false : (b : Bool) → (b && false) ≡ false
-and_false true = refl
-and_false false = refl
 
 none_tried : (what : Heard) (event : Event) (past : List Event) → stands_since past ≡ None → tries_by what event past ≡ None
 none_tried (Moves repeats) event past none =
     let given : Option Tried = Some (record { moves = tried (event ∷ past); plies = ago (event ∷ past) }) in
     let seen : Bool = not (tried past == 0) in
     ap (λ since. if not event.is_added && ((has_run past && (is_some since && not (is_unheard past))) && (seen || has_lasted seen_late event.at since)) then given else None) none
-    ∙ ap (λ b. if not event.is_added && (b && (seen || false)) then given else None) (and_false (has_run past))
-    ∙ ap (λ b. if b then given else None) (and_false (not event.is_added))
+    ∙ ap (λ b. if not event.is_added && (b && (seen || false)) then given else None) (and-false (has_run past))
+    ∙ ap (λ b. if b then given else None) (and-false (not event.is_added))
 none_tried other event past none = refl
 
 pub running_clock_passes : RunningClockPasses

@@ -2,6 +2,7 @@
 use Rattle.std.proofs.Common.{◌≡◌, ◌≢◌, ◌<◌, ◌≤◌, ◌+◌, ◌-◌, ◌==◌, ◌&&◌, ◌||◌, ◌⊎◌, inl, inr, not, ℕ, zero, suc, min, Bool, true, false, List, [], ◌∷◌, ◌++◌, Option, Some, None, take, refl, subst, sym, ap, ◌∙◌, arith}
 use Rattle.std.specs.Prelude.{if◌then◌else◌, is_some, cond, fold, nat_le, nat_lt, ⊤}
 use Rattle.std.proofs.lemmas.Bool.{le-ltb, lt-ltb, ne_eqb, true≢false}
+use Rattle.std.proofs.Math.Bool.{and-false}
 use Rattle.board_doubts.specs.declared.heard.Doubt.{Doubt}
 use Rattle.board_doubts.specs.declared.heard.Event.{Event}
 use Rattle.board_doubts.specs.declared.heard.Heard.{Heard}
@@ -24,7 +25,7 @@ use Rattle.board_doubts.specs.Thinking.{are_most_lent, counting, is_exchanged, i
 use Rattle.board_doubts.specs.Unheard.{is_unheard}
 use Rattle.board_doubts.specs.Waiting.{has_moved, ply_times, waited}
 
-abbrev meets : (Why → Bool) → Option Why → Bool
+abbrev pub meets : (Why → Bool) → Option Why → Bool
 meets test None = false
 meets test (Some why) = test why
 
@@ -36,7 +37,7 @@ same : (test : Why → Bool) (place : Place) (why : Option Why) → meets_in tes
 same test place None = refl
 same test place (Some why) = refl
 
-chosen : (test : Why → Bool) (b : Bool) (x y : Option Why) → meets test x ≡ false → meets test y ≡ false → meets test (if b then x else y) ≡ false
+pub chosen : (test : Why → Bool) (b : Bool) (x y : Option Why) → meets test x ≡ false → meets test y ≡ false → meets test (if b then x else y) ≡ false
 chosen test true x y one other = one
 chosen test false x y one other = other
 
@@ -73,12 +74,12 @@ silent_not test count None none = refl
 silent_not test count (Some why) none = chosen test (nat_lt count (needed why)) None (Some why) refl none
 
 -- pictures and messages of the clock decide what the last ply is suspected for
-abbrev decides : Heard → Bool
+abbrev pub decides : Heard → Bool
 decides (Shows seen) = true
 decides (Clock runs) = true
 decides other = false
 
-abbrev IsSilentNot : (Why → Bool) → Heard → List Event → Type 0
+abbrev pub IsSilentNot : (Why → Bool) → Heard → List Event → Type 0
 IsSilentNot test what past = decides what ≡ true → (count : ℕ) → count ≤ quiet past → meets test (silent count past) ≡ false
 
 known_most : (unheard : Bool) (count : ℕ) → known unheard count ≤ count
@@ -130,11 +131,11 @@ abbrev is_other_time : Why → Bool
 is_other_time OtherTime = true
 is_other_time _ = false
 
-abbrev is_moved_on : Why → Bool
+abbrev pub is_moved_on : Why → Bool
 is_moved_on MovedOn = true
 is_moved_on _ = false
 
-abbrev is_returned : Why → Bool
+abbrev pub is_returned : Why → Bool
 is_returned Returned = true
 is_returned _ = false
 
@@ -175,7 +176,7 @@ pending_not test not_so (event ∷ past) =
     (chosen test event.is_added None (suspected event.what past) refl (suspected_not test not_so event.what past)) (pending_not test not_so past)
 
 -- what is doubted for the reason of a ply alone
-not_taken_back : (event : Event) (past : List Event) → takes_back event.what past ≡ false → IsSilentNot is_taken_back event.what past
+pub not_taken_back : (event : Event) (past : List Event) → takes_back event.what past ≡ false → IsSilentNot is_taken_back event.what past
     → IsDoubtedFor TakenBack event past → ⊥
 not_taken_back event past none waits =
     let left : Bool = is_left_by event.what (counts_now past) (unpressed past) in
@@ -185,7 +186,7 @@ not_taken_back event past none waits =
     ∙ chosen is_taken_back left (Some Unpressed) (if exchanged then Some OtherTime else None) refl (chosen is_taken_back exchanged (Some OtherTime) None refl refl))
     waits
 
-not_unpressed : (event : Event) (past : List Event) → is_left_by event.what (counts_now past) (unpressed past) ≡ false → IsDoubtedFor Unpressed event past → ⊥
+pub not_unpressed : (event : Event) (past : List Event) → is_left_by event.what (counts_now past) (unpressed past) ≡ false → IsDoubtedFor Unpressed event past → ⊥
 not_unpressed event past none =
     let exchanged : Bool = is_exchanged event.what past in
     let rest : Option Why = if exchanged then Some OtherTime else None in
@@ -194,7 +195,7 @@ not_unpressed event past none =
     ap (λ b. meets is_unpressed (if b then Some Unpressed else rest)) none ∙ chosen is_unpressed exchanged (Some OtherTime) None refl refl))
     (λ is count low. silent_not is_unpressed count (pending past) (pending_not is_unpressed (record { back_is = refl; on_is = refl; again_is = refl }) past))
 
-not_other_time : (event : Event) (past : List Event) → is_exchanged event.what past ≡ false → IsDoubtedFor OtherTime event past → ⊥
+pub not_other_time : (event : Event) (past : List Event) → is_exchanged event.what past ≡ false → IsDoubtedFor OtherTime event past → ⊥
 not_other_time event past none =
     let left : Bool = is_left_by event.what (counts_now past) (unpressed past) in
     not_for is_other_time (record { late_is = refl; elsewhere_is = refl; both_is = refl; gap_is = refl }) OtherTime refl event past (
@@ -211,12 +212,12 @@ never_by_ply test back left other what past =
     chosen test (takes_back what past) (Some TakenBack) (if is_left then Some Unpressed else rest) back (
     chosen test is_left (Some Unpressed) rest left (chosen test (is_exchanged what past) (Some OtherTime) None other refl))
 
-not_moved_on : (event : Event) (past : List Event) → IsSilentNot is_moved_on event.what past → IsDoubtedFor MovedOn event past → ⊥
+pub not_moved_on : (event : Event) (past : List Event) → IsSilentNot is_moved_on event.what past → IsDoubtedFor MovedOn event past → ⊥
 not_moved_on event past =
     not_for is_moved_on (record { late_is = refl; elsewhere_is = refl; both_is = refl; gap_is = refl }) MovedOn refl event past
     (never_by_ply is_moved_on refl refl refl event.what past)
 
-not_returned : (event : Event) (past : List Event) → IsSilentNot is_returned event.what past → IsDoubtedFor Returned event past → ⊥
+pub not_returned : (event : Event) (past : List Event) → IsSilentNot is_returned event.what past → IsDoubtedFor Returned event past → ⊥
 not_returned event past =
     not_for is_returned (record { late_is = refl; elsewhere_is = refl; both_is = refl; gap_is = refl }) Returned refl event past
     (never_by_ply is_returned refl refl refl event.what past)
@@ -347,10 +348,6 @@ few_in (event ∷ past) each =
     few_by event.what event.at (presses event.what past) (counts_now past && not event.is_added) (has_press past) (pressed_at past) (unpressed past) (played past)
     each.0 (few_in past each.1)
 
-and_false : (b : Bool) → (b && false) ≡ false
-and_false true = refl
-and_false false = refl
-
 few_below : (at : Option ℕ) (since : Bool) (count : ℕ) → count ≤ allowed at since → count < 3
 few_below (Some at) since count low = omega (arith, low)
 few_below None true count low = omega (arith, low)
@@ -364,7 +361,7 @@ not_sixth at since count plies (inr low) =
 
 not_left : (what : Heard) (counts : Bool) (at : Option ℕ) (since : Bool) (count : ℕ) (plies : ℕ → Option Ply) → IsFew count at since plies
     → is_left_by what counts count ≡ false
-not_left (Plays ply) counts at since count plies few = ap (λ b. counts && b) (not_sixth at since count plies few) ∙ and_false counts
+not_left (Plays ply) counts at since count plies few = ap (λ b. counts && b) (not_sixth at since count plies few) ∙ and-false counts
 not_left _ counts at since count plies few = refl
 
 -- how many of them have no press
@@ -421,21 +418,21 @@ taken_not event past each (inl never) shown =
     let rest : Bool = ends_pair past || is_odd past in
     ap (λ b. (is_back (plies 0) (plies 2) && b) && rest)
     (back_to_none (plies 1) (plies 3) (no_fourth event.what (has_press past) (played past) each.0 never.2))
-    ∙ ap (λ b. b && rest) (and_false (is_back (plies 0) (plies 2)))
+    ∙ ap (λ b. b && rest) (and-false (is_back (plies 0) (plies 2)))
 taken_not event past each (inr low) shown =
     let back : Bool = both_back (played_by event.what (played past)) in
     let quick : Bool = last_within at_once (ply_times past) in
     let below = few_below (pressed_at past) (has_press past) (unpressed past) low in
     let used : is_used past ≡ true = lt-ltb (unpressed past) many (omega (arith, below)) in
     ap (λ b. back && (ends_pair past || (quick && (is_unhurried past && not b)))) used
-    ∙ ap (λ b. back && (ends_pair past || (quick && b))) (and_false (is_unhurried past))
-    ∙ ap (λ b. back && (ends_pair past || b)) (and_false quick) ∙ ap (λ b. back && (b || false)) shown ∙ and_false back
+    ∙ ap (λ b. back && (ends_pair past || (quick && b))) (and-false (is_unhurried past))
+    ∙ ap (λ b. back && (ends_pair past || b)) (and-false quick) ∙ ap (λ b. back && (b || false)) shown ∙ and-false back
 
 at_least_two : (why : Why) → 2 ≤ needed why
 at_least_two Returned = omega arith
 at_least_two _ = omega arith
 
-silent_few : (test : Why → Bool) (count : ℕ) (waits : Option Why) → count < 2 → meets test (silent_by count waits) ≡ false
+pub silent_few : (test : Why → Bool) (count : ℕ) (waits : Option Why) → count < 2 → meets test (silent_by count waits) ≡ false
 silent_few test count None low = refl
 silent_few test count (Some why) low =
     let two = at_least_two why in
@@ -467,7 +464,7 @@ runs_pressed press past is h = ap (λ what. runs_by what (runs past)) is ∙ h
 counted_by : (what : Heard) (press running quick added : Bool) (before count : ℕ) → press ≡ false → running ≡ true → before ≡ count
     → count + one_by what added quick ≤ 5 → unpressed_by what press ((running && not quick) && not added) before ≡ count + one_by what added quick
 counted_by (Plays ply) press true quick true before count none h e low =
-    ap (λ b. if b then min many (before + 1) else before) (and_false (not quick)) ∙ omega (arith, e)
+    ap (λ b. if b then min many (before + 1) else before) (and-false (not quick)) ∙ omega (arith, e)
 counted_by (Plays ply) press true true false before count none h e low = omega (arith, e)
 counted_by (Plays ply) press true false false before count none h e low = omega (arith, e, low)
 counted_by (Plays ply) press false quick added before count none h e low = absurd (true≢false (sym h))
@@ -530,13 +527,13 @@ still_quiet (Plays ply) press pressed unheard before is none = absurd (true≢fa
 still_quiet _ true pressed unheard before is none = absurd (true≢false none)
 still_quiet _ false pressed unheard before is none = refl
 
-pending_in : (past later : List Event) → NobodyPresses past later → pending (later ++ past) ≡ pending past
+pub pending_in : (past later : List Event) → NobodyPresses past later → pending (later ++ past) ≡ pending past
 pending_in past [] waits = refl
 pending_in past (event ∷ later) waits =
     let all : List Event = later ++ past in
     still_pending event.what (is_unheard all) (if event.is_added then None else suspected event.what all) (pending all) waits.0 ∙ pending_in past later waits.2
 
-quiet_still : (past later : List Event) → NobodyPresses past later → quiet (later ++ past) ≡ quiet past
+pub quiet_still : (past later : List Event) → NobodyPresses past later → quiet (later ++ past) ≡ quiet past
 quiet_still past [] waits = refl
 quiet_still past (event ∷ later) waits =
     let all : List Event = later ++ past in

@@ -2,6 +2,7 @@
 use Rattle.std.proofs.Common.{◌≡◌, ◌≢◌, ◌+◌, ◌==◌, ◌&&◌, ◌||◌, not, ℕ, min, Bool, true, false, List, [], ◌∷◌, ◌++◌, Option, Some, None, refl, sym, ap, ◌∙◌, arith}
 use Rattle.std.specs.Prelude.{if◌then◌else◌, is_some}
 use Rattle.std.proofs.lemmas.Bool.{ne_eqb, true≢false}
+use Rattle.std.proofs.Math.Bool.{or-true}
 use Rattle.square_runs.specs.Lasting.{has_lasted}
 use Rattle.board_doubts.specs.declared.heard.Event.{Event}
 use Rattle.board_doubts.specs.declared.heard.Heard.{Heard}
@@ -11,12 +12,8 @@ use Rattle.board_doubts.specs.Clock.{ago, has_run, is_stopped, most, run_by, see
 use Rattle.board_doubts.specs.Unheard.{is_unheard, unheard_by}
 use Rattle.board_doubts.specs.Laws.{SecondMoveIsTried, StaysStopped, leaves_stopped}
 
-or_true : (b : Bool) → (b || true) ≡ true
-or_true true = refl
-or_true false = refl
-
-ran : (what : Heard) (before : Bool) → before ≡ true → run_by what before ≡ true
-ran (Clock runs) before h = ap (λ b. runs || b) h ∙ or_true runs
+pub ran : (what : Heard) (before : Bool) → before ≡ true → run_by what before ≡ true
+ran (Clock runs) before h = ap (λ b. runs || b) h ∙ or-true runs
 ran _ before h = h
 
 stood : (what : Heard) (at : ℕ) (unheard : Bool) (since : Option ℕ) → leaves_stopped what ≡ true → unheard ≡ false → is_some since ≡ true
@@ -28,7 +25,7 @@ stood Presses at unheard since stays e h = ap (λ b. is_some (if b then None els
 stood (Counts black) at unheard since stays e h = ap (λ b. is_some (if b then None else since)) e ∙ h
 stood _ at unheard since stays e h = h
 
-stood_now : (at : ℕ) (unheard : Bool) (since : Option ℕ) → is_some (stands_by (Clock false) at unheard since) ≡ true
+pub stood_now : (at : ℕ) (unheard : Bool) (since : Option ℕ) → is_some (stands_by (Clock false) at unheard since) ≡ true
 stood_now at unheard None = refl
 stood_now at unheard (Some since) = refl
 
@@ -38,21 +35,21 @@ still_heard (Away gap) before stays h = absurd (true≢false (sym stays))
 still_heard _ before stays h = h
 
 -- The clock has run, and stands, and is heard.
-abbrev Stopped : List Event → Type 0
+abbrev pub Stopped : List Event → Type 0
 Stopped past = (has_run past ≡ true) × (is_some (stands_since past) ≡ true) × (is_unheard past ≡ false)
 
-is_so : (past : List Event) → Stopped past → is_stopped past ≡ true
+pub is_so : (past : List Event) → Stopped past → is_stopped past ≡ true
 is_so past h =
     ap (λ b. b && (is_some (stands_since past) && not (is_unheard past))) h.0 ∙ ap (λ b. b && not (is_unheard past)) h.1 ∙ ap not h.2
 
-stopped_by : (event : Event) (past : List Event) → leaves_stopped event.what ≡ true → Stopped past → Stopped (event ∷ past)
+pub stopped_by : (event : Event) (past : List Event) → leaves_stopped event.what ≡ true → Stopped past → Stopped (event ∷ past)
 stopped_by event past stays h = (
   ran event.what (has_run past) h.0,
   stood event.what event.at (is_unheard past) (stands_since past) stays h.2 h.1,
   still_heard event.what (is_unheard past) stays h.2,
 )
 
-stopped_in : (later past : List Event) → StaysStopped later → Stopped past → Stopped (later ++ past)
+pub stopped_in : (later past : List Event) → StaysStopped later → Stopped past → Stopped (later ++ past)
 stopped_in [] past stays h = h
 stopped_in (event ∷ later) past stays h = stopped_by event (later ++ past) stays.0 (stopped_in later past stays.1 h)
 
@@ -60,7 +57,7 @@ stopped_in (event ∷ later) past stays h = stopped_by event (later ++ past) sta
 counted : (n : ℕ) → min most (n + 1) ≢ 0
 counted n e = omega arith
 
-first_tried : (first : Event) (repeats : Bool) (past : List Event) → Stopped past → first.what ≡ Moves repeats → first.is_added ≡ false
+pub first_tried : (first : Event) (repeats : Bool) (past : List Event) → Stopped past → first.what ≡ Moves repeats → first.is_added ≡ false
     → tried (first ∷ past) ≢ 0
 first_tried first repeats past h moves made none =
     counted (tried past) (
@@ -77,7 +74,7 @@ still_tried (Clock false) added stopped before stays h more e = more e
 still_tried Looked added stopped before stays h more e = absurd (true≢false (sym stays))
 still_tried _ added stopped before stays h more e = more e
 
-tried_in : (later past : List Event) → StaysStopped later → Stopped past → tried past ≢ 0 → tried (later ++ past) ≢ 0
+pub tried_in : (later past : List Event) → StaysStopped later → Stopped past → tried past ≢ 0 → tried (later ++ past) ≢ 0
 tried_in [] past stays h more = more
 tried_in (event ∷ later) past stays h more =
     still_tried event.what event.is_added (is_stopped (later ++ past)) (tried (later ++ past)) stays.0

@@ -3,6 +3,7 @@ pub mod Doubts
 pub mod Elsewhere
 pub mod Keeping
 pub mod Laws
+pub mod Meaning
 pub mod Pace
 pub mod Pictures
 pub mod Plies

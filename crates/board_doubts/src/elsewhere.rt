@@ -7,8 +7,9 @@ ghost use Rattle.board_doubts.specs.Ways.{can_go as can_go_of};
 
 use crate::heard::Seen;
 use crate::logic::{both, either};
-use crate::squares::{differing, first_square, with_if, without};
+use crate::squares::differing;
 use crate::ways::can_go;
+use square_runs::{first_square, with_if, without};
 
 /// What a picture is compared with. Before the first moves these positions are the same.
 #[derive(Clone, Copy)]

@@ -1,5 +1,6 @@
 //! What holds of each history. Each law is the contract of a function, which does nothing.
 ghost use Rattle.board_doubts.specs.Laws.{ClockIsKnownAgain, HandsOffPasses, NoPawnCounts, OnlyBackIsTakenBack, OnlyWhileStopped, OwnTimePasses, PairBackIsDoubted, PressedEndPasses, PressedPlyPasses, QuickCorrectionPasses, QuickPlyPasses, ReturnCounts, RunningClockPasses, SecondMoveIsTried, ShortGapPasses, SilenceIsDoubted, SilentReplacementIsDoubted, SixthPlyIsDoubted, StaysDoubtful, StoppedMoveIsNamed, UndoubtedCorrection, UndoubtedMove};
+ghost use Rattle.board_doubts.specs.Meaning.{BitSaysRunning, EndedGamePasses, FirstMoveIsTried, OddAfterTenSeconds, PressPasses, SeventhLentPlyIsDoubted, SilentReturnIsDoubted, TakenBackAtOnce, TriedMovesAreCounted};
 
 /// What is doubtful stays so, whatever comes later.
 pub fn stays_doubtful()
@@ -109,4 +110,49 @@ pub fn return_counts()
 /// No pawn counts.
 pub fn no_pawn_counts()
     ensures { NoPawnCounts }
+{}
+
+/// After the end of a game nothing is doubted.
+pub fn ended_game_passes()
+    ensures { EndedGamePasses }
+{}
+
+/// Bit 0 of the last byte of a time message says that the clock runs.
+pub fn bit_says_running()
+    ensures { BitSaysRunning }
+{}
+
+/// The first move after a clock was stopped is reported if it comes three seconds later, and not if it comes sooner.
+pub fn first_move_is_tried()
+    ensures { FirstMoveIsTried }
+{}
+
+/// After a press of the clock the next plies aren't doubted for want of one.
+pub fn press_passes()
+    ensures { PressPasses }
+{}
+
+/// A position that comes again with four plies that have no press is doubted.
+pub fn silent_return_is_doubted()
+    ensures { SilentReturnIsDoubted }
+{}
+
+/// Each later move is reported with how many they are, and how many plies ago the last ply before them was made.
+pub fn tried_moves_are_counted()
+    ensures { TriedMovesAreCounted }
+{}
+
+/// Plies that are taken back without a clock are doubted if that is done within two seconds.
+pub fn taken_back_at_once()
+    ensures { TakenBackAtOnce }
+{}
+
+/// A move is odd if the board has shown something else for ten seconds before it.
+pub fn odd_after_ten_seconds()
+    ensures { OddAfterTenSeconds }
+{}
+
+/// The seventh ply in a row that is thought about on the other side's time is doubted.
+pub fn seventh_lent_ply_is_doubted()
+    ensures { SeventhLentPlyIsDoubted }
 {}

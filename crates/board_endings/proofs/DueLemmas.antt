@@ -1,5 +1,6 @@
 -- When time alone ends a game.
 use Rattle.std.proofs.Common.{◌≡◌, ◌<◌, ◌≤◌, ◌^◌, ◌||◌, ℕ, nat_le, Bool, true, false, if◌then◌else◌, List, ◌∷◌, IfSome, Option, Some, None, refl, sym, ap, subst, ◌∙◌, arith, le-leb, leb-false, leb-true}
+use Rattle.std.proofs.Math.Bool.{or-false}
 use Rattle.std.proofs.Math.Nat.{le_antisymm, le_refl}
 use Rattle.std.specs.Prelude.{is_some}
 use Rattle.square_runs.specs.Lasting.{IsBefore}
@@ -76,10 +77,6 @@ alike_by true false one other past end e f h = absurd cc
 alike_by false true one other past end e f h = absurd cc
 alike_by false false one other past end e f h = h
 
-or_none : (b : Bool) → (b || false) ≡ b
-or_none true = refl
-or_none false = refl
-
 pub same_until_due : SameUntilDue
 same_until_due setting items now later due end valid le fits before d e =
     let told = tells_once setting items d.0 e.0 valid d.1 e.1 in
@@ -87,7 +84,7 @@ same_until_due setting items now later due end valid le fits before d e =
     let was = is_some (ended_by (passes now bytes) e.0) in
     let is = is_some (ended_by (passes later bytes) e.0) in
     let D : List Event → Type 0 = λ t. is_some (ended_by (passes later bytes) t) ≡ (is_some (ended_by (passes now bytes) t) || has_come later due) in
-    let same : is ≡ was = subst D told (d.2 later le fits) ∙ ap (λ (b : Bool). was || b) (before_due later due before) ∙ or_none was in
+    let same : is ≡ was = subst D told (d.2 later le fits) ∙ ap (λ (b : Bool). was || b) (before_due later due before) ∙ or-false was in
     (e.0, e.1, alike_by was is (passes now bytes) (passes later bytes) e.0 end same (passed now later bytes e.0 end) e.2)
 
 -- ---- one time

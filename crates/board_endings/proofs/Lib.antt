@@ -3,3 +3,10 @@ mod DueLemmas
 mod OnceLemmas
 mod StayLemmas
 mod TakeLemmas
+mod Adding
+mod Agreeing
+mod HeardResult
+mod Reopening
+mod Results
+mod StoodLemmas
+mod TimedResult

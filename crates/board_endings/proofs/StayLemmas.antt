@@ -34,11 +34,11 @@ held None None said event past before earlier same is_said h =
     ∙ same_over (begins_now event past) (goes_on event past) (played (event ∷ past)) event before same in
     earlier (sym (ap (λ (o : Option Over). is_some o) until) ∙ h)
 
-none_by : (b : Bool) → (if not b && false then BeginsNow else Nothing) ≡ Nothing
+pub none_by : (b : Bool) → (if not b && false then BeginsNow else Nothing) ≡ Nothing
 none_by true = refl
 none_by false = refl
 
-no_why : (b : Bool) → (let none : Option Why = None in if b then none else none) ≡ None
+pub no_why : (b : Bool) → (let none : Option Why = None in if b then none else none) ≡ None
 no_why true = refl
 no_why false = refl
 
@@ -60,7 +60,7 @@ over_step at bytes Passes past before said earlier s h = held (why_over past) (w
 over_step at bytes Hears past before said earlier s h = held (why_over past) (why_by Hears at past) said (happens at bytes Hears) past before earlier refl s h
 
 -- A game that is said to be over is over.
-is_over_by : (past : List Event) (end : End) → IsEnd past end → is_some end.over ≡ true → is_over past ≡ true
+pub is_over_by : (past : List Event) (end : End) → IsEnd past end → is_some end.over ≡ true → is_over past ≡ true
 is_over_by [] end e h = let never : false ≡ true = sym (ap (λ (x : End). is_some x.over) e) ∙ h in cc
 is_over_by (event ∷ past) end e h =
     over_step event.at event.bytes event.what past e.0 e.1 (λ o. is_over_by past e.0 e.2 o) e.3 (sym (ap (λ (x : End). is_some x.over) e.4) ∙ h)

@@ -8,5 +8,6 @@ pub mod PlyLemmas
 pub mod SeeLemmas
 pub mod ShownLemmas
 pub mod SilenceLemmas
+mod Stopped
 pub mod TakeLemmas
 pub mod WithinLemmas

@@ -16,7 +16,7 @@ use Rattle.board_alarms.specs.Hearing.{AreOpen, ClockIsStopped as IsStopped}
 use Rattle.board_alarms.specs.declared.news.News.TheVariants.{PutsIn}
 use Rattle.board_alarms.specs.Items.{Item as AlarmItem, Noted as Notes, Sent as Comes}
 use Rattle.board_alarms.specs.Laws.{OpensOnce as AlarmsOpenOnce, StopsOnce as ClockStopsOnce}
-use Rattle.board_looks.specs.declared.look.Look.{Look}
+use Rattle.board_alarms.specs.declared.look.Look.{Look}
 use Rattle.board_endings.specs.declared.news.End.{End}
 use Rattle.board_endings.specs.Items.{Item as EndItem, Sent as Ends_with}
 use Rattle.board_endings.specs.Laws.{DueOnce, EndsOnce as EndingsAreOne}
@@ -119,11 +119,11 @@ quiet_heard [] = []
 quiet_heard (event ∷ past) = if is_silence event.what then quiet_heard past else event ∷ quiet_heard past
 
 -- It is no silence, and changes none.
-abbrev IsOfTheGame : Option Heard → Type 0
+abbrev pub IsOfTheGame : Option Heard → Type 0
 IsOfTheGame None = ⊤
 IsOfTheGame (Some what) = (is_silence what ≡ false) × ((at : ℕ) (since : Option ℕ) → silent_by what at since ≡ since)
 
-shown_of_game : (setting : Setting) (past : List Event) (event : Event) (old new : Score) (heard : Option Heard) → HearsPicture setting past event old new heard → IsOfTheGame heard
+pub shown_of_game : (setting : Setting) (past : List Event) (event : Event) (old new : Score) (heard : Option Heard) → HearsPicture setting past event old new heard → IsOfTheGame heard
 shown_of_game setting past event old new None h = tt
 shown_of_game setting past event old new (Some Repeats) h = (refl, λ at since. refl)
 shown_of_game setting past event old new (Some Moves) h = (refl, λ at since. refl)
@@ -136,7 +136,7 @@ shown_of_game setting past event old new (Some Unplugs) h = absurd h
 shown_of_game setting past event old new (Some Plugs) h = absurd h
 shown_of_game setting past event old new (Some Begins) h = absurd h
 
-ended_of_game : (old new : Option Outcome) (heard : Option Heard) → HearsResult old new heard → IsOfTheGame heard
+pub ended_of_game : (old new : Option Outcome) (heard : Option Heard) → HearsResult old new heard → IsOfTheGame heard
 ended_of_game old new None h = tt
 ended_of_game old new (Some Ends) h = (refl, λ at since. refl)
 ended_of_game old new (Some Reopens) h = (refl, λ at since. refl)
@@ -153,7 +153,7 @@ heard_with : (at : ℕ) (heard : Option Heard) (past : List Told) → IsOfTheGam
 heard_with at None past g = refl
 heard_with at (Some what) past g = ap (λ b. if b then quiet_heard past else record { at = at; what = what } ∷ quiet_heard past) g.0
 
-silent_with : (at : ℕ) (heard : Option Heard) (past : List Told) → IsOfTheGame heard → silent_since (with_heard at heard past) ≡ silent_since past
+pub silent_with : (at : ℕ) (heard : Option Heard) (past : List Told) → IsOfTheGame heard → silent_since (with_heard at heard past) ≡ silent_since past
 silent_with at None past g = refl
 silent_with at (Some what) past g = g.1 at (silent_since past)
 

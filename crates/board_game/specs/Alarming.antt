@@ -1,7 +1,7 @@
 -- What is told of a game to `board_alarms`. Lists have the latest first.
 use Rattle.std.specs.Prelude.{ℕ, Bool, List, [], ◌∷◌, Option, Some, None}
 use Rattle.board_events.specs.Settings.{Setting}
-use Rattle.board_looks.specs.declared.look.Look.{Look}
+use Rattle.board_alarms.specs.declared.look.Look.{Look}
 use Rattle.board_standing.specs.declared.heard.Heard.{Heard}
 use Rattle.board_standing.specs.declared.heard.Heard.TheVariants.{Unplugs, Begins as RecorderBegins}
 use Rattle.board_alarms.specs.declared.news.News.{News}

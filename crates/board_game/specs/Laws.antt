@@ -1,5 +1,5 @@
 -- What holds of each history.
-use Rattle.std.specs.Prelude.{◌≡◌, ◌<◌, ◌≤◌, ◌^◌, ℕ, false, Bool, List, Option}
+use Rattle.std.specs.Prelude.{◌≡◌, ◌↔◌, ◌<◌, ◌≤◌, ◌^◌, ℕ, false, Bool, List, ◌∷◌, Option}
 use Rattle.chess_rules.specs.Valid.{Valid}
 use Rattle.dgt_frame.specs.Streams.{Timed}
 use Rattle.board_events.specs.Settings.{Setting}
@@ -7,12 +7,14 @@ use Rattle.board_listing.specs.declared.listing.Listing.TheVariants.{Watched}
 use Rattle.board_listing.specs.Listings.{HasLines}
 use Rattle.board_standing.specs.declared.heard.Event.{Event as Told}
 use Rattle.square_runs.specs.Lasting.{IsBefore}
-use Rattle.board_looks.specs.declared.look.Look.{Look}
+use Rattle.board_alarms.specs.declared.look.Look.{Look}
 use Rattle.board_game.specs.Alarming.{AlarmsAre, ClockIsStopped}
 use Rattle.board_endings.specs.declared.news.End.{End}
 use Rattle.board_game.specs.Ending.{IsEndDueOf, IsEndOf}
 use Rattle.board_game.specs.Hearing.{IsHeard}
-use Rattle.board_game.specs.History.{AreShown, Came, bytes_of}
+use Rattle.board_standing.specs.declared.heard.Heard.TheVariants.{Begins as RecorderBegins}
+use Rattle.board_game.specs.declared.note.Note.TheVariants.{Line, Resumes}
+use Rattle.board_game.specs.History.{AreShown, Came, News, bytes_of}
 use Rattle.board_game.specs.Report.{IsReport}
 
 -- Where no pairs are recovered, the report is the lines of `watch` for all bytes.
@@ -50,3 +52,8 @@ abbrev pub EndStaysUntilDue : Type 0
 EndStaysUntilDue = (setting : Setting) (recovers : Bool) (past : List Came) (now later : ℕ) (due : Option ℕ) (end : End) → Valid setting.start → now ≤ later
     → later < 2 ^ 64 → IsBefore later due → IsEndDueOf setting recovers past now due → IsEndOf setting recovers past now end
     → IsEndOf setting recovers past later end
+
+-- Where nobody has listened for a time, the game's end is as where a recorder begins: a result counts anew.
+abbrev pub ResumesAsBegun : Type 0
+ResumesAsBegun = (setting : Setting) (recovers : Bool) (past : List Came) (at now : ℕ) (end : End)
+    → IsEndOf setting recovers (News at Resumes ∷ past) now end ↔ IsEndOf setting recovers (News at (Line RecorderBegins) ∷ past) now end

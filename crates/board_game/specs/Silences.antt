@@ -1,17 +1,20 @@
 -- What it leaves that a board was silent, once it answers again. Lists have the latest first.
-use Rattle.std.specs.Prelude.{◌≡◌, ℕ, Bool, true, false, if◌then◌else◌, List, [], ◌∷◌, ◌++◌, Option}
+use Rattle.std.specs.Prelude.{◌≡◌, ◌⊎◌, ℕ, Bool, true, false, if◌then◌else◌, List, [], ◌∷◌, ◌++◌, Option}
 use Rattle.chess_rules.specs.Valid.{Valid}
 use Rattle.board_endings.specs.declared.news.End.{End}
 use Rattle.board_events.specs.Settings.{Setting}
-use Rattle.board_looks.specs.declared.look.Look.{Look}
+use Rattle.board_alarms.specs.declared.look.Look.{Look}
 use Rattle.board_standing.specs.declared.heard.Event.{Event as Told}
 use Rattle.board_standing.specs.declared.heard.Heard.{Heard}
-use Rattle.board_standing.specs.declared.heard.Heard.TheVariants.{Stops, Answers}
+use Rattle.board_standing.specs.declared.heard.Heard.TheVariants.{Stops, Answers, Unplugs, Plugs}
+use Rattle.board_standing.specs.declared.state.Kind.TheVariants.{Silent, Unplugged as Gone}
+use Rattle.board_standing.specs.declared.state.State.{State}
 use Rattle.board_standing.specs.States.{due_at, hint_at, kind_at, names_at, since_at}
 use Rattle.board_game.specs.declared.note.Note.{Note}
 use Rattle.board_game.specs.declared.note.Note.TheVariants.{Line}
 use Rattle.board_game.specs.Alarming.{AlarmsAre, ClockIsStopped}
 use Rattle.board_game.specs.Ending.{IsEndDueOf, IsEndOf}
+use Rattle.board_game.specs.Games.{IsStateOf}
 use Rattle.board_game.specs.Hearing.{IsHeard}
 use Rattle.board_game.specs.History.{Bytes, Came, News}
 
@@ -30,6 +33,24 @@ abbrev pub but_silence : List Came → List Came
 but_silence [] = []
 but_silence (Bytes time bytes ∷ past) = Bytes time bytes ∷ but_silence past
 but_silence (News at note ∷ past) = if tells_silence note then but_silence past else News at note ∷ but_silence past
+
+-- It was told that the board doesn't answer, and since then neither that it does nor that its line went or was opened.
+abbrev pub stopped_by : Note → Bool → Bool
+stopped_by (Line Stops) before = true
+stopped_by (Line Answers) before = false
+stopped_by (Line Unplugs) before = false
+stopped_by (Line Plugs) before = false
+stopped_by other before = before
+
+abbrev pub has_stopped : List Came → Bool
+has_stopped [] = false
+has_stopped (Bytes time bytes ∷ past) = has_stopped past
+has_stopped (News at note ∷ past) = stopped_by note (has_stopped past)
+
+-- SILENT is read only if that was told; if it was, SILENT is read, or that the line is gone.
+abbrev pub SilentIsTold : Type 0
+SilentIsTold = (setting : Setting) (recovers : Bool) (past : List Came) (now : ℕ) (state : State) → IsStateOf setting recovers past now state
+    → (state.kind ≡ Silent → has_stopped past ≡ true) × (has_stopped past ≡ true → (state.kind ≡ Silent) ⊎ (state.kind ≡ Gone))
 
 -- The same is read of the board after both, and until the same time.
 pub record ReadAlike (now : ℕ) (one other : List Told) : Type 0 where

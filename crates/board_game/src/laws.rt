@@ -1,9 +1,10 @@
 //! What holds of each history. Each law is the contract of a function, which does nothing.
-ghost use Rattle.board_game.specs.Laws.{EndDueOnce, EndStaysUntilDue, EndsOnce, HearsOnce, OpensOnce, ReportsAsWatch, StopsOnce};
-ghost use Rattle.board_game.specs.Silences.{SilenceIsForgotten};
+ghost use Rattle.board_game.specs.Laws.{EndDueOnce, EndStaysUntilDue, EndsOnce, HearsOnce, OpensOnce, ReportsAsWatch, ResumesAsBegun, StopsOnce};
+ghost use Rattle.board_game.specs.Silences.{SilenceIsForgotten, SilentIsTold};
 
 use board_alarms::laws::{opens_once as alarms_open_once, stops_once as clock_stops_once};
 use board_endings::laws::{due_once, ends_once as endings_are_one, same_until_due};
+use board_standing::laws::{silent_exactly, unplugged_exactly};
 use dgt_frame::laws::shows_once;
 use unseen_pairs::laws::recovers_once;
 
@@ -103,3 +104,18 @@ pub fn silence_is_forgotten()
     // For its clause: when events and news let time end it.
     due_once();
 }
+
+/// A board is read as silent only if that was told.
+pub fn silent_is_told()
+    ensures { SilentIsTold }
+{
+    // For its clause: when a board is read as silent.
+    silent_exactly();
+    // For its clause: and when as gone.
+    unplugged_exactly();
+}
+
+/// Where nobody has listened for a time, the game's end is as where a recorder begins.
+pub fn resumes_as_begun()
+    ensures { ResumesAsBegun }
+{}

@@ -3,11 +3,11 @@ use Rattle.std.proofs.Common.{◌≡◌, ◌<◌, ◌≤◌, ◌^◌, inl, inr, 
 use Rattle.std.proofs.Math.Nat.{le_antisymm}
 use Rattle.chess_rules.specs.Valid.{Valid}
 use Rattle.square_runs.specs.Lasting.{earlier}
-use Rattle.board_asking.specs.declared.line.Event.{Event}
-use Rattle.board_asking.specs.Asking.{Changes}
-use Rattle.board_asking.specs.Lasting.{IsBefore}
-use Rattle.board_asking.specs.Pace.{AsksAlike, asks}
-use Rattle.board_asking.specs.Whose.{HandledAlike, handling_at}
+use Rattle.board_cable.specs.declared.line.Event.{Event}
+use Rattle.board_cable.specs.Asking.{Changes}
+use Rattle.board_cable.specs.Lasting.{IsBefore}
+use Rattle.board_cable.specs.Pace.{AsksAlike, asks}
+use Rattle.board_cable.specs.Whose.{HandledAlike, handling_at}
 use Rattle.board_cable.specs.Turns.{told}
 use Rattle.board_events.specs.Settings.{Setting}
 use Rattle.board_game.specs.Ending.{IsEndDueOf}

@@ -1,6 +1,6 @@
 -- The same is said of the end of the game.
 use Rattle.std.proofs.Common.{◌≡◌, ℕ, inl, inr, Bool, true, false, List, [], ◌∷◌, ◌++◌, Option, refl, sym, ap, subst, ◌∙◌}
-use Rattle.board_asking.specs.Whose.{own_number}
+use Rattle.board_cable.specs.Whose.{own_number}
 use Rattle.board_cable.specs.declared.happened.What.TheVariants.{Begins}
 use Rattle.board_cable.specs.Turns.{Turn, told}
 use Rattle.board_endings.specs.declared.news.End.{End}

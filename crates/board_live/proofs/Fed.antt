@@ -1,12 +1,12 @@
 -- What was kept of a call brings the game what the call brought it, and nothing else.
 use Rattle.std.proofs.Common.{◌≡◌, ◌||◌, ℕ, Bool, true, false, List, [], ◌∷◌, Option, Some, None, refl, ap, subst, ◌∙◌}
 use Rattle.std.specs.Prelude.{if◌then◌else◌}
-use Rattle.board_asking.specs.declared.line.Event.{Event}
-use Rattle.board_asking.specs.declared.line.Happening.TheVariants.{Owns as LineOwns}
-use Rattle.board_asking.specs.declared.whose.Handling.TheVariants.{Keep}
-use Rattle.board_asking.specs.Asking.{request_at, with_request}
-use Rattle.board_asking.specs.Silence.{is_silent}
-use Rattle.board_asking.specs.Whose.{handling_at, own_number}
+use Rattle.board_cable.specs.declared.line.Event.{Event}
+use Rattle.board_cable.specs.declared.line.Happening.TheVariants.{Owns as LineOwns}
+use Rattle.board_cable.specs.declared.whose.Handling.TheVariants.{Keep}
+use Rattle.board_cable.specs.Asking.{request_at, with_request}
+use Rattle.board_cable.specs.Silence.{is_silent}
+use Rattle.board_cable.specs.Whose.{handling_at, own_number}
 use Rattle.board_cable.specs.declared.happened.What.{What as AtCable}
 use Rattle.board_cable.specs.declared.happened.What.TheVariants.{Owns, Wakes}
 use Rattle.board_cable.specs.Keeping.{aside, ends_aside, ends_held, held, kept}

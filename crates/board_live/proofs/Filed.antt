@@ -3,10 +3,10 @@ use Rattle.std.proofs.Common.{◌≡◌, ◌||◌, ◌<◌, ◌≤◌, ◌^◌, 
 use Rattle.std.specs.Prelude.{◌↔◌, IsTrue, if◌then◌else◌}
 use Rattle.chess_rules.specs.Valid.{Valid}
 use Rattle.square_runs.specs.Squares.{Marks}
-use Rattle.board_asking.specs.declared.line.Event.{Event}
-use Rattle.board_asking.specs.declared.line.Happening.TheVariants.{Begins as LineBegins}
-use Rattle.board_asking.specs.Silence.{is_silent}
-use Rattle.board_asking.specs.Whose.{is_own, own_number}
+use Rattle.board_cable.specs.declared.line.Event.{Event}
+use Rattle.board_cable.specs.declared.line.Happening.TheVariants.{Begins as LineBegins}
+use Rattle.board_cable.specs.Silence.{is_silent}
+use Rattle.board_cable.specs.Whose.{is_own, own_number}
 use Rattle.board_cable.specs.declared.happened.What.TheVariants.{Begins}
 use Rattle.board_cable.specs.Keeping.{kept}
 use Rattle.board_cable.specs.Turns.{Told, Turn, told}
@@ -14,7 +14,7 @@ use Rattle.board_cable.proofs.Once.{turns_once}
 use Rattle.board_endings.specs.declared.news.End.{End}
 use Rattle.board_events.specs.Limits.{limit}
 use Rattle.board_events.specs.Settings.{Setting}
-use Rattle.board_looks.specs.declared.look.Look.{Look}
+use Rattle.board_alarms.specs.declared.look.Look.{Look}
 use Rattle.board_alarms.specs.declared.chunk.When.{When}
 use Rattle.board_game.specs.declared.note.Note.{Note}
 use Rattle.board_game.specs.declared.note.Note.TheVariants.{Line as LineNews}

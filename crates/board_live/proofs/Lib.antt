@@ -14,3 +14,4 @@ pub mod Says
 pub mod Sides
 pub mod Silent
 pub mod TakeLemmas
+mod Told

@@ -4,18 +4,18 @@ use Rattle.std.specs.Prelude.{if◌then◌else◌}
 use Rattle.std.proofs.lemmas.List.{append_cancel_left}
 use Rattle.dgt_frame.specs.Streams.{Timed}
 use Rattle.dgt_frame.proofs.OnceLemmas.{shows_once}
-use Rattle.board_asking.specs.declared.line.Event.{Event}
-use Rattle.board_asking.specs.declared.line.Happening.{Happening}
-use Rattle.board_asking.specs.declared.line.Happening.TheVariants.{Asks, Begins, Comes}
-use Rattle.board_asking.specs.declared.line.Request.{Request}
-use Rattle.board_asking.specs.declared.line.Request.TheVariants.{Dump, Numbered, Start}
-use Rattle.board_asking.specs.Asking.{request_at, with_request}
-use Rattle.board_asking.specs.Lasting.{has_lasted, is_past}
-use Rattle.board_asking.specs.Line.{asked_at, asked_by, dumped_at, dumped_by, is_open, is_unanswered, is_wanted, open_by, unanswered_by, unfinished_at, unfinished_by, updated_at, updated_by, wanted_by}
-use Rattle.board_asking.specs.Pace.{asks}
-use Rattle.board_asking.specs.Silence.{heard_at, heard_by, is_silent, lost, lost_by, silent_by}
-use Rattle.board_asking.specs.Starting.{has_updated, is_start, last_dump, last_dump_by, start_by, updates_by}
-use Rattle.board_asking.specs.Whose.{awaited_at, awaited_by, dumps_by, dumps_since, handling_at, handling_by, is_awaited, is_own, known_by, left, left_by, own_by, own_number, sends_own, shown_by, shown_number, was_known}
+use Rattle.board_cable.specs.declared.line.Event.{Event}
+use Rattle.board_cable.specs.declared.line.Happening.{Happening}
+use Rattle.board_cable.specs.declared.line.Happening.TheVariants.{Asks, Begins, Comes}
+use Rattle.board_cable.specs.declared.line.Request.{Request}
+use Rattle.board_cable.specs.declared.line.Request.TheVariants.{Dump, Numbered, Start}
+use Rattle.board_cable.specs.Asking.{request_at, with_request}
+use Rattle.board_cable.specs.Lasting.{has_lasted, is_past}
+use Rattle.board_cable.specs.Line.{asked_at, asked_by, dumped_at, dumped_by, is_open, is_unanswered, is_wanted, open_by, unanswered_by, unfinished_at, unfinished_by, updated_at, updated_by, wanted_by}
+use Rattle.board_cable.specs.Pace.{asks}
+use Rattle.board_cable.specs.Silence.{heard_at, heard_by, is_silent, lost, lost_by, silent_by}
+use Rattle.board_cable.specs.Starting.{has_updated, is_start, last_dump, last_dump_by, start_by, updates_by}
+use Rattle.board_cable.specs.Whose.{awaited_at, awaited_by, dumps_by, dumps_since, handling_at, handling_by, is_awaited, is_own, known_by, left, left_by, own_by, own_number, sends_own, shown_by, shown_number, was_known}
 use Rattle.board_cable.specs.Frames.{TellsRead, told_of, with_happening, with_shown}
 use Rattle.board_cable.specs.Moments.{Moment, is_heard}
 use Rattle.board_cable.specs.Turns.{Tells, TellsAs, told_by}

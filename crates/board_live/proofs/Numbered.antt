@@ -1,14 +1,14 @@
 -- The number of the game's board, told once a call has begun.
 use Rattle.std.proofs.Common.{◌≡◌, ◌<◌, ◌≤◌, ◌^◌, ◌&&◌, inl, inr, ℕ, Bool, true, false, List, [], ◌∷◌, ◌++◌, length, Option, Some, None, is_some, refl, sym, ap, subst, ◌∙◌}
 use Rattle.chess_rules.specs.Valid.{Valid}
-use Rattle.board_asking.specs.declared.line.Event.{Event}
-use Rattle.board_asking.specs.declared.line.Happening.TheVariants.{Begins as LineBegins, Interrupts as LineInterrupts, Owns as LineOwns}
-use Rattle.board_asking.specs.declared.whose.Handling.TheVariants.{Keep}
-use Rattle.board_asking.specs.Asking.{request_at}
-use Rattle.board_asking.specs.Lasting.{IsBefore}
-use Rattle.board_asking.specs.Line.{is_open}
-use Rattle.board_asking.specs.Silence.{is_silent}
-use Rattle.board_asking.specs.Whose.{awaited_at, dumps_since, handling_by, is_awaited, is_own, own_number, sends_own, shown_number, was_known}
+use Rattle.board_cable.specs.declared.line.Event.{Event}
+use Rattle.board_cable.specs.declared.line.Happening.TheVariants.{Begins as LineBegins, Interrupts as LineInterrupts, Owns as LineOwns}
+use Rattle.board_cable.specs.declared.whose.Handling.TheVariants.{Keep}
+use Rattle.board_cable.specs.Asking.{request_at}
+use Rattle.board_cable.specs.Lasting.{IsBefore}
+use Rattle.board_cable.specs.Line.{is_open}
+use Rattle.board_cable.specs.Silence.{is_silent}
+use Rattle.board_cable.specs.Whose.{awaited_at, dumps_since, handling_by, is_awaited, is_own, own_number, sends_own, shown_number, was_known}
 use Rattle.board_cable.specs.declared.happened.What.{What as AtCable}
 use Rattle.board_cable.specs.declared.happened.What.TheVariants.{Begins, Interrupts, Owns, Wakes}
 use Rattle.board_cable.specs.Keeping.{aside, ends_aside, ends_held, held, kept}
@@ -16,7 +16,7 @@ use Rattle.board_cable.specs.Moments.{Moment as CableMoment, is_heard, stream}
 use Rattle.board_cable.specs.Turns.{Tells, Told, Turn, handling_of, told}
 use Rattle.board_cable.proofs.Once.{turns_once}
 use Rattle.board_events.specs.Settings.{Setting}
-use Rattle.board_looks.specs.declared.look.Look.{Look}
+use Rattle.board_alarms.specs.declared.look.Look.{Look}
 use Rattle.board_endings.specs.declared.news.End.{End}
 use Rattle.board_game.specs.Ending.{IsEndDueOf, IsEndOf}
 use Rattle.board_game.specs.Games.{IsDueOf, IsStateOf}

@@ -1,10 +1,10 @@
 -- When it is said that another board may be on the cable.
 use Rattle.std.proofs.Common.{◌≡◌, ◌≢◌, ◌⊎◌, inl, inr, ℕ, Bool, true, false, List, [], ◌∷◌, ◌++◌, Option, Some, None, refl, sym, ap, ◌∙◌}
 use Rattle.std.proofs.lemmas.Slice.Eq.{bytes_eq-Decides}
-use Rattle.board_asking.specs.declared.line.Event.{Event}
-use Rattle.board_asking.specs.declared.line.Happening.TheVariants.{Opens}
-use Rattle.board_asking.specs.Laws.{OwnSendsKnownNumber}
-use Rattle.board_asking.specs.Whose.{is_own, own_number, sends_own, shown_number}
+use Rattle.board_cable.specs.declared.line.Event.{Event}
+use Rattle.board_cable.specs.declared.line.Happening.TheVariants.{Opens}
+use Rattle.board_cable.specs.Numbers.{OwnSendsKnownNumber}
+use Rattle.board_cable.specs.Whose.{is_own, own_number, sends_own, shown_number}
 use Rattle.board_cable.specs.Turns.{Turn, told}
 use Rattle.board_events.specs.Settings.{Setting}
 use Rattle.board_standing.specs.declared.state.Hint.{Hint}

@@ -4,7 +4,7 @@ use Rattle.std.specs.Int.{bit_at}
 use Rattle.std.proofs.lemmas.Nat.Bits.{bit_at-lt, same_from_bits_below}
 use Rattle.chess_rules.specs.Valid.{Valid}
 use Rattle.square_runs.specs.Squares.{Marks}
-use Rattle.board_asking.specs.Whose.{is_own, own_number}
+use Rattle.board_cable.specs.Whose.{is_own, own_number}
 use Rattle.board_cable.specs.declared.happened.What.TheVariants.{Begins}
 use Rattle.board_cable.specs.Turns.{Told, Turn, told}
 use Rattle.board_events.specs.Settings.{Setting}

@@ -2,18 +2,18 @@
 use Rattle.std.proofs.Common.{◌≡◌, ◌||◌, ℕ, Bool, true, false, List, [], ◌∷◌, ◌++◌, length, drop, Option, Some, None, refl, sym, ap, subst, ◌∙◌}
 use Rattle.std.specs.Prelude.{◌↔◌, IsTrue, if◌then◌else◌}
 use Rattle.chess_rules.specs.Valid.{Valid}
-use Rattle.board_asking.specs.declared.line.Request.{Request}
-use Rattle.board_asking.specs.declared.whose.Handling.{Handling}
-use Rattle.board_asking.specs.Silence.{is_silent}
-use Rattle.board_asking.specs.Whose.{own_number}
+use Rattle.board_cable.specs.declared.line.Request.{Request}
+use Rattle.board_cable.specs.declared.whose.Handling.{Handling}
+use Rattle.board_cable.specs.Silence.{is_silent}
+use Rattle.board_cable.specs.Whose.{own_number}
 use Rattle.board_cable.specs.declared.happened.What.TheVariants.{Begins}
 use Rattle.board_cable.specs.Keeping.{kept}
 use Rattle.board_cable.specs.Turns.{Told, Turn, told}
 use Rattle.board_cable.proofs.Once.{turns_once}
 use Rattle.board_endings.specs.declared.news.End.{End}
 use Rattle.board_events.specs.Settings.{Setting}
-use Rattle.board_looks.specs.declared.look.Look.{Look}
-use Rattle.board_looks.specs.Looks.{alarms as alarms_of}
+use Rattle.board_alarms.specs.declared.look.Look.{Look}
+use Rattle.board_alarms.specs.Looks.{alarms as alarms_of}
 use Rattle.board_alarms.specs.declared.news.News.{News as AlarmNews}
 use Rattle.board_alarms.specs.Hearing.{AreOpen}
 use Rattle.board_game.specs.declared.note.Note.TheVariants.{Line as LineNews}

@@ -1,9 +1,9 @@
 -- What is kept back at a cable, as one value.
 use Rattle.std.proofs.Common.{◌≡◌, ℕ, Bool, true, false, List, [], ◌∷◌, ◌++◌, Option, Some, None, refl, ap, ◌∙◌}
 use Rattle.std.specs.Prelude.{if◌then◌else◌}
-use Rattle.board_asking.specs.declared.whose.Handling.{Handling}
-use Rattle.board_asking.specs.declared.whose.Handling.TheVariants.{Keep}
-use Rattle.board_asking.specs.Whose.{handling_by, own_number}
+use Rattle.board_cable.specs.declared.whose.Handling.{Handling}
+use Rattle.board_cable.specs.declared.whose.Handling.TheVariants.{Keep}
+use Rattle.board_cable.specs.Whose.{handling_by, own_number}
 use Rattle.board_cable.specs.Keeping.{are_same, aside, aside_by, ends_aside, ends_held, held, held_by, kept, kept_by, owner, owner_by, released_by}
 use Rattle.board_cable.specs.Moments.{Moment, sent}
 use Rattle.board_cable.specs.Turns.{Turn, handling_of}

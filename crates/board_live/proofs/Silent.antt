@@ -2,9 +2,9 @@
 use Rattle.std.proofs.Common.{◌≡◌, ◌⊎◌, inl, inr, ℕ, Bool, true, false, List, [], ◌∷◌, Option, Some, None, refl, sym, ap, subst, ◌∙◌}
 use Rattle.std.specs.Prelude.{is_some, if◌then◌else◌}
 use Rattle.square_runs.specs.Lasting.{carry}
-use Rattle.board_asking.specs.declared.line.Event.{Event as LineEvent}
-use Rattle.board_asking.specs.Silence.{is_silent}
-use Rattle.board_asking.specs.Silences.{SilentAfterSevenSeconds}
+use Rattle.board_cable.specs.declared.line.Event.{Event as LineEvent}
+use Rattle.board_cable.specs.Silence.{is_silent}
+use Rattle.board_cable.specs.Silences.{SilentAfterSevenSeconds}
 use Rattle.board_cable.specs.Keeping.{kept}
 use Rattle.board_cable.specs.Turns.{Turn, told}
 use Rattle.board_events.specs.Settings.{Setting}

@@ -3,9 +3,9 @@ use Rattle.std.proofs.Common.{◌≡◌, ◌<◌, ◌≤◌, ◌^◌, ℕ, nat_l
 use Rattle.std.proofs.Math.Nat.{min-eq_left, min-eq_right}
 use Rattle.std.proofs.lemmas.Bool.{leb-false, leb-true}
 use Rattle.square_runs.specs.Lasting.{IsBefore as IsBeforeState, earlier}
-use Rattle.board_asking.specs.declared.line.Event.{Event as ToldOf}
-use Rattle.board_asking.specs.Asking.{Changes}
-use Rattle.board_asking.specs.Lasting.{IsBefore}
+use Rattle.board_cable.specs.declared.line.Event.{Event as ToldOf}
+use Rattle.board_cable.specs.Asking.{Changes}
+use Rattle.board_cable.specs.Lasting.{IsBefore}
 use Rattle.board_events.specs.Settings.{Setting}
 use Rattle.board_game.specs.Ending.{IsEndDueOf}
 use Rattle.board_game.specs.Games.{IsDueOf, StandsFor as GameStands}
@@ -17,8 +17,8 @@ use Rattle.board_live.specs.Attending.{Attends}
 use Rattle.board_live.specs.Due.{MayChange}
 use Rattle.board_live.specs.Live.{StandsFor}
 use Rattle.board_live.specs.Saying.{HasSaid, IsRead, IsSaid, Says, is_live, last_said, live_by, said_before}
-use Rattle.board_asking.specs.declared.whose.Handling.{Handling}
-use Rattle.board_asking.specs.Silence.{is_silent}
+use Rattle.board_cable.specs.declared.whose.Handling.{Handling}
+use Rattle.board_cable.specs.Silence.{is_silent}
 use Rattle.board_cable.specs.Keeping.{kept, kept_by, released}
 use Rattle.board_cable.specs.Moments.{Moment as CableMoment, sent}
 use Rattle.board_cable.specs.Turns.{Told, Turn, handling_of, told}

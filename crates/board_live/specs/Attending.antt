@@ -1,7 +1,7 @@
 -- What the cable's part of a recorded board stands for, and what comes of it. Lists have the latest first.
 use Rattle.std.specs.Prelude.{◌≡◌, List, ◌∷◌}
-use Rattle.board_asking.specs.Silence.{is_silent}
-use Rattle.board_asking.specs.Whose.{own_number}
+use Rattle.board_cable.specs.Silence.{is_silent}
+use Rattle.board_cable.specs.Whose.{own_number}
 use Rattle.board_cable.specs.Cable.{StandsFor}
 use Rattle.board_cable.specs.Keeping.{kept}
 use Rattle.board_cable.specs.Turns.{Turn, handling_of, request_of, told}

@@ -1,6 +1,6 @@
 -- What comes to the game. Lists have the latest first; bytes are in the order in which they came.
 use Rattle.std.specs.Prelude.{◌≤◌, ◌||◌, ℕ, Bool, true, false, if◌then◌else◌, List, [], ◌∷◌, Option, Some, None, length, take}
-use Rattle.board_asking.specs.Silence.{is_silent}
+use Rattle.board_cable.specs.Silence.{is_silent}
 use Rattle.board_cable.specs.Keeping.{kept}
 use Rattle.board_cable.specs.Turns.{Turn, told}
 use Rattle.board_standing.specs.declared.heard.Heard.{Heard}

@@ -1,10 +1,10 @@
 -- Until when all stays, and when a recorder is woken.
 use Rattle.std.specs.Prelude.{◌≡◌, ◌⊎◌, ◌<◌, ◌≤◌, ◌^◌, ℕ, Bool, List, IfSome, Option, Some}
-use Rattle.board_asking.specs.declared.line.Event.{Event as Told}
-use Rattle.board_asking.specs.Asking.{Changes}
-use Rattle.board_asking.specs.Lasting.{IsBefore}
-use Rattle.board_asking.specs.Pace.{AsksAlike}
-use Rattle.board_asking.specs.Whose.{HandledAlike}
+use Rattle.board_cable.specs.declared.line.Event.{Event as Told}
+use Rattle.board_cable.specs.Asking.{Changes}
+use Rattle.board_cable.specs.Lasting.{IsBefore}
+use Rattle.board_cable.specs.Pace.{AsksAlike}
+use Rattle.board_cable.specs.Whose.{HandledAlike}
 use Rattle.board_events.specs.Settings.{Setting}
 use Rattle.board_game.specs.Ending.{IsEndDueOf}
 use Rattle.board_game.specs.Games.{IsDueOf}

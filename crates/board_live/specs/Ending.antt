@@ -1,7 +1,7 @@
 -- What is said of the end of the game. Lists have the latest first.
 use Rattle.std.specs.Prelude.{◌≡◌, ◌≢◌, ◌⊎◌, ◌<◌, ◌≤◌, ◌^◌, ℕ, Bool, true, false, List, [], ◌∷◌, Option, None}
 use Rattle.chess_rules.specs.Valid.{Valid}
-use Rattle.board_asking.specs.Lasting.{IsBefore}
+use Rattle.board_cable.specs.Lasting.{IsBefore}
 use Rattle.board_cable.specs.Turns.{Turn}
 use Rattle.board_endings.specs.declared.news.End.{End}
 use Rattle.board_events.specs.Settings.{Setting}

@@ -2,12 +2,12 @@
 use Rattle.std.specs.Prelude.{◌≡◌, ◌≢◌, ◌⊎◌, ℕ, Bool, true, false, List, [], ◌∷◌, ◌++◌, Option, Some, None}
 use Rattle.std.specs.List.{list_all}
 use Rattle.chess_rules.specs.Valid.{Valid}
-use Rattle.board_asking.specs.declared.line.Event.{Event}
-use Rattle.board_asking.specs.declared.line.Happening.TheVariants.{Opens}
-use Rattle.board_asking.specs.Laws.{knows_still}
-use Rattle.board_asking.specs.Silence.{is_silent}
-use Rattle.board_asking.specs.Pace.{asks}
-use Rattle.board_asking.specs.Whose.{handling_at, is_own, own_number, shown_number}
+use Rattle.board_cable.specs.declared.line.Event.{Event}
+use Rattle.board_cable.specs.declared.line.Happening.TheVariants.{Opens}
+use Rattle.board_cable.specs.Numbers.{knows_still}
+use Rattle.board_cable.specs.Silence.{is_silent}
+use Rattle.board_cable.specs.Pace.{asks}
+use Rattle.board_cable.specs.Whose.{handling_at, is_own, own_number, shown_number}
 use Rattle.board_cable.specs.declared.happened.What.TheVariants.{Begins, Owns}
 use Rattle.board_cable.specs.Keeping.{kept}
 use Rattle.board_cable.specs.Turns.{Told, Turn, handling_of, request_of, told}

@@ -9,3 +9,4 @@ pub mod Numbers
 pub mod Once
 pub mod Restarts
 pub mod Saying
+pub mod Told

@@ -1,10 +1,10 @@
 -- What a recorded board stands for, and what it answers. Lists have the latest first.
 use Rattle.std.specs.Prelude.{◌≡◌, ◌↔◌, ◌&&◌, not, ℕ, IsTrue, Bool, false, if◌then◌else◌, List, ◌∷◌, length, Option, Some, None}
-use Rattle.board_asking.specs.Whose.{own_number}
+use Rattle.board_cable.specs.Whose.{own_number}
 use Rattle.board_cable.specs.Keeping.{kept}
 use Rattle.board_cable.specs.Turns.{Turn, handling_of, request_of, told}
 use Rattle.board_events.specs.Settings.{Setting}
-use Rattle.board_looks.specs.declared.look.Look.{Look}
+use Rattle.board_alarms.specs.declared.look.Look.{Look}
 use Rattle.board_game.specs.Alarming.{AlarmsAre, ClockIsStopped}
 use Rattle.board_game.specs.Games.{HasBegun as GameHasBegun, StandsFor as GameStands}
 use Rattle.board_standing.specs.declared.state.State.{State}

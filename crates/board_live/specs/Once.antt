@@ -1,16 +1,16 @@
 -- That answers follow from what happened. Lists have the latest first.
 use Rattle.std.specs.Prelude.{◌≡◌, ◌⊎◌, ◌+◌, ◌≤◌, ℕ, Bool, true, List, ◌∷◌, ◌++◌, Some}
 use Rattle.chess_rules.specs.Valid.{Valid}
-use Rattle.board_asking.specs.declared.line.Event.{Event}
-use Rattle.board_asking.specs.Line.{asked_at, is_open}
-use Rattle.board_asking.specs.Silence.{is_silent}
-use Rattle.board_asking.specs.Silences.{AreMute, IsHeard, woken}
+use Rattle.board_cable.specs.declared.line.Event.{Event}
+use Rattle.board_cable.specs.Line.{asked_at, is_open}
+use Rattle.board_cable.specs.Silence.{is_silent}
+use Rattle.board_cable.specs.Silences.{AreMute, IsHeard, woken}
 use Rattle.board_cable.specs.Turns.{Turn, told}
 use Rattle.board_events.specs.Settings.{Setting}
 use Rattle.board_game.specs.Games.{IsStateOf}
 use Rattle.board_standing.specs.declared.state.Kind.TheVariants.{Silent, Unplugged}
 use Rattle.board_standing.specs.declared.state.State.{State}
-use Rattle.board_looks.specs.declared.look.Look.{Look}
+use Rattle.board_alarms.specs.declared.look.Look.{Look}
 use Rattle.board_live.specs.declared.live.Answer.{Answer}
 use Rattle.board_live.specs.Coming.{came}
 use Rattle.board_live.specs.Moments.{Moment}

@@ -1,14 +1,14 @@
 -- What a recorder says that begins again. Lists have the latest first, but the bytes.
 use Rattle.std.specs.Prelude.{◌≡◌, ◌⊎◌, ◌<◌, ◌≤◌, ◌^◌, ℕ, Bool, false, List, [], ◌∷◌, ◌++◌, Option, drop, ⊤}
 use Rattle.chess_rules.specs.Valid.{Valid}
-use Rattle.board_asking.specs.Lasting.{IsBefore}
-use Rattle.board_asking.specs.Whose.{own_number}
+use Rattle.board_cable.specs.Lasting.{IsBefore}
+use Rattle.board_cable.specs.Whose.{own_number}
 use Rattle.board_cable.specs.declared.happened.What.TheVariants.{Begins, Interrupts, Wakes}
 use Rattle.board_cable.specs.Keeping.{kept}
 use Rattle.board_cable.specs.Turns.{Told, Turn, told}
 use Rattle.board_events.specs.Settings.{Setting}
 use Rattle.board_game.specs.Alarming.{AlarmsAre}
-use Rattle.board_looks.specs.declared.look.Look.{Look}
+use Rattle.board_alarms.specs.declared.look.Look.{Look}
 use Rattle.board_live.specs.declared.happened.What.TheVariants.{Cable}
 use Rattle.board_live.specs.declared.live.Answer.{Answer}
 use Rattle.board_live.specs.Coming.{came}

@@ -1,6 +1,6 @@
 -- Which states are said. Lists have the latest first.
 use Rattle.std.specs.Prelude.{◌≡◌, ◌<◌, ◌^◌, ℕ, Bool, true, false, if◌then◌else◌, List, [], ◌∷◌, Option, Some, None}
-use Rattle.board_asking.specs.Whose.{is_own}
+use Rattle.board_cable.specs.Whose.{is_own}
 use Rattle.board_cable.specs.declared.happened.What.TheVariants.{Begins}
 use Rattle.board_cable.specs.Turns.{Turn, told}
 use Rattle.board_events.specs.Settings.{Setting}

@@ -8,8 +8,7 @@ ghost use Rattle.board_live.specs.Attending.{Attends, Tells};
 ghost use Rattle.board_live.specs.Moments.{Moment, cabled, moment_of};
 
 use crate::happened::{Happened, cabled, number_news, sent, silence};
-use board_asking::{Handling, Request};
-use board_cable::Cable;
+use board_cable::{Cable, Handling, Request};
 use board_standing::Heard;
 use std::alloc::{AllocError, Global};
 

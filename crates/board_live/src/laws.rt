@@ -1,12 +1,13 @@
 //! What holds of each history. Each law is the contract of a function, which does nothing.
 ghost use Rattle.board_live.specs.Laws.{EndsAlike, IsSaidOnce, LaterChangesNothing, NothingElseIsLeftOut, OwnBoardIsNoOther, RestartsAlike, SaysAlike, WakesOnce};
 ghost use Rattle.board_live.specs.Once.{IsAnsweredOnce, MuteBoardIsSaid, SilentIsSaid};
+ghost use Rattle.board_live.specs.Told.{AnsweringIsNotSilent, ClockChangesAreSaid, UnheededResumes};
 ghost use Rattle.board_live.specs.Restarts.{FilesSayTheSame, NumberMayFollow, RestartsSayTheSame, SaysOpenAlarms};
 
-use board_asking::laws::{own_sends_known_number, silent_after_seven_seconds};
+use board_cable::laws::{own_sends_known_number, silent_after_seven_seconds};
 use board_game::laws::{
     end_due_once, end_stays_until_due, ends_once, hears_once, opens_once, silence_is_forgotten,
-    stops_once,
+    silent_is_told, stops_once,
 };
 use board_standing::laws::stays_until_due;
 
@@ -142,4 +143,25 @@ pub fn mute_board_is_said()
     silent_after_seven_seconds();
     // For its clause: while it is silent, the state says so.
     silent_is_said();
+}
+
+/// In a call each change of whether the clock is stopped is said, and nothing else.
+pub fn clock_changes_are_said()
+    ensures { ClockChangesAreSaid }
+{
+    // For its clause: what came says whether the clock is stopped.
+    stops_once();
+}
+
+/// If nobody has listened for ten seconds, the game is told that it resumes; for less, nothing is told.
+pub fn unheeded_resumes()
+    ensures { UnheededResumes }
+{}
+
+/// SILENT isn't read of a board that answers.
+pub fn answering_is_not_silent()
+    ensures { AnsweringIsNotSilent }
+{
+    // For its clause: SILENT is read only if that was told.
+    silent_is_told();
 }

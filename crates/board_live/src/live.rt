@@ -1,8 +1,8 @@
 //! The machine: it takes what happens at a board, and says what it comes to.
 ghost use Rattle.std.specs.Prelude.{◌≡◌, ◌<◌, ◌^◌, ◌∷◌, [], ◌++◌, ℕ, Bool, List, IfOk, IfSome, OnOk};
-ghost use Rattle.board_asking.specs.Pace.{AsksAlike};
-ghost use Rattle.board_asking.specs.Silence.{is_silent};
-ghost use Rattle.board_asking.specs.Whose.{HandledAlike, own_number};
+ghost use Rattle.board_cable.specs.Pace.{AsksAlike};
+ghost use Rattle.board_cable.specs.Silence.{is_silent};
+ghost use Rattle.board_cable.specs.Whose.{HandledAlike, own_number};
 ghost use Rattle.board_cable.specs.Keeping.{aside, kept};
 ghost use Rattle.board_cable.specs.Turns.{Told, Turn, told};
 ghost use Rattle.board_captures.specs.Reading.{setting_of};
@@ -24,12 +24,12 @@ use crate::ending::end_said;
 use crate::happened::{Happened, begins};
 use crate::hearing::hear;
 use crate::saying::{Saying, without_other};
-use board_asking::{Handling, Request};
+use board_alarms::Look;
+use board_cable::{Handling, Request};
 use board_captures::Method;
 use board_endings::End;
 use board_game::Game;
 use board_game::laws::end_stays_until_due;
-use board_looks::Look;
 use board_standing::State;
 use board_standing::laws::stays_until_due;
 use std::alloc::{AllocError, Global};

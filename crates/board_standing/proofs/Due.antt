@@ -1,8 +1,8 @@
 -- What stays the same until it is due.
-use Rattle.std.proofs.Common.{◌≡◌, ℕ, ◌<◌, ◌≤◌, ◌^◌, ◌==◌, ◌&&◌, ◌||◌, ◌⊎◌, inl, inr, not, Bool, true, false, List, [], ◌∷◌, Option, None, refl, sym, ap, ◌∙◌}
+use Rattle.std.proofs.Common.{◌≡◌, ℕ, ◌<◌, ◌≤◌, ◌^◌, ◌==◌, ◌&&◌, ◌||◌, inl, inr, not, Bool, true, false, List, [], ◌∷◌, Option, None, refl, sym, ap, ◌∙◌}
 use Rattle.std.specs.Prelude.{is_some, if◌then◌else◌}
 use Rattle.std.specs.Int.{bit_at}
-use Rattle.std.proofs.lemmas.Bool.{true≢false}
+use Rattle.std.proofs.lemmas.Bool.{cases_Bool, true≢false}
 use Rattle.square_runs.specs.Lasting.{IsBefore, earlier, has_lasted, will_have_lasted}
 use Rattle.square_runs.specs.Shown.{Shown, has, has_held, since_when}
 use Rattle.square_runs.specs.Squares.{first_of, first_where, some_square}
@@ -138,10 +138,6 @@ since_alike InHand now later past h = h refl
 since_alike Wrong now later past h = h refl
 since_alike NoStart now later past h = h refl
 
-cases_of : (b : Bool) → (b ≡ true) ⊎ (b ≡ false)
-cases_of true = inl refl
-cases_of false = inr refl
-
 kind_alike : (now later : ℕ) (past : List Event) → (may_change (kind_at now past) ≡ true → LastsAlike now later (pictures past))
     → kind_at later past ≡ kind_at now past
 unfolding kind_with
@@ -149,7 +145,7 @@ kind_alike now later past lasts =
     let shows : List Shown = pictures past in
     kinds_same (is_some (unplugged_since past)) (is_some (silent_since past)) (waits past) (is_some (ended_since past))
     (kind_of later (has_played past) shows) (kind_of now (has_played past) shows)
-    (λ is. elim (cases_of (may_change (kind_of now (has_played past) shows))) [
+    (λ is. elim (cases_Bool (may_change (kind_of now (has_played past) shows))) [
       | inl changes ↦ kind_same now later (has_played past) shows (lasts (ap may_change is ∙ changes))
       | inr still ↦ still_same now later (has_played past) shows still
     ])

@@ -1,3 +1,5 @@
 pub mod Due
 pub mod Meaning
 pub mod Throughout
+mod SetUps
+mod Alarms

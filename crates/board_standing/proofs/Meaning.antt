@@ -2,14 +2,13 @@
 use Rattle.std.proofs.Common.{◌≡◌, ℕ, ◌<◌, ◌==◌, ◌&&◌, ◌||◌, ◌⊎◌, inl, inr, not, Bool, true, false, List, [], ◌∷◌, Option, None, Some, refl, sym, ap, subst, ◌∙◌, arith}
 use Rattle.std.specs.Prelude.{◌↔◌, IsTrue, is_some, count_ones, if◌then◌else◌}
 use Rattle.std.specs.Int.{bit_at}
-use Rattle.std.proofs.lemmas.Bool.{eqb-true, true≢false}
+use Rattle.std.proofs.lemmas.Bool.{cases_Bool, eqb-true, true≢false}
 use Rattle.std.proofs.lemmas.Nat.{ones_le_self, zero_from_ones}
 use Rattle.std.proofs.lemmas.Nat.Bits.{bit_at-zero}
-use Rattle.square_runs.specs.Laws.{HoldsThroughout, InOrder}
 use Rattle.square_runs.specs.Lasting.{carry, has_lasted}
 use Rattle.square_runs.specs.Shown.{Shown, has, since_when}
-use Rattle.square_runs.specs.Squares.{any_below, some_square}
-use Rattle.square_runs.proofs.Squares.{any_none, any_some}
+use Rattle.square_runs.specs.Squares.{some_square}
+use Rattle.square_runs.proofs.Squares.{any_some}
 use Rattle.board_standing.specs.declared.heard.Event.{Event}
 use Rattle.board_standing.specs.declared.heard.Heard.{Heard}
 use Rattle.board_standing.specs.declared.heard.Heard.TheVariants.{Shows, Repeats, Moves, Ends, Reopens, Stops, Answers, Unplugs, Plugs, Begins}
@@ -17,7 +16,7 @@ use Rattle.board_standing.specs.declared.state.Kind.{Kind}
 use Rattle.board_standing.specs.declared.state.Kind.TheVariants.{Waits, Agrees, Ended, InHand, Wrong, NoStart, SettingUp, Silent, Unplugged}
 use Rattle.board_standing.specs.Line.{ended_by, ended_since, has_played, pictures, silent_by, silent_since, unplugged_by, unplugged_since, waits, waits_by, with_picture}
 use Rattle.board_standing.specs.Meaning.{AgreesExactly, HasDiffered, IsPlayed, SilentExactly, UnpluggedExactly, WrongIsSaid, WrongNamesExactly, answers, begins, ends, goes, opens, reopens, shows, shows_other, shows_position, stands, stands_by, stops}
-use Rattle.board_standing.specs.Pictures.{agrees, has_agreed, is_left, is_many, is_named, is_no_nearer, is_old, is_overdue, is_set_up, kind_of, last_squares, last_time, since_set_up}
+use Rattle.board_standing.specs.Pictures.{agrees, has_agreed, is_left, is_many, is_named, is_old, is_overdue, is_set_up, kind_of, last_squares, last_time, since_set_up}
 use Rattle.board_standing.specs.States.{kind_at, names_at, names_squares}
 use Rattle.board_standing.proofs.Throughout.{old_is_throughout, overdue_is_throughout}
 
@@ -31,7 +30,7 @@ gone_by Unplugs at since b h = carried at since
 gone_by Plugs at since b h = refl
 gone_by other at since b h = h
 
-gone : (past : List Event) → is_some (unplugged_since past) ≡ stands goes opens past
+pub gone : (past : List Event) → is_some (unplugged_since past) ≡ stands goes opens past
 gone [] = refl
 gone (event ∷ past) = gone_by event.what event.at (unplugged_since past) (stands goes opens past) (gone past)
 
@@ -42,7 +41,7 @@ still_by Unplugs at since b h = refl
 still_by Plugs at since b h = refl
 still_by other at since b h = h
 
-still : (past : List Event) → is_some (silent_since past) ≡ stands stops answers past
+pub still : (past : List Event) → is_some (silent_since past) ≡ stands stops answers past
 still [] = refl
 still (event ∷ past) = still_by event.what event.at (silent_since past) (stands stops answers past) (still past)
 
@@ -66,7 +65,7 @@ waits_as Reopens w b h = refl
 waits_as other w b h = h
 
 -- Something was shown.
-abbrev any_shown : List Shown → Bool
+abbrev pub any_shown : List Shown → Bool
 any_shown [] = false
 any_shown (picture ∷ before) = true
 
@@ -107,7 +106,7 @@ waits_if Ends at w b before h some = refl
 waits_if Reopens at w b before h some = refl
 waits_if other at w b before h some = h some
 
-waits_is : (past : List Event) → any_shown (pictures past) ≡ true → waits past ≡ stands begins shows past
+pub waits_is : (past : List Event) → any_shown (pictures past) ≡ true → waits past ≡ stands begins shows past
 waits_is [] some = absurd (true≢false (sym some))
 waits_is (event ∷ past) some = waits_if event.what event.at (waits past) (stands begins shows past) (pictures past) (waits_is past) some
 
@@ -116,7 +115,7 @@ agreeing_shown [] h = h
 agreeing_shown (picture ∷ before) h = refl
 
 -- A kind by what was heard beside the pictures.
-abbrev kind_with : Bool → Bool → Bool → Bool → Kind → Kind
+abbrev pub kind_with : Bool → Bool → Bool → Bool → Kind → Kind
 kind_with u s w e kind = if u then Unplugged else if s then Silent else if w then Waits else if e then Ended else kind
 
 abbrev is_agrees : Kind → Bool
@@ -131,18 +130,27 @@ abbrev is_unplugged : Kind → Bool
 is_unplugged Unplugged = true
 is_unplugged other = false
 
-agrees_with : (u s w e : Bool) (k : Kind) → is_agrees (kind_with u s w e k) ≡ true → (u ≡ false) × (s ≡ false) × (w ≡ false) × (e ≡ false) × (is_agrees k ≡ true)
-agrees_with true s w e k h = absurd (true≢false (sym h))
-agrees_with false true w e k h = absurd (true≢false (sym h))
-agrees_with false false true e k h = absurd (true≢false (sym h))
-agrees_with false false false true k h = absurd (true≢false (sym h))
-agrees_with false false false false k h = (refl, refl, refl, refl, h)
+-- A kind that only pictures give.
+pub with_kind : (is : Kind → Bool) (u s w e : Bool) (k : Kind) → is Unplugged ≡ false → is Silent ≡ false → is Waits ≡ false → is Ended ≡ false
+    → is (kind_with u s w e k) ≡ true → (u ≡ false) × (s ≡ false) × (w ≡ false) × (e ≡ false) × (is k ≡ true)
+with_kind is true s w e k p q r t h = absurd (true≢false (sym h ∙ p))
+with_kind is false true w e k p q r t h = absurd (true≢false (sym h ∙ q))
+with_kind is false false true e k p q r t h = absurd (true≢false (sym h ∙ r))
+with_kind is false false false true k p q r t h = absurd (true≢false (sym h ∙ t))
+with_kind is false false false false k p q r t h = (refl, refl, refl, refl, h)
+
+played_with : (u s w e : Bool) (k : Kind) → u ≡ false → s ≡ false → w ≡ false → e ≡ false → kind_with u s w e k ≡ k
+played_with false false false false k a b c d = refl
+played_with true s w e k a b c d = absurd (true≢false a)
+played_with false true w e k a b c d = absurd (true≢false b)
+played_with false false true e k a b c d = absurd (true≢false c)
+played_with false false false true k a b c d = absurd (true≢false d)
 
 -- a kind of pictures that differ
 abbrev differing : Bool → Bool → Bool → Bool → Kind
 differing o a s d = if o then (if a then Wrong else NoStart) else if s then SettingUp else if d then Wrong else InHand
 
-abbrev kind_split : Bool → Bool → Bool → Bool → Bool → Kind
+abbrev pub kind_split : Bool → Bool → Bool → Bool → Bool → Kind
 kind_split c o a s d = if c then Agrees else differing o a s d
 
 differing_is : (o a s d : Bool) → (is_agrees (differing o a s d) ≡ false) × (is_silent (differing o a s d) ≡ false) × (is_unplugged (differing o a s d) ≡ false)
@@ -168,33 +176,30 @@ agrees_from : (k : Kind) → is_agrees k ≡ true → k ≡ Agrees
 agrees_from Agrees h = refl
 agrees_from other h = absurd (true≢false (sym h))
 
-agrees_all : (u s w e : Bool) (k : Kind) → u ≡ false → s ≡ false → w ≡ false → e ≡ false → k ≡ Agrees → kind_with u s w e k ≡ Agrees
-agrees_all false false false false k a b c d h = h
-agrees_all true s w e k a b c d h = absurd (true≢false a)
-agrees_all false true w e k a b c d h = absurd (true≢false b)
-agrees_all false false true e k a b c d h = absurd (true≢false c)
-agrees_all false false false true k a b c d h = absurd (true≢false d)
+-- In a game that is played the pictures decide.
+pub played_from : (past : List Event) → any_shown (pictures past) ≡ true → is_some (unplugged_since past) ≡ false → is_some (silent_since past) ≡ false
+    → waits past ≡ false → is_some (ended_since past) ≡ false → IsPlayed past
+played_from past some u s w e = record {
+  line = sym (gone past) ∙ u;
+  answers = sym (still past) ∙ s;
+  shown = sym (waits_is past some) ∙ w;
+  result = sym (ended past) ∙ e;
+}
+
+pub played_is : (now : ℕ) (past : List Event) → any_shown (pictures past) ≡ true → IsPlayed past → kind_at now past ≡ kind_of now (has_played past) (pictures past)
+played_is now past some played =
+    played_with (is_some (unplugged_since past)) (is_some (silent_since past)) (waits past) (is_some (ended_since past)) (kind_of now (has_played past) (pictures past))
+    (gone past ∙ played.line) (still past ∙ played.answers) (waits_is past some ∙ played.shown) (ended past ∙ played.result)
 
 pub agrees_exactly : AgreesExactly
 agrees_exactly now past =
-    let u : Bool = is_some (unplugged_since past) in
-    let s : Bool = is_some (silent_since past) in
-    let e : Bool = is_some (ended_since past) in
     let k : Kind = kind_of now (has_played past) (pictures past) in
     let kinds = kind_is now (has_played past) (pictures past) in (
-      λ h. let all = agrees_with u s (waits past) e k (ap is_agrees h) in
-          let head : head_agrees (pictures past) ≡ true = sym kinds.0 ∙ all.4 in (
-            record {
-              line = sym (gone past) ∙ all.0;
-              answers = sym (still past) ∙ all.1;
-              shown = sym (waits_is past (agreeing_shown (pictures past) head)) ∙ all.2;
-              result = sym (ended past) ∙ all.3;
-            },
-            sym (head_is past) ∙ head,
-          ),
+      λ h. let all = with_kind is_agrees (is_some (unplugged_since past)) (is_some (silent_since past)) (waits past) (is_some (ended_since past)) k refl refl refl refl (ap is_agrees h) in
+          let head : head_agrees (pictures past) ≡ true = sym kinds.0 ∙ all.4 in
+          (played_from past (agreeing_shown (pictures past) head) all.0 all.1 all.2 all.3, sym (head_is past) ∙ head),
       λ h. let head : head_agrees (pictures past) ≡ true = head_is past ∙ h.1 in
-          agrees_all u s (waits past) e k (gone past ∙ h.0.line) (still past ∙ h.0.answers)
-          (waits_is past (agreeing_shown (pictures past) head) ∙ h.0.shown) (ended past ∙ h.0.result) (agrees_from k (kinds.0 ∙ head)),
+          played_is now past (agreeing_shown (pictures past) head) h.0 ∙ agrees_from k (kinds.0 ∙ head),
     )
 
 unplugged_with : (u s w e : Bool) (k : Kind) → is_unplugged k ≡ false → (kind_with u s w e k ≡ Unplugged) ↔ (u ≡ true)
@@ -223,20 +228,9 @@ silent_exactly now past =
     (kind_of now (has_played past) (pictures past)) (kind_is now (has_played past) (pictures past)).1 in
     (λ h. let all = both.0 h in (sym (gone past) ∙ all.0, sym (still past) ∙ all.1), λ h. both.1 (gone past ∙ h.0, still past ∙ h.1))
 
-cases_of : (b : Bool) → (b ≡ true) ⊎ (b ≡ false)
-cases_of true = inl refl
-cases_of false = inr refl
-
 abbrev is_wrong : Kind → Bool
 is_wrong Wrong = true
 is_wrong other = false
-
-wrong_with : (u s w e : Bool) (k : Kind) → is_wrong (kind_with u s w e k) ≡ true → is_wrong k ≡ true
-wrong_with true s w e k h = absurd (true≢false (sym h))
-wrong_with false true w e k h = absurd (true≢false (sym h))
-wrong_with false false true e k h = absurd (true≢false (sym h))
-wrong_with false false false true k h = absurd (true≢false (sym h))
-wrong_with false false false false k h = h
 
 -- Where no square is old the game is overdue.
 overdue_split : (c o a s d : Bool) → is_wrong (kind_split c o a s d) ≡ true → d ≡ false → o ≡ true
@@ -265,13 +259,14 @@ pub wrong_names_exactly : WrongNamesExactly
 wrong_names_exactly now past order is =
     let shown : List Shown = pictures past in
     let names : (s : ℕ) → names_at now past s ≡ is_named now shown s = λ s. ap (λ k. if names_squares k then is_named now shown s else false) is in
-    elim (cases_of (some_square (is_old now shown))) [
+    elim (cases_Bool (some_square (is_old now shown))) [
       | inl some ↦ inl (λ s low. same_true (names_at now past s) (is_old now shown s) (HasDiffered now past s) (names s ∙ named_if now shown s true some)
           (old_is_throughout now s shown order))
       | inr none ↦ inr (
         λ s low h. true≢false (sym (any_some 64 (is_old now shown) s low ((old_is_throughout now s shown order).1 h)) ∙ none),
         (overdue_is_throughout now shown order).0 ((overdue_if now (has_played past) shown
-            (wrong_with (is_some (unplugged_since past)) (is_some (silent_since past)) (waits past) (is_some (ended_since past)) (kind_of now (has_played past) shown) (ap is_wrong is)) none)),
+            (with_kind is_wrong (is_some (unplugged_since past)) (is_some (silent_since past)) (waits past) (is_some (ended_since past)) (kind_of now (has_played past) shown) refl refl refl refl
+            (ap is_wrong is)).4 none)),
         λ s low. same_true (names_at now past s) (bit_at (last_squares shown) s == 1) (IsTrue (bit_at (last_squares shown) s == 1)) (names s ∙ named_if now shown s false none)
             (λ h. h, λ h. h),
       )
@@ -294,7 +289,7 @@ has_none mask s h =
 
 differs_if : (now s : ℕ) (picture : Shown) (before : List Shown) → is_old now (picture ∷ before) s ≡ true → agrees picture ≡ false
 differs_if now s picture before old =
-    elim (cases_of (agrees picture)) [
+    elim (cases_Bool (agrees picture)) [
       | inr other ↦ other
       | inl same ↦ absurd (true≢false (sym old ∙ ap (λ b. has_lasted 10000 now (carry b picture.time
           (since_when (has s) (if is_left picture before then [] else since_set_up before)))) (has_none picture.squares s same)))
@@ -313,18 +308,9 @@ shown_if : (now s : ℕ) (past : List Shown) → is_old now past s ≡ true → 
 shown_if now s [] old = absurd (true≢false (sym old))
 shown_if now s (picture ∷ before) old = refl
 
-played_with : (u s w e : Bool) (k : Kind) → u ≡ false → s ≡ false → w ≡ false → e ≡ false → kind_with u s w e k ≡ k
-played_with false false false false k a b c d = refl
-played_with true s w e k a b c d = absurd (true≢false a)
-played_with false true w e k a b c d = absurd (true≢false b)
-played_with false false true e k a b c d = absurd (true≢false c)
-played_with false false false true k a b c d = absurd (true≢false d)
-
 pub wrong_is_said : WrongIsSaid
 wrong_is_said now s past order played up low differed =
     let shown : List Shown = pictures past in
     let old : is_old now shown s ≡ true = (old_is_throughout now s shown order).1 differed in
-    let k : Kind = kind_of now (has_played past) shown in
-    let same : kind_at now past ≡ k = played_with (is_some (unplugged_since past)) (is_some (silent_since past)) (waits past) (is_some (ended_since past)) k
-    (gone past ∙ played.line) (still past ∙ played.answers) (waits_is past (shown_if now s shown old) ∙ played.shown) (ended past ∙ played.result) in
+    let same = played_is now past (shown_if now s shown old) played in
     elim (said_of now s (has_played past) shown low old up) [ inl wrong ↦ inl (same ∙ wrong) | inr none ↦ inr (same ∙ none) ]

@@ -1,3 +1,4 @@
+pub mod Alarms
 pub mod Hints
 pub mod Keeping
 pub mod Laws

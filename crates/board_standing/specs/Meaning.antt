@@ -1,15 +1,16 @@
 -- What it means that a state is read. Events are listed with the latest first, times are milliseconds.
-use Rattle.std.specs.Prelude.{◌≡◌, ◌⊎◌, ◌<◌, ◌↔◌, ◌==◌, ℕ, IsTrue, not, Bool, true, false, List, [], ◌∷◌, count_ones, if◌then◌else◌}
+use Rattle.std.specs.Prelude.{◌≡◌, ◌⊎◌, ◌<◌, ◌+◌, ◌↔◌, ◌==◌, ◌&&◌, nat_le, nat_lt, ℕ, IsTrue, not, Bool, true, false, List, [], ◌∷◌, Some, count_ones, if◌then◌else◌}
 use Rattle.std.specs.Int.{bit_at}
 use Rattle.square_runs.specs.Laws.{HoldsThroughout, InOrder}
-use Rattle.square_runs.specs.Shown.{has}
+use Rattle.square_runs.specs.Shown.{Shown, has}
 use Rattle.board_standing.specs.declared.heard.Event.{Event}
 use Rattle.board_standing.specs.declared.heard.Heard.{Heard}
 use Rattle.board_standing.specs.declared.heard.Heard.TheVariants.{Shows, Repeats, Moves, Ends, Reopens, Stops, Answers, Unplugs, Plugs, Begins}
-use Rattle.board_standing.specs.declared.state.Kind.TheVariants.{Waits, Agrees, Ended, Wrong, NoStart, SettingUp, Silent, Unplugged}
+use Rattle.board_standing.specs.declared.state.Kind.TheVariants.{Agrees, Wrong, NoStart, SettingUp, Silent, Unplugged}
+use Rattle.board_standing.specs.declared.state.Hint.TheVariants.{TurnedRound}
 use Rattle.board_standing.specs.Line.{pictures}
 use Rattle.board_standing.specs.Pictures.{is_no_nearer, is_set_up, last_squares, since_set_up}
-use Rattle.board_standing.specs.States.{kind_at, names_at}
+use Rattle.board_standing.specs.States.{hint_at, kind_at, names_at}
 
 -- One of these was heard, and since the last of them none of those.
 abbrev pub stands_by : Bool → Bool → Bool → Bool
@@ -112,3 +113,66 @@ WrongNamesExactly = (now : ℕ) (past : List Event) → InOrder now (pictures pa
 abbrev pub WrongIsSaid : Type 0
 WrongIsSaid = (now s : ℕ) (past : List Event) → InOrder now (pictures past) → IsPlayed past → is_set_up (pictures past) ≡ false → s < 64
     → HasDiffered now past s → (kind_at now past ≡ Wrong) ⊎ (kind_at now past ≡ NoStart)
+
+-- A move is played.
+abbrev pub plays : Heard → Bool
+plays Moves = true
+plays other = false
+
+abbrev pub never : Heard → Bool
+never what = false
+
+-- If for 15 seconds the board has come no nearer to its game, WRONG is read, or that the start is not there: the latter exactly if the
+-- position of the game was never shown.
+abbrev pub OverdueIsSaid : Type 0
+OverdueIsSaid = (now : ℕ) (past : List Event) → InOrder now (pictures past) → IsPlayed past → HoldsThroughout is_no_nearer 15000 now (pictures past)
+    → kind_at now past ≡ (if stands shows_position never past then Wrong else NoStart)
+
+-- That the start is not there is read in no other case.
+abbrev pub NoStartExactly : Type 0
+NoStartExactly = (now : ℕ) (past : List Event) → InOrder now (pictures past)
+    → (kind_at now past ≡ NoStart) ↔ (IsPlayed past × HoldsThroughout is_no_nearer 15000 now (pictures past) × (stands shows_position never past ≡ false))
+
+-- The picture differs on more than six squares, which no move does.
+abbrev pub shows_many : Heard → Bool
+shows_many (Shows picture) = nat_lt 6 (count_ones picture.differs)
+shows_many other = false
+
+-- A picture was shown within ten seconds; or the last one differs on more than six squares, and no move was played.
+abbrev pub GoesOn : ℕ → Bool → List Shown → Type 0
+GoesOn now played [] = ⊥
+GoesOn now played (picture ∷ before) = (now < picture.time + 10000) ⊎ ((6 < count_ones picture.squares) × (played ≡ false))
+
+-- The pieces are set up: more than six squares have differed since the board agreed last, that goes on, and it comes nearer.
+pub record IsSettingUp (now : ℕ) (past : List Event) : Type 0 where
+  pub played : IsPlayed past
+  pub many : stands shows_many shows_position past ≡ true
+  pub goes_on : GoesOn now (stands plays never past) (pictures past)
+  pub nearer : HoldsThroughout is_no_nearer 15000 now (pictures past) → ⊥
+
+-- That is read exactly then.
+abbrev pub SettingUpExactly : Type 0
+SettingUpExactly = (now : ℕ) (past : List Event) → InOrder now (pictures past) → (kind_at now past ≡ SettingUp) ↔ IsSettingUp now past
+
+-- The picture is the start on a board that is turned round, but for four squares; or it isn't right on more squares so.
+abbrev pub shows_turned : Heard → Bool
+shows_turned (Shows picture) = nat_le (count_ones picture.turned) 4 && nat_le 16 (count_ones picture.differs)
+shows_turned other = false
+
+abbrev pub shows_straight : Heard → Bool
+shows_straight (Shows picture) = not (nat_lt (count_ones picture.turned) (count_ones picture.differs))
+shows_straight Moves = true
+shows_straight Ends = true
+shows_straight Reopens = true
+shows_straight other = false
+
+-- The line is there, the board answers, and it has shown its pieces since the recorder began.
+pub record IsSeen (past : List Event) : Type 0 where
+  pub line : stands goes opens past ≡ false
+  pub answers : stands stops answers past ≡ false
+  pub shown : stands begins shows past ≡ false
+
+-- It is hinted that the board is turned round exactly if it was so since its pieces were set up, and no move was played.
+abbrev pub TurnedRoundExactly : Type 0
+TurnedRoundExactly = (now : ℕ) (past : List Event) → (hint_at now past ≡ Some TurnedRound)
+    ↔ (IsSeen past × (stands shows_turned shows_straight past ≡ true) × (stands plays never past ≡ false))

@@ -1,6 +1,7 @@
 //! What holds of each history. Each law is the contract of a function, which does nothing.
 ghost use Rattle.board_standing.specs.Laws.{OldIsThroughout, OverdueIsThroughout, StaysUntilDue};
-ghost use Rattle.board_standing.specs.Meaning.{AgreesExactly, SilentExactly, UnpluggedExactly, WrongIsSaid, WrongNamesExactly};
+ghost use Rattle.board_standing.specs.Meaning.{AgreesExactly, NoStartExactly, OverdueIsSaid, SettingUpExactly, SilentExactly, TurnedRoundExactly, UnpluggedExactly, WrongIsSaid, WrongNamesExactly};
+ghost use Rattle.board_standing.specs.Alarms.{AlarmsExactly, LastingIsNoNews, OtherIsNews};
 
 /// If nothing is heard, the state stays as it is until it is due.
 pub fn stays_until_due()
@@ -40,4 +41,39 @@ pub fn wrong_names_exactly()
 /// What has differed for ten seconds is said.
 pub fn wrong_is_said()
     ensures { WrongIsSaid }
+{}
+
+/// A board that has come no nearer to its game for 15 seconds is said to be wrong, or not to show the start.
+pub fn overdue_is_said()
+    ensures { OverdueIsSaid }
+{}
+
+/// That the start is not there is said exactly if the board has come no nearer to it for 15 seconds, and has never shown it.
+pub fn no_start_exactly()
+    ensures { NoStartExactly }
+{}
+
+/// That pieces are set up is said exactly while they are.
+pub fn setting_up_exactly()
+    ensures { SettingUpExactly }
+{}
+
+/// A board may be turned round exactly if its pieces stand so, and no move was played.
+pub fn turned_round_exactly()
+    ensures { TurnedRoundExactly }
+{}
+
+/// Somebody is called exactly for these states.
+pub fn alarms_exactly()
+    ensures { AlarmsExactly }
+{}
+
+/// Another kind is reported, another hint, and other squares that are wrong.
+pub fn other_is_news()
+    ensures { OtherIsNews }
+{}
+
+/// A state that only lasts isn't reported again.
+pub fn lasting_is_no_news()
+    ensures { LastingIsNoNews }
 {}

@@ -13,7 +13,7 @@ use Rattle.board_listing.specs.declared.listing.Listing.TheVariants.{Game, Watch
 use Rattle.dgt_frame.specs.Streams.{Timed}
 use Rattle.chess_game.specs.declared.values.Tag.{Tag}
 use Rattle.replay_arguments.specs.declared.arguments.Subcommand.{Subcommand}
-use Rattle.replay_arguments.specs.Subcommands.{Asks, AsksFor, AsksForPictures, AsksForTimes, AsksToAdd, AsksToAttend, AsksToCheck, AsksToFollow, AsksToGoBack, AsksToRecord, AsksToRecover, AsksToShow, AsksToWatch}
+use Rattle.replay_arguments.specs.Subcommands.{Asks, AsksFor, AsksForPictures, AsksForTimes, AsksToAdd, AsksToAttend, AsksToCheck, AsksToFollow, AsksToGoBack, AsksToRecord, AsksToRecover, AsksToReplace, AsksToShow, AsksToWatch}
 use Rattle.replay_arguments.specs.Setups.{SetsUpNothing, tag_text}
 use Rattle.chess_text.specs.Start.{HasNoStart, StartsAt, given}
 use Rattle.replay_arguments.specs.TagOptions.{option_of}
@@ -21,6 +21,7 @@ use Rattle.text_subcommands.specs.Checked.{RefusesPgn, text_limit, Checks}
 use Rattle.text_subcommands.specs.Timed.{RefusesTimes, TellsTimes, times_limit}
 use Rattle.dgt_replay.specs.Add.{AddsLine}
 use Rattle.dgt_replay.specs.Back.{TakesBack}
+use Rattle.dgt_replay.specs.Instead.{PutsInstead}
 use Rattle.dgt_replay.specs.Edit.{Edits, text_in}
 use Rattle.dgt_replay.proofs.EditLemmas.{puts_memory}
 use Rattle.dgt_replay.specs.Does.{AttendsBoard, Lists, Records, RecoversPairs, WritesText}
@@ -35,7 +36,7 @@ use Rattle.dgt_replay.proofs.EndLemmas.{ends_for_memory, none_read, not_both}
 use Rattle.text_subcommands.proofs.MessageLemmas.{tells_alike, tells_memory}
 use Rattle.dgt_replay.proofs.RefusalLemmas.{refuses_alike}
 use Rattle.dgt_replay.proofs.SetupLemmas.{meets, meets_nothing, meets_board}
-use Rattle.dgt_replay.proofs.SubcommandLemmas.{add_chosen, back_chosen, chooses_check, chooses_follow, chooses_pictures, chooses_record, chooses_recover, chooses_show, chooses_times, chooses_watch, follow_chosen, live_chosen, moves_chosen, positions_chosen, record_chosen, recover_chosen, watch_chosen}
+use Rattle.dgt_replay.proofs.SubcommandLemmas.{add_chosen, back_chosen, chooses_check, chooses_follow, chooses_pictures, chooses_record, chooses_recover, chooses_show, chooses_times, chooses_watch, follow_chosen, instead_chosen, live_chosen, moves_chosen, positions_chosen, record_chosen, recover_chosen, watch_chosen}
 
 -- Memory ran out before anything was read, or written to the output.
 pub record LacksMemory (status : ℕ) (s : Streams) : Type 0 where
@@ -288,6 +289,23 @@ pub does_refuse_back : (arguments : List Text) (subcommand : Subcommand) (status
     → (rows : List Row) → Asks arguments (codes "back") rows → HasNoStart (first_of (codes "fen") rows) → Refuses (RefusesStart (first_of (codes "fen") rows)) status s
 does_refuse_back arguments subcommand status s asked does rows asks none =
     let found = back_chosen arguments rows subcommand asks asked in
+    refuses_start (given found.0.board.fen) rows status s found.2.board.fen (does_as subcommand _ status s found.1 does).1 none
+
+pub does_instead : (arguments : List Text) (subcommand : Subcommand) (status : ℕ) (s : Streams) → AsksFor arguments subcommand → Does subcommand status s
+    → (setting : Setting) (recovers : Bool) (line : Option Text) → AsksToReplace arguments setting recovers line → PutsInstead setting recovers (text_in line) status s
+does_instead arguments subcommand status s asked does setting recovers line (rows, asks, sets, flag, text) =
+    let found = instead_chosen arguments rows subcommand asks asked in
+    let options = found.0 in
+    let wants = found.2 in
+    let takes = (does_as subcommand _ status s found.1 does).0 setting (meets_board rows options.board setting wants.board sets) in
+    let R : Bool → Type 0 = λ b. PutsInstead setting b (text_in (given options.text)) status s in
+    let T : Option Text → Type 0 = λ t. PutsInstead setting recovers (text_in t) status s in
+    subst T (wants.text ∙ text) (subst R (wants.recovers recovers flag) takes)
+
+pub does_refuse_instead : (arguments : List Text) (subcommand : Subcommand) (status : ℕ) (s : Streams) → AsksFor arguments subcommand → Does subcommand status s
+    → (rows : List Row) → Asks arguments (codes "instead") rows → HasNoStart (first_of (codes "fen") rows) → Refuses (RefusesStart (first_of (codes "fen") rows)) status s
+does_refuse_instead arguments subcommand status s asked does rows asks none =
+    let found = instead_chosen arguments rows subcommand asks asked in
     refuses_start (given found.0.board.fen) rows status s found.2.board.fen (does_as subcommand _ status s found.1 does).1 none
 
 pub does_attend : (arguments : List Text) (subcommand : Subcommand) (status : ℕ) (s : Streams) → AsksFor arguments subcommand → Does subcommand status s

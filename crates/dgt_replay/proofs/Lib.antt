@@ -4,6 +4,7 @@ pub mod DoesLemmas
 pub mod EditLemmas
 pub mod EndLemmas
 pub mod FaultLemmas
+pub mod GotMovesLemmas
 pub mod LiveLemmas
 pub mod LiveTextLemmas
 pub mod RecordedLemmas

@@ -8,7 +8,7 @@ use Rattle.clap.specs.Simple.{subcommand_of}
 use Rattle.board_events.specs.declared.setup.Setup.{Setup}
 use Rattle.board_events.specs.Settings.{Setting}
 use Rattle.replay_arguments.specs.declared.arguments.Subcommand.{Subcommand}
-use Rattle.replay_arguments.specs.declared.arguments.Subcommand.TheVariants.{Show, Pictures, Record, Follow, Watch, Recover, Add, Back, Live, Check, Times, Moves, Positions}
+use Rattle.replay_arguments.specs.declared.arguments.Subcommand.TheVariants.{Show, Pictures, Record, Follow, Watch, Recover, Add, Back, Instead, Live, Check, Times, Moves, Positions}
 use Rattle.replay_arguments.specs.declared.arguments.BoardArguments.{BoardArguments}
 use Rattle.replay_arguments.specs.declared.arguments.EditArguments.{EditArguments}
 use Rattle.replay_arguments.specs.declared.arguments.LiveArguments.{LiveArguments}
@@ -118,6 +118,13 @@ pub back_chosen : (arguments : List Text) (rows : List Row) (subcommand : Subcom
     → (options : EditArguments) × (subcommand ≡ Back options) × WantsEdit (codes "to") rows options
 back_chosen arguments rows subcommand asks asked =
     let found = (chosen arguments (codes "back") rows subcommand asks asked).back refl in
+    (found.0, found.1, found.2)
+
+-- `instead` asks that a game get other moves as its options say
+pub instead_chosen : (arguments : List Text) (rows : List Row) (subcommand : Subcommand) → Asks arguments (codes "instead") rows → AsksFor arguments subcommand
+    → (options : EditArguments) × (subcommand ≡ Instead options) × WantsEdit (codes "line") rows options
+instead_chosen arguments rows subcommand asks asked =
+    let found = (chosen arguments (codes "instead") rows subcommand asks asked).instead refl in
     (found.0, found.1, found.2)
 
 -- `live` asks that a board be attended as its options say

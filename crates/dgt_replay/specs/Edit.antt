@@ -1,4 +1,4 @@
--- What becomes of a capture that `add` or `back` answers: by bytes, or by none, and by a line.
+-- What becomes of a capture that `add`, `back` or `instead` answers: by bytes, or by none, and by a line.
 use Rattle.std.specs.Prelude.{◌≡◌, ◌⊎◌, ◌∷◌, [], ℕ, Bool, Contains, IfSome, List, Option, None, Some, codes, false, true}
 use Rattle.std.specs.Option.{unwrap_or}
 use Rattle.std.specs.Io.KnownBytes.{Appends, Keeps}

@@ -4,7 +4,9 @@ pub mod Agreement
 pub mod Back
 pub mod Does
 pub mod Edit
+pub mod GotMoves
 pub mod Inside
+pub mod Instead
 pub mod Laws
 pub mod LiveTexts
 pub mod Messages

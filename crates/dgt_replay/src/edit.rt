@@ -1,4 +1,4 @@
-//! The subcommands `add` and `back`, which change a capture.
+//! The subcommands `add`, `back` and `instead`, which change a capture.
 ghost use Rattle.std.specs.Prelude.{◌≡◌, ◌≢◌, ◌≤◌, ◌⊎◌, Some, codes, false, option_map, true};
 ghost use Rattle.std.specs.Io.KnownBytes.{Appends};
 ghost use Rattle.board_captures.specs.Reading.{IsTooLong, setting_of};
@@ -13,6 +13,7 @@ ghost use Rattle.watched_streams.specs.Watch.{IsFlushed, has_failed, inner_of};
 ghost use Rattle.adding.specs.Lines.{answer_line};
 ghost use Rattle.dgt_replay.specs.Add.{AnswersLine, added_of};
 ghost use Rattle.dgt_replay.specs.Back.{AnswersBack};
+ghost use Rattle.dgt_replay.specs.Instead.{AnswersInstead};
 ghost use Rattle.dgt_replay.specs.Edit.{Edits, Puts, text_in as text_in_of};
 ghost use Rattle.dgt_replay.specs.Inside.Editing.{AnswersOf, PutsAnswer};
 
@@ -20,7 +21,7 @@ use adding::{Answer, add_line, line_of};
 use board_captures::{CaptureError, Method};
 use chess_text::start_of;
 use dgt_frame::LIMIT;
-use going_back::{Told, tell_back};
+use going_back::{Told, tell_back, tell_instead};
 use replay_arguments::EditArguments;
 use std::alloc::Global;
 use std::io::{Read, Write};
@@ -34,6 +35,8 @@ pub enum EditKind {
     Add,
     /// Its game goes back.
     Back,
+    /// Its game gets typed moves in place of its last ones.
+    Instead,
 }
 
 /// Writes the bytes, and says the line.
@@ -93,7 +96,7 @@ fn put_added<O: Write, E: Write>(
     }
 }
 
-/// Writes the new capture of a game that goes back, and says how far, or why it doesn't.
+/// Writes the new capture of a game that goes back or gets other moves, and says what was done, or why nothing was.
 fn put_told<O: Write, E: Write>(told: &Told, out: &mut Watch<O>, err: &mut Watch<E>) -> u8
     requires working { has_failed out.old ≡ false }
     requires erring { has_failed err.old ≡ false }
@@ -166,6 +169,33 @@ fn back_to<O: Write, E: Write>(
     }
 }
 
+/// Answers the moves that the game of a capture is to get in place of its last ones.
+fn replace_by<O: Write, E: Write>(
+    alloc: Global,
+    method: &Method,
+    typed: &[u8],
+    capture: &[u8],
+    out: &mut Watch<O>,
+    err: &mut Watch<E>,
+) -> u8
+    requires working { has_failed out.old ≡ false }
+    requires erring { has_failed err.old ≡ false }
+    ensures puts { Puts (AnswersInstead (setting_of method.now) method.now.recovers typed.now) (IsTooLong (setting_of method.now) method.now.recovers) (Some capture.now) result (O.contents (inner_of out.old)) (O.contents (inner_of out.new))
+        (E.contents (inner_of err.old)) (E.contents (inner_of err.new)) (has_failed out.new) (has_failed err.new) }
+    ensures works { result ≡ 0 → (has_failed out.new ≡ false) × (has_failed err.new ≡ false) }
+    ensures out_blamed { has_failed out.new ≡ true → result ≡ 3 }
+    ensures known { result ≤ 4 }
+    ensures status { result ≢ 2 }
+    ensures flushed { IsFlushed out.new }
+    ensures told { result ≡ 0 → IsFlushed err.new }
+{
+    match tell_instead(alloc, method, capture, typed) {
+        Ok(told) => put_told(&told, out, err),
+        Err(CaptureError::TooLong) => refused_run(out, err, b"input: too long\n", 1),
+        Err(CaptureError::Memory) => refused_run(out, err, b"memory\n", 4),
+    }
+}
+
 /// Answers the text of a subcommand's option.
 fn edit_to<O: Write, E: Write>(
     alloc: Global,
@@ -190,6 +220,7 @@ fn edit_to<O: Write, E: Write>(
     match kind {
         EditKind::Add => add_to(alloc, method, text, capture, out, err),
         EditKind::Back => back_to(alloc, method, text, capture, out, err),
+        EditKind::Instead => replace_by(alloc, method, text, capture, out, err),
     }
 }
 
@@ -235,7 +266,7 @@ fn edit_from<R: Read, O: Write, E: Write>(
 }
 
 /// Answers the capture on the input, and returns the status: writes the bytes that a typed line adds to it, or the new
-/// capture of a game that goes back. What was done, or why nothing was, is one line on `err`.
+/// capture of a game that goes back or gets other moves. What was done, or why nothing was, is one line on `err`.
 pub fn edit<R: Read, O: Write, E: Write>(
     alloc: Global,
     kind: EditKind,

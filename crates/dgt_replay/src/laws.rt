@@ -1,6 +1,7 @@
 //! What one subcommand's output has to do with another's, each law as the contract of a function that does nothing.
 ghost use Rattle.dgt_replay.specs.Added.{AddedLinesAreRecorded, AddedLinesAreRecovered};
 ghost use Rattle.dgt_replay.specs.Agreement.{FollowTellsTheGame, RecordsRecovered, RecordsShownOrTold, WatchTellsTheGame};
+ghost use Rattle.dgt_replay.specs.GotMoves.{GotMovesIsRecorded, GotMovesIsRecovered};
 ghost use Rattle.dgt_replay.specs.Laws.{WrittenTextsAreWithin, WrittenTextsPass};
 ghost use Rattle.dgt_replay.specs.LiveTexts.{LiveTextsAreRecorded, LiveTextsAreRecovered};
 ghost use Rattle.dgt_replay.specs.WentBack.{WentBackIsRecorded, WentBackIsRecovered};
@@ -8,7 +9,7 @@ ghost use Rattle.dgt_replay.specs.WentBack.{WentBackIsRecorded, WentBackIsRecove
 use board_listing::laws::{lines_give_the_game, watch_lines_give_the_game};
 use board_session::laws::moves_take_ten_bytes;
 use dgt_frame::laws::shows_once;
-use going_back::laws::what_stays_is_recorded;
+use going_back::laws::{what_comes_is_recorded, what_stays_is_recorded};
 use live_lines::laws::{texts_are_recorded, texts_are_recovered};
 use pgn_book::laws::{one_text, texts_are_short};
 use recovery::laws::plies_are_shown_or_told;
@@ -75,13 +76,29 @@ pub fn added_lines_are_recorded()
 }
 
 /// Of the new capture of a game that goes back, `record` writes exactly the plies that stay, with their clocks, and no
-/// result. Behind `recover` it does, where the game went back with `--recover`.
+/// result; or one more that the board shows. Behind `recover` it does, where the game went back with `--recover`.
 pub fn went_back_is_recorded()
     ensures recorded { WentBackIsRecorded }
     ensures recovered { WentBackIsRecovered }
 {
     // For its clause: the game of a new capture.
     what_stays_is_recorded();
+    // For its clause: the bytes show one list of events.
+    shows_once();
+    // For its clause: the entries fold to one score.
+    folds_once();
+    // For its clause: the pairs are recovered in one way.
+    recovers_once();
+}
+
+/// Of the new capture of a game that gets other moves, `record` writes the plies up to the number of the line and then its moves.
+/// Behind `recover` it does, where the capture was read with `--recover`.
+pub fn got_moves_are_recorded()
+    ensures recorded { GotMovesIsRecorded }
+    ensures recovered { GotMovesIsRecovered }
+{
+    // For its clause: the game of a new capture.
+    what_comes_is_recorded();
     // For its clause: the bytes show one list of events.
     shows_once();
     // For its clause: the entries fold to one score.

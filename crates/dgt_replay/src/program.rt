@@ -9,7 +9,7 @@ ghost use Rattle.clap.specs.Values.{kind_of};
 ghost use Rattle.clap.specs.Walk.{Row, first_of};
 ghost use Rattle.watched_streams.specs.Watch.{IsFlushed, inner_of, has_failed};
 ghost use Rattle.replay_arguments.specs.declared.arguments.BoardArguments.{BoardArguments as BoardOptions};
-ghost use Rattle.replay_arguments.specs.Subcommands.{AreMistaken, Asks, AsksForHelp, AsksForVersion, AsksToAdd, AsksToAttend, AsksToFollow, AsksToGoBack, AsksToRecord, AsksToRecover, AsksToWatch, IsCheck, IsPictures, IsRefused, IsShow, IsTimes};
+ghost use Rattle.replay_arguments.specs.Subcommands.{AreMistaken, Asks, AsksForHelp, AsksForVersion, AsksToAdd, AsksToAttend, AsksToFollow, AsksToGoBack, AsksToRecord, AsksToRecover, AsksToReplace, AsksToWatch, IsCheck, IsPictures, IsRefused, IsShow, IsTimes};
 ghost use Rattle.board_listing.specs.declared.listing.Listing.{Listing};
 ghost use Rattle.board_listing.specs.EventLines.{rest_line};
 ghost use Rattle.board_listing.specs.OneText.{event_lines, no_line, picture_lines};
@@ -19,6 +19,7 @@ ghost use Rattle.replay_arguments.specs.TagOptions.{option_of};
 ghost use Rattle.text_subcommands.specs.Checked.{Checks};
 ghost use Rattle.dgt_replay.specs.Add.{AddsLine};
 ghost use Rattle.dgt_replay.specs.Back.{TakesBack};
+ghost use Rattle.dgt_replay.specs.Instead.{PutsInstead};
 ghost use Rattle.dgt_replay.specs.Does.{AttendsBoard, Lists, Records, RecoversPairs, WritesText};
 ghost use Rattle.dgt_replay.specs.Inside.Dispatching.{Does, game_listing};
 ghost use Rattle.dgt_replay.specs.Edit.{text_in};
@@ -210,6 +211,7 @@ fn dispatch<R: Read, O: Write, E: Write>(
         Subcommand::Recover(options) => recover(alloc, options, reader, out, err),
         Subcommand::Add(options) => edit(alloc, EditKind::Add, options, reader, out, err),
         Subcommand::Back(options) => edit(alloc, EditKind::Back, options, reader, out, err),
+        Subcommand::Instead(options) => edit(alloc, EditKind::Instead, options, reader, out, err),
         Subcommand::Live(options) => live(alloc, options, reader, out, err),
         Subcommand::Check => check(alloc, reader, out, err),
         Subcommand::Times => times(alloc, reader, out, err),
@@ -286,6 +288,14 @@ pub fn run<R: Read, O: Write, E: Write>(
     ensures back { (setting : Setting) (recovers : Bool) (to : Option (List ℕ)) → AsksToGoBack (map string_bytes arguments.now) setting recovers to
         → TakesBack setting recovers (text_in to) result (streams R.remaining O.contents E.contents reader.old reader.new out.old out.new err.old err.new) }
     ensures back_refuses { (rows : List Row) → Asks (map string_bytes arguments.now) (codes "back") rows → HasNoStart (first_of (codes "fen") rows)
+        → Refuses (RefusesStart (first_of (codes "fen") rows)) result
+        (streams R.remaining O.contents E.contents reader.old reader.new out.old out.new err.old err.new) }
+
+    // `instead` with any options: the capture of a game that gets the moves of the line in place of its last ones, or why it
+    // doesn't. Where no position has the FEN, the reason is said.
+    ensures instead { (setting : Setting) (recovers : Bool) (line : Option (List ℕ)) → AsksToReplace (map string_bytes arguments.now) setting recovers line
+        → PutsInstead setting recovers (text_in line) result (streams R.remaining O.contents E.contents reader.old reader.new out.old out.new err.old err.new) }
+    ensures instead_refuses { (rows : List Row) → Asks (map string_bytes arguments.now) (codes "instead") rows → HasNoStart (first_of (codes "fen") rows)
         → Refuses (RefusesStart (first_of (codes "fen") rows)) result
         (streams R.remaining O.contents E.contents reader.old reader.new out.old out.new err.old err.new) }
 

@@ -4,8 +4,8 @@ use Rattle.std.specs.Prelude.{slice_get, ⊤}
 use Rattle.std.proofs.lemmas.Bool.{cases_Bool, cases_lt, true≢false}
 use Rattle.std.proofs.lemmas.List.{append-nil, length-append}
 use Rattle.std.proofs.lemmas.Option.{slice_get_cases, slice_get_within}
-use Rattle.game_ends.specs.declared.made.Made.{Made}
-use Rattle.game_ends.specs.Ends.{LosesTail, home_stands, may_go}
+use Rattle.game_over.specs.declared.made.Made.{Made}
+use Rattle.game_over.specs.Unfinished.{LosesTail, may_go}
 use Rattle.game_over.specs.declared.happened.Event.{Event}
 use Rattle.game_over.specs.declared.happened.Happening.{Happening}
 use Rattle.game_over.specs.declared.happened.Happening.TheVariants.{Moves, Agrees, Differs, Shows, Ends, Declares, Reopens, Resumes, GoesBack, Passes, Hears}
@@ -103,11 +103,11 @@ listed_alike : (last : Option Last) (given : Option Given) → length (listed_pl
 listed_alike None given = refl
 listed_alike (Some last) given = refl
 
-showed_alike : (at : ℕ) (last : Option Last) → length (listed_move (showed_by false at last)) ≡ length (listed_move last)
+pub showed_alike : (at : ℕ) (last : Option Last) → length (listed_move (showed_by false at last)) ≡ length (listed_move last)
 showed_alike at None = refl
 showed_alike at (Some last) = refl
 
-both_longer : {A B : Type 0} (xs more : List A) (ys others : List B) → length xs ≡ length ys → length more ≡ length others → length (xs ++ more) ≡ length (ys ++ others)
+pub both_longer : {A B : Type 0} (xs more : List A) (ys others : List B) → length xs ≡ length ys → length more ≡ length others → length (xs ++ more) ≡ length (ys ++ others)
 both_longer xs more ys others h g = length-append xs more ∙ ap (λ n. n + length more) h ∙ ap (λ n. length ys + n) g ∙ sym (length-append ys others)
 
 as_many_by : (what : Happening) (at : ℕ) (last : Option Last) (given : Option Given) (all : List Place) (earlier : List Made) → length all ≡ length earlier
@@ -152,10 +152,10 @@ new_event : Move → ℕ → ℕ → Event
 new_event move at bytes = record { at = at; bytes = bytes; what = Moves move }
 
 kept_first : (move : Move) (at bytes : ℕ) (past : List Event)
-    → Kept move.is_added (length (moves past)) (at + home_stands) bytes (new_event move at bytes ∷ past)
+    → Kept move.is_added (length (moves past)) (at + 3000) bytes (new_event move at bytes ∷ past)
 unfolding new_event LastBehind GivenBehind
 kept_first move at bytes past = record {
-  is_in = made_now move (length (moves past)) (at + home_stands) at bytes (earlier_moves (new_event move at bytes ∷ past))
+  is_in = made_now move (length (moves past)) (at + 3000) at bytes (earlier_moves (new_event move at bytes ∷ past))
       (both_longer (earlier_moves past) (listed_move (showed_by false at (last_move past))) (earlier_moves past) (listed_move (last_move past)) refl
       (showed_alike at (last_move past))) refl;
   all = none_yet (length (moves past)) bytes (places past) (all_as_many past);
@@ -229,6 +229,6 @@ stays_for added n until bytes list event over kept said =
 pub moves_stay : MovesStay
 unfolding new_event
 moves_stay move at bytes past later event over behind still said =
-    stays_for move.is_added (length (moves past)) (at + home_stands) bytes (later ++ new_event move at bytes ∷ past) event over
-    (kept_later move.is_added (length (moves past)) (at + home_stands) bytes later (new_event move at bytes ∷ past) behind still (kept_first move at bytes past))
+    stays_for move.is_added (length (moves past)) (at + 3000) bytes (later ++ new_event move at bytes ∷ past) event over
+    (kept_later move.is_added (length (moves past)) (at + 3000) bytes later (new_event move at bytes ∷ past) behind still (kept_first move at bytes past))
     said

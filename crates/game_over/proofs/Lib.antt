@@ -1,6 +1,16 @@
 pub mod Behind
+pub mod Correcting
 pub mod Endings
+pub mod Going
+pub mod LastMove
+pub mod NextMove
+pub mod OneEnd
 pub mod OneWay
 pub mod Quiet
+pub mod SetUpEnds
 pub mod Standing
 pub mod Staying
+pub mod Stood
+pub mod Sure
+pub mod Tails
+pub mod Thinking

@@ -1,8 +1,8 @@
 -- One thing is said to an event.
 use Rattle.std.proofs.Common.{◌≡◌, ◌-◌, Bool, List, Option, Some, None, sym, ap, ◌∙◌}
 use Rattle.std.specs.Prelude.{slice_get}
-use Rattle.game_ends.proofs.OneWay.{ends_in_one_way}
-use Rattle.game_ends.specs.declared.made.Made.{Made}
+use Rattle.game_over.proofs.OneEnd.{ends_in_one_way}
+use Rattle.game_over.specs.declared.made.Made.{Made}
 use Rattle.game_over.specs.declared.happened.Event.{Event}
 use Rattle.game_over.specs.declared.moves.Place.{Place}
 use Rattle.game_over.specs.declared.said.Said.{Said}

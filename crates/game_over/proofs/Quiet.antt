@@ -1,6 +1,7 @@
 -- What stays when nothing is said to an event.
 use Rattle.std.proofs.Common.{◌≡◌, ◌&&◌, ◌||◌, ℕ, Bool, true, false, List, [], ◌∷◌, Option, Some, None, refl, ap, ◌∙◌}
 use Rattle.std.specs.Prelude.{if◌then◌else◌, is_some}
+use Rattle.std.proofs.Math.Bool.{or-false}
 use Rattle.game_over.specs.declared.happened.Event.{Event}
 use Rattle.game_over.specs.declared.said.Why.{Why}
 use Rattle.game_over.specs.Over.{has_played, has_result, is_another, is_over, over_by, played, played_by, reopens, shows_start, stays_out, why_by, why_over}
@@ -34,10 +35,6 @@ played_quiet event past h =
     ap (λ (o : Option Why). if is_some o then played_by event.what (played past) else 0) (over_quiet event past h)
     ∙ ap (λ n. if is_over past then n else 0) h.counted ∙ played_stays past
 
-or_false : (b : Bool) → (b || false) ≡ b
-or_false true = refl
-or_false false = refl
-
 and_again : (b also : Bool) → (b && (b && also)) ≡ (b && also)
 and_again true also = refl
 and_again false also = refl
@@ -49,7 +46,7 @@ has_played_stays (event ∷ past) = and_again (is_over (event ∷ past)) (has_pl
 pub has_played_quiet : (event : Event) (past : List Event) → IsQuiet event past → has_played (event ∷ past) ≡ has_played past
 has_played_quiet event past h =
     ap (λ (o : Option Why). is_some o && (has_played past || stays_out event.what)) (over_quiet event past h)
-    ∙ ap (λ b. is_over past && (has_played past || b)) h.out ∙ ap (λ b. is_over past && b) (or_false (has_played past)) ∙ has_played_stays past
+    ∙ ap (λ b. is_over past && (has_played past || b)) h.out ∙ ap (λ b. is_over past && b) (or-false (has_played past)) ∙ has_played_stays past
 
 another_stays : (past : List Event) → (has_result (why_over past) && is_another past) ≡ is_another past
 another_stays [] = refl
@@ -58,5 +55,5 @@ another_stays (event ∷ past) = and_again (has_result (why_over (event ∷ past
 pub another_quiet : (event : Event) (past : List Event) → IsQuiet event past → is_another (event ∷ past) ≡ is_another past
 another_quiet event past h =
     ap (λ (o : Option Why). has_result o && (is_another past || shows_start event.what)) (over_quiet event past h)
-    ∙ ap (λ b. has_result (why_over past) && (is_another past || b)) h.start ∙ ap (λ b. has_result (why_over past) && b) (or_false (is_another past))
+    ∙ ap (λ b. has_result (why_over past) && (is_another past || b)) h.start ∙ ap (λ b. has_result (why_over past) && b) (or-false (is_another past))
     ∙ another_stays past

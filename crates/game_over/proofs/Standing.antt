@@ -1,14 +1,12 @@
 -- When a result that stands ends the game.
-use Rattle.std.proofs.Common.{◌≡◌, ◌+◌, ◌≤◌, ◌<◌, ◌⊎◌, inl, inr, ◌&&◌, ℕ, Bool, true, false, List, [], ◌∷◌, ◌++◌, Option, Some, None, refl, sym, ap, ◌∙◌, arith}
-use Rattle.std.specs.Prelude.{if◌then◌else◌, nat_le, is_some}
+use Rattle.std.proofs.Common.{◌≡◌, ◌+◌, ◌≤◌, ◌<◌, ◌⊎◌, inl, inr, ℕ, Bool, true, false, List, [], ◌∷◌, ◌++◌, Option, Some, None, refl, sym, ap, ◌∙◌, arith}
+use Rattle.std.specs.Prelude.{if◌then◌else◌, nat_le}
 use Rattle.std.specs.List.{list_all}
-use Rattle.std.proofs.lemmas.Bool.{and_parts, le-leb, leb-true, true≢false}
+use Rattle.std.proofs.lemmas.Bool.{and_parts, le-leb, lt-leb, true≢false}
 use Rattle.game_over.specs.declared.happened.Event.{Event}
 use Rattle.game_over.specs.declared.happened.Happening.{Happening}
-use Rattle.game_over.specs.declared.happened.Happening.TheVariants.{Moves, Ends, Declares, Reopens, Resumes, Passes, Hears}
-use Rattle.game_over.specs.declared.happened.Outcome.{Outcome}
+use Rattle.game_over.specs.declared.happened.Happening.TheVariants.{Moves, Ends, Declares, Reopens, Resumes}
 use Rattle.game_over.specs.declared.result.Given.{Given}
-use Rattle.game_over.specs.declared.said.Why.{Why}
 use Rattle.game_over.specs.declared.said.Why.TheVariants.{Stood}
 use Rattle.game_over.specs.Over.{ended_by, is_over, why_by}
 use Rattle.game_over.specs.Result.{given_by, has_passed, has_stood, last_given, new_given, waits}
@@ -49,13 +47,6 @@ still_stands added given (event ∷ later) past gives all =
       by = before.by;
     }
 
-cases_of : (b : Bool) → (b ≡ true) ⊎ (b ≡ false)
-cases_of true = inl refl
-cases_of false = inr refl
-
-not_yet : (a b : ℕ) → b < a → nat_le a b ≡ false
-not_yet a b low = elim (cases_of (nat_le a b)) [ inl le ↦ (let h : a ≤ b = leb-true a b le in absurd (let never : ⊥ = omega arith in never)) | inr other ↦ other ]
-
 -- What ends a game that isn't over if it has stood so long ends it from then on.
 ends_from : (from : ℕ) (event : Event) (past : List Event) (stood : Bool) → is_over past ≡ false
     → why_by event.what event.at past ≡ (if stood then Some Stood else None) → stood ≡ nat_le from event.at → EndsFrom from event past
@@ -63,7 +54,7 @@ ends_from from event past stood over why is =
     let by : ended_by event past ≡ (if nat_le from event.at then Some Stood else None) =
     ap (λ b. if b then None else why_by event.what event.at past) over ∙ why ∙ ap (λ b. if b then Some Stood else None) is in (
       λ le. by ∙ ap (λ b. if b then Some Stood else None) (le-leb from event.at le),
-      λ low. by ∙ ap (λ b. if b then Some Stood else None) (not_yet from event.at low),
+      λ low. by ∙ ap (λ b. if b then Some Stood else None) (lt-leb from event.at low),
     )
 
 pub ends_after_ten_seconds : EndsAfterTenSeconds

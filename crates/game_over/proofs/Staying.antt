@@ -3,8 +3,8 @@ use Rattle.std.proofs.Common.{◌≡◌, ◌≤◌, ◌+◌, ◌-◌, ◌⊎◌,
 use Rattle.std.specs.Prelude.{slice_get, ⊤}
 use Rattle.std.proofs.lemmas.Bool.{le-leb}
 use Rattle.square_runs.specs.Lasting.{carry}
-use Rattle.game_ends.specs.declared.made.Made.{Made}
-use Rattle.game_ends.specs.Ends.{home_stands, may_go, stood_for}
+use Rattle.game_over.specs.declared.made.Made.{Made}
+use Rattle.game_over.specs.Unfinished.{may_go, stood_for}
 use Rattle.game_over.specs.declared.happened.Happening.{Happening}
 use Rattle.game_over.specs.declared.happened.Happening.TheVariants.{Moves, Agrees, Differs, Shows, Ends, Declares, Reopens, Resumes, GoesBack, Passes, Hears}
 use Rattle.game_over.specs.declared.happened.Move.{Move}
@@ -32,7 +32,7 @@ pub LeftBy : ℕ → Option ℕ → Type 0
 LeftBy until None = ⊤
 LeftBy until (Some left) = until ≤ left
 
-stood_long : (at until : ℕ) (left : Option ℕ) → at + 3000 ≡ until → LeftBy until left → stood_for (stood_of at left) home_stands ≡ true
+stood_long : (at until : ℕ) (left : Option ℕ) → at + 3000 ≡ until → LeftBy until left → stood_for (stood_of at left) 3000 ≡ true
 unfolding LeftBy
 stood_long at until None is h = refl
 stood_long at until (Some left) is h = le-leb 3000 (left - at) (omega (arith, is, h))
@@ -70,9 +70,9 @@ left_later added until at left (inr h) (inl a) = inl a
 left_later added until at left (inr h) (inr late) = inr (carried_by until at left late h)
 
 safe_made : (added also stood : Bool) (until at : ℕ) (left : Option ℕ) → also ≡ added → at + 3000 ≡ until → (added ≡ true) ⊎ LeftBy until left
-    → (not also && not (stood_for (stood_of at left) home_stands)) ≡ false
-safe_made added also stood until at left is time (inl a) = neither also (stood_for (stood_of at left) home_stands) (inl (is ∙ a))
-safe_made added also stood until at left is time (inr h) = neither also (stood_for (stood_of at left) home_stands) (inr (stood_long at until left time h))
+    → (not also && not (stood_for (stood_of at left) 3000)) ≡ false
+safe_made added also stood until at left is time (inl a) = neither also (stood_for (stood_of at left) 3000) (inl (is ∙ a))
+safe_made added also stood until at left is time (inr h) = neither also (stood_for (stood_of at left) 3000) (inr (stood_long at until left time h))
 
 moved : (added : Bool) (n until at : ℕ) (before after : Option Last) (earlier : List Made) → (added ≡ true) ⊎ (until ≤ at)
     → IsIn added n until before earlier → IsIn added n until after (earlier ++ listed_move (showed_by false at before))

@@ -1,10 +1,10 @@
 -- What holds of each history. Events are listed with the latest first, times are milliseconds.
 use Rattle.std.specs.Prelude.{◌≡◌, ◌+◌, ◌-◌, ◌≤◌, ◌⊎◌, ◌&&◌, ◌||◌, not, ℕ, Bool, true, false, List, [], ◌∷◌, ◌++◌, Some, None, is_some, slice_get, ⊤}
-use Rattle.game_ends.specs.Ends.{LosesTail, home_stands}
 use Rattle.game_over.specs.declared.happened.Event.{Event}
 use Rattle.game_over.specs.declared.happened.Happening.{Happening}
 use Rattle.game_over.specs.declared.happened.Happening.TheVariants.{Moves, Differs, Ends, Declares, Passes, Reopens}
 use Rattle.game_over.specs.declared.happened.Move.{Move}
+use Rattle.game_over.specs.declared.made.Made.{Made}
 use Rattle.game_over.specs.declared.moves.Place.{Place}
 use Rattle.game_over.specs.declared.result.Given.{Given}
 use Rattle.game_over.specs.declared.said.Over.{Over}
@@ -13,12 +13,18 @@ use Rattle.game_over.specs.declared.said.Said.TheVariants.{IsOver, GoesOn}
 use Rattle.game_over.specs.declared.said.Why.TheVariants.{Stood}
 use Rattle.game_over.specs.Moves.{moves, places}
 use Rattle.game_over.specs.Over.{ended_by, front, has_result, is_over, passes, reopens}
-use Rattle.game_over.specs.Result.{last_given, ten_seconds}
+use Rattle.game_over.specs.Result.{last_given}
 use Rattle.game_over.specs.Said.{IsSaid}
+use Rattle.game_over.specs.Unfinished.{IsEnd, LosesTail}
 
 -- One thing is said to an event.
 abbrev pub SaidInOneWay : Type 0
 SaidInOneWay = (said other : Said) (event : Event) (past : List Event) → IsSaid said event past → IsSaid other event past → said ≡ other
+
+-- A game without a result ends in one way.
+abbrev pub EndsInOneWay : Type 0
+EndsInOneWay = (kept other : ℕ) (is_sure is_also_sure : Bool) (moves : List Made) → IsEnd kept is_sure moves → IsEnd other is_also_sure moves
+    → (kept ≡ other) × (is_sure ≡ is_also_sure)
 
 -- A game is over exactly if an event has ended it, and it wasn't reopened since.
 abbrev pub IsOverExactly : Type 0
@@ -38,7 +44,7 @@ EndsOnce = (event one : Event) (past later : List Event) → is_some (ended_by e
 -- Where a game ends since its result has stood, that was given ten seconds ago or longer, and nothing has taken it back.
 abbrev pub StandsTenSeconds : Type 0
 StandsTenSeconds = (event : Event) (past : List Event) → ended_by event past ≡ Some Stood
-    → (given : Given) × (last_given past ≡ Some given) × (given.at + ten_seconds ≤ event.at)
+    → (given : Given) × (last_given past ≡ Some given) × (given.at + 10000 ≤ event.at)
 
 -- What time alone ends, nobody saw standing: that is sure exactly if an arbiter gave the result.
 abbrev pub UnseenIsUnsure : Type 0
@@ -112,5 +118,5 @@ IsUnchanged added until (event ∷ past) = (changes event.what ≡ true → (add
 -- A move that stood for three seconds, or was added, is the game's, whatever ends it later.
 abbrev pub MovesStay : Type 0
 MovesStay = (move : Move) (at bytes : ℕ) (past later : List Event) (event : Event) (over : Over) → IsBehind bytes later
-    → IsUnchanged move.is_added (at + home_stands) later
+    → IsUnchanged move.is_added (at + 3000) later
     → IsSaid (IsOver over) event (later ++ record { at = at; bytes = bytes; what = Moves move } ∷ past) → bytes ≤ over.bytes

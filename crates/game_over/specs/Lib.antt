@@ -1,7 +1,10 @@
+pub mod Again
 pub mod Keeping
 pub mod Laws
 pub mod Moves
 pub mod Over
 pub mod Result
 pub mod Said
+pub mod SettingUp
 pub mod Standing
+pub mod Unfinished

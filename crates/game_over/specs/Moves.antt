@@ -2,7 +2,7 @@
 -- Times are milliseconds.
 use Rattle.std.specs.Prelude.{ℕ, ◌-◌, Bool, true, false, not, List, [], ◌∷◌, ◌++◌, Option, Some, None, if◌then◌else◌}
 use Rattle.square_runs.specs.Lasting.{carry, has_lasted}
-use Rattle.game_ends.specs.declared.made.Made.{Made}
+use Rattle.game_over.specs.declared.made.Made.{Made}
 use Rattle.game_over.specs.declared.happened.Event.{Event}
 use Rattle.game_over.specs.declared.happened.Happening.{Happening}
 use Rattle.game_over.specs.declared.happened.Happening.TheVariants.{Moves, Agrees, Differs}

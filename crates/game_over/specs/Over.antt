@@ -1,7 +1,7 @@
 -- When a game is over, and what is made of it afterwards. Events are listed with the latest first, times are milliseconds.
 use Rattle.std.specs.Prelude.{ℕ, ◌+◌, min, nat_le, ◌==◌, ◌&&◌, ◌||◌, not, Bool, true, false, List, [], ◌∷◌, Option, Some, None, is_some, if◌then◌else◌}
 use Rattle.square_runs.specs.Lasting.{has_lasted}
-use Rattle.game_ends.specs.Again.{ends_by}
+use Rattle.game_over.specs.Again.{ends_by}
 use Rattle.game_over.specs.declared.happened.Event.{Event}
 use Rattle.game_over.specs.declared.happened.Happening.{Happening}
 use Rattle.game_over.specs.declared.happened.Happening.TheVariants.{Moves, Agrees, Shows, Reopens, Resumes, GoesBack, Passes, Hears}

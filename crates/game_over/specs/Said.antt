@@ -1,7 +1,7 @@
 -- What is said to an event. Events are listed with the latest first.
 use Rattle.std.specs.Prelude.{◌≡◌, ◌-◌, ◌||◌, ℕ, max, nat_lt, Bool, true, false, List, ◌∷◌, Option, Some, None, slice_get, if◌then◌else◌}
-use Rattle.game_ends.specs.declared.made.Made.{Made}
-use Rattle.game_ends.specs.Ends.{IsEnd, LosesTail}
+use Rattle.game_over.specs.declared.made.Made.{Made}
+use Rattle.game_over.specs.Unfinished.{IsEnd, LosesTail}
 use Rattle.game_over.specs.declared.happened.Event.{Event}
 use Rattle.game_over.specs.declared.happened.Happening.{Happening}
 use Rattle.game_over.specs.declared.happened.Happening.TheVariants.{Passes}

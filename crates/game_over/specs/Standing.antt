@@ -1,11 +1,12 @@
--- When a result that stands ends the game. Events are listed with the latest first, times are milliseconds.
+-- When a result ends the game. Events are listed with the latest first, times are milliseconds.
 use Rattle.std.specs.Prelude.{◌≡◌, ◌+◌, ◌≤◌, ◌<◌, ◌⊎◌, ℕ, Bool, true, false, List, ◌∷◌, ◌++◌, Some, None, if◌then◌else◌}
 use Rattle.std.specs.List.{list_all}
 use Rattle.game_over.specs.declared.happened.Event.{Event}
 use Rattle.game_over.specs.declared.happened.Happening.{Happening}
 use Rattle.game_over.specs.declared.happened.Happening.TheVariants.{Moves, Ends, Declares, Reopens, Resumes, Passes, Hears}
+use Rattle.game_over.specs.declared.happened.Move.{Move}
 use Rattle.game_over.specs.declared.happened.Outcome.{Outcome}
-use Rattle.game_over.specs.declared.said.Why.TheVariants.{Stood}
+use Rattle.game_over.specs.declared.said.Why.TheVariants.{PlaysOn, Corrected, Stood}
 use Rattle.game_over.specs.Over.{ended_by, is_over}
 
 -- The result is given, by the position, the kings or an arbiter.
@@ -40,3 +41,24 @@ abbrev pub EndsUnheard : Type 0
 EndsUnheard = (added : Bool) (given time : Event) (later past : List Event) → GivesIt added given.what → list_all leaves_it later ≡ true
     → is_over (later ++ given ∷ past) ≡ false → time.what ≡ Passes
     → EndsFrom (given.at + (if added then 10000 else 17000)) time (later ++ given ∷ past)
+
+-- With this the game keeps its result, though it may have stood for less time.
+abbrev pub keeps_what : Happening → Bool
+keeps_what Resumes = true
+keeps_what other = leaves_what other
+
+abbrev pub keeps_it : Event → Bool
+keeps_it event = keeps_what event.what
+
+-- Another move on the board after the result ends the game.
+abbrev pub NextMoveEnds : Type 0
+NextMoveEnds = (added : Bool) (move : Move) (given next : Event) (later past : List Event) → GivesIt added given.what → list_all keeps_it later ≡ true
+    → is_over (later ++ given ∷ past) ≡ false → next.what ≡ Moves move → move.is_added ≡ false → move.corrects ≡ false
+    → ended_by next (later ++ given ∷ past) ≡ Some PlaysOn
+
+-- A correction on the board ends it too, if the kings or an arbiter gave the result. Mate and stalemate are taken back by it.
+abbrev pub CorrectionEnds : Type 0
+CorrectionEnds = (added : Bool) (outcome : Outcome) (move : Move) (given correction : Event) (later past : List Event) → list_all keeps_it later ≡ true
+    → is_over (later ++ given ∷ past) ≡ false → correction.what ≡ Moves move → move.is_added ≡ false → move.corrects ≡ true
+    → (given.what ≡ Declares outcome added → ended_by correction (later ++ given ∷ past) ≡ Some Corrected)
+    × (given.what ≡ Ends outcome added → ended_by correction (later ++ given ∷ past) ≡ None)

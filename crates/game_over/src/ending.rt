@@ -1,20 +1,19 @@
 //! The machine: it takes what happens in a game, and says when the game is over.
 ghost use Rattle.std.specs.Prelude.{◌≡◌, ◌∷◌, ◌<◌, ◌^◌, ◌||◌, [], ℕ, IfOk, IfSome, IsTrue, List, None, OnOk, Some, if◌then◌else◌, is_some};
-ghost use Rattle.game_ends.specs.Again.{StandsFor as AgainStandsFor};
 ghost use Rattle.game_over.specs.declared.happened.Event.{Event as EventOf};
 ghost use Rattle.game_over.specs.declared.happened.Happening.TheVariants.{Agrees, Differs, Hears, Shows};
 ghost use Rattle.game_over.specs.declared.said.Said.TheVariants.{IsOver, Nothing};
 ghost use Rattle.game_over.specs.declared.said.Why.{Why as WhyOf};
-ghost use Rattle.game_over.specs.Keeping.{StandsFor};
+ghost use Rattle.game_over.specs.Keeping.{KeepsPictures, StandsFor};
 ghost use Rattle.game_over.specs.Over.{begins_now, begun_by, ended_by, front_by, goes_on, happens, has_played, has_result as has_result_of, is_another, is_enough as is_enough_of, is_next as is_next_of, is_on_board as is_on_board_of, left_by, over_by, passes, pictures_at, pictures_by, played, played_by, reopens as reopens_of, shows_start as shows_start_of, starts_again as starts_again_of, stays_out as stays_out_of, was_left as was_left_of, why_by, why_moves as why_moves_of, why_over};
 ghost use Rattle.game_over.specs.Result.{has_come};
 ghost use Rattle.game_over.specs.Said.{IsSaid, is_given as is_given_of, is_seen as is_seen_of, is_sure_by, said_else, unfinished as unfinished_of, with_result as with_result_of};
 
+use crate::again::StartAgain;
 use crate::happened::{Event, Happening, Move, Shown};
 use crate::moves::{Found, Moves};
 use crate::result::{Given, given_after, has_passed, has_stood, stands_until};
 use crate::said::{Over, Said, Why};
-use game_ends::StartAgain;
 use square_runs::lasted;
 use std::alloc::{AllocError, Global};
 
@@ -234,13 +233,13 @@ fn left_after(event: Event) -> Option<u64>
 
 /// The pictures, of which none is left if nobody had listened for so long.
 fn again_after(was_left: bool, again: StartAgain) -> StartAgain
-    ensures { (past : List ℕ) → AgainStandsFor again past → AgainStandsFor result (if was_left then [] else past) }
+    ensures { (past : List ℕ) → KeepsPictures again past → KeepsPictures result (if was_left then [] else past) }
 {
     if was_left { StartAgain::new() } else { again }
 }
 
 fn show(again: &mut StartAgain, what: Happening)
-    ensures { (past : List ℕ) → AgainStandsFor again.old past → AgainStandsFor again.new (pictures_by what past) }
+    ensures { (past : List ℕ) → KeepsPictures again.old past → KeepsPictures again.new (pictures_by what past) }
 {
     match what {
         Happening::Shows(shown) => {
@@ -378,7 +377,7 @@ impl Ending {
 
     /// The pictures up to now.
     fn again_at(&self, now: u64) -> StartAgain
-        ensures { (past : List EventOf) → StandsFor self.now past → AgainStandsFor result (pictures_at now past) }
+        ensures { (past : List EventOf) → StandsFor self.now past → KeepsPictures result (pictures_at now past) }
     {
         again_after(self.was_left(now), self.again)
     }

@@ -1,10 +1,16 @@
 //! What holds of each history. Each law is the contract of a function, which does nothing.
-ghost use Rattle.game_over.specs.Laws.{AddedEndsNothing, EndsBehindFront, EndsOnce, EndsWithResult, GoesOnAfterEnd, IsOverExactly, MovesStay, OnlySetUpGoes, PassesOnce, SaidInOneWay, StandsTenSeconds, TakenBackEndsNothing, UnseenIsUnsure};
-ghost use Rattle.game_over.specs.Standing.{EndsAfterTenSeconds, EndsUnheard};
+ghost use Rattle.game_over.specs.Laws.{AddedEndsNothing, EndsBehindFront, EndsInOneWay, EndsOnce, EndsWithResult, GoesOnAfterEnd, IsOverExactly, MovesStay, OnlySetUpGoes, PassesOnce, SaidInOneWay, StandsTenSeconds, TakenBackEndsNothing, UnseenIsUnsure};
+ghost use Rattle.game_over.specs.SettingUp.{LastMoveStays, SetUpEndsExactly, StoodUntilLeft, ThinksForThreeSeconds};
+ghost use Rattle.game_over.specs.Standing.{CorrectionEnds, EndsAfterTenSeconds, EndsUnheard, NextMoveEnds};
 
 /// One thing is said to an event, by those before it.
 pub fn said_in_one_way()
     ensures { SaidInOneWay }
+{}
+
+/// A game without a result ends in one way.
+pub fn ends_in_one_way()
+    ensures { EndsInOneWay }
 {}
 
 /// A game is over exactly if an event has ended it, and it wasn't reopened since.
@@ -75,4 +81,34 @@ pub fn ends_after_ten_seconds()
 /// If the board isn't heard, it ends the game 17 seconds later, or ten if an arbiter gave it, and at no time before.
 pub fn ends_unheard()
     ensures { EndsUnheard }
+{}
+
+/// Behind a move that stood for a second, the last one stays if it stood for a second too, or for three if it brought a piece home.
+pub fn last_move_stays()
+    ensures { LastMoveStays }
+{}
+
+/// The start that is shown again ends a game exactly if more than four squares were off it before.
+pub fn set_up_ends_exactly()
+    ensures { SetUpEndsExactly }
+{}
+
+/// Another move on the board after a result ends the game.
+pub fn next_move_ends()
+    ensures { NextMoveEnds }
+{}
+
+/// A correction on the board does, if the kings or an arbiter gave the result.
+pub fn correction_ends()
+    ensures { CorrectionEnds }
+{}
+
+/// A move stood until the board last began to show something else.
+pub fn stood_until_left()
+    ensures { StoodUntilLeft }
+{}
+
+/// Hands went on at once after a move if less than three seconds passed between the first two pictures after it.
+pub fn thinks_for_three_seconds()
+    ensures { ThinksForThreeSeconds }
 {}

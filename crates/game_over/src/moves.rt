@@ -1,6 +1,6 @@
 //! The moves of a game, with how long each stood, and where the game would end with it.
 ghost use Rattle.std.specs.Prelude.{◌≡◌, ◌∷◌, ℕ, [], List, IfOk, None, OnOk, Some, is_some, slice_get, ◌++◌};
-ghost use Rattle.game_ends.specs.declared.made.Made.{Made as MadeOf};
+ghost use Rattle.game_over.specs.declared.made.Made.{Made as MadeOf};
 ghost use Rattle.game_over.specs.declared.happened.Event.{Event as EventOf};
 ghost use Rattle.game_over.specs.declared.moves.Last.{Last as LastOf};
 ghost use Rattle.game_over.specs.Moves.{goes_on as goes_on_of, last_by, made_of, last_move, listed_move, listed_place, mate_of, moves, new_move, place_of, places, showed_by, shown_by, second_by, stood_of};
@@ -9,8 +9,9 @@ ghost use Rattle.game_over.specs.Result.{last_given};
 ghost use Rattle.game_over.specs.Said.{IsFound};
 
 use crate::happened::{Event, Happening, Move, Outcome};
+use crate::made::Made;
 use crate::result::Given;
-use game_ends::{Made, end_of};
+use crate::unfinished::end_of;
 use square_runs::{carried, lasted};
 use std::alloc::{AllocError, Global};
 

@@ -11,7 +11,7 @@ use Rattle.settle_core.specs.Folding.{moves_of}
 use Rattle.settle_core.specs.Settling.{Line}
 use Rattle.going_back.specs.declared.going.BackError.{BackError}
 use Rattle.going_back.specs.declared.going.BackError.TheVariants.{Memory}
-use Rattle.going_back.specs.Back.{IsMade, Refuses, Spoils}
+use Rattle.going_back.specs.Back.{IsMade, RefusesThese, Spoils}
 
 pub line_front : (p : Parts) (plies : List Ply) (k : ℕ) → Line p (moves_of plies) → Line p (moves_of (take k plies))
 line_front p [] zero h = tt
@@ -63,9 +63,9 @@ pub if_ok : {A E : Type 0} (P Q : A → Type 0) (answer : Result A E) → ((a : 
 if_ok P Q (Ok a) f h = f a h
 if_ok P Q (Err e) f h = h
 
-pub refused_so : (setting : Setting) (recovers : Bool) (past : List Event) (stay : List Ply) (made bytes : List ℕ) (error : BackError) → bytes ≡ made
-    → IsMade setting past stay made → (error ≡ Memory) ⊎ Spoils setting recovers past stay bytes error → Refuses setting recovers past stay error
-refused_so setting recovers past stay made bytes error e shows (inl h) = inl h
-refused_so setting recovers past stay made bytes error e shows (inr h) =
-    let S : List ℕ → Type 0 = λ xs. Spoils setting recovers past stay xs error in
+pub refused_so : (setting : Setting) (recovers : Bool) (past : List Event) (old plies : List Ply) (made bytes : List ℕ) (error : BackError) → bytes ≡ made
+    → IsMade setting past plies made → (error ≡ Memory) ⊎ Spoils setting recovers past old plies bytes error → RefusesThese setting recovers past old plies error
+refused_so setting recovers past old plies made bytes error e shows (inl h) = inl h
+refused_so setting recovers past old plies made bytes error e shows (inr h) =
+    let S : List ℕ → Type 0 = λ xs. Spoils setting recovers past old plies xs error in
     inr (inr (inr (made, shows, subst S e h)))

@@ -1,6 +1,9 @@
+pub mod ChangeLemmas
+pub mod ComingLemmas
 pub mod Fronts
 pub mod LawLemmas
 pub mod NameLemmas
 pub mod NearLemmas
 pub mod Pairs
+pub mod PlaceLemmas
 pub mod TellLemmas

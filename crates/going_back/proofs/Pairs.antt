@@ -1,5 +1,5 @@
 -- Pairs that would be recovered from what a board shows.
-use Rattle.std.proofs.Common.{◌≡◌, ◌∙◌, List, ℕ, Some, reverse, sym, ap, subst}
+use Rattle.std.proofs.Common.{◌≡◌, ◌∙◌, List, ℕ, Some, reverse, sym, subst}
 use Rattle.std.proofs.lemmas.List.{reverse-reverse}
 use Rattle.chess_rules.specs.declared.parts.Parts.{Parts}
 use Rattle.dgt_frame.specs.declared.events.Event.{Event}
@@ -12,25 +12,22 @@ use Rattle.board_events.specs.Settings.{Setting}
 use Rattle.unseen_pairs.specs.Pairs.{IsExplained}
 use Rattle.going_back.specs.Back.{ShowsPair}
 
-stay_are : (settler : SettlerState) (stay : List Ply) → plies_of settler ≡ stay → settler.score.plies ≡ reverse stay
-stay_are settler stay plies = sym (reverse-reverse settler.score.plies) ∙ ap (λ (xs : List Ply). reverse xs) plies
-
-pub pair_shown : (setting : Setting) (past : List Event) (stay : List Ply) (settler : SettlerState) (seen : List ℕ)
-    → settler.start ≡ setting.start → plies_of settler ≡ stay → last_picture (entries_in setting past) ≡ Some seen
-    → IsExplained settler.start (moves_of settler.score.plies) seen → ShowsPair setting past stay
-pair_shown setting past stay settler seen start plies last h =
+pub pair_shown : (setting : Setting) (past : List Event) (settler : SettlerState) (seen : List ℕ)
+    → settler.start ≡ setting.start → last_picture (entries_in setting past) ≡ Some seen
+    → IsExplained settler.start (moves_of settler.score.plies) seen → ShowsPair setting past (plies_of settler)
+pair_shown setting past settler seen start last h =
     let S : Parts → Type 0 = λ p. IsExplained p (moves_of settler.score.plies) seen in
     let P : List Ply → Type 0 = λ xs. IsExplained setting.start (moves_of xs) seen in
-    (seen, last, subst P (stay_are settler stay plies) (subst S start h))
+    (seen, last, subst P (sym (reverse-reverse settler.score.plies)) (subst S start h))
 
 some_same : (seen other : List ℕ) → Some seen ≡ Some other → seen ≡ other
 some_same seen other h = cc
 
-pub pair_of : (setting : Setting) (past : List Event) (stay : List Ply) (settler : SettlerState) (seen : List ℕ)
-    → settler.start ≡ setting.start → plies_of settler ≡ stay → last_picture (entries_in setting past) ≡ Some seen
-    → ShowsPair setting past stay → IsExplained settler.start (moves_of settler.score.plies) seen
-pair_of setting past stay settler seen start plies last (other, is, h) =
+pub pair_of : (setting : Setting) (past : List Event) (settler : SettlerState) (seen : List ℕ)
+    → settler.start ≡ setting.start → last_picture (entries_in setting past) ≡ Some seen
+    → ShowsPair setting past (plies_of settler) → IsExplained settler.start (moves_of settler.score.plies) seen
+pair_of setting past settler seen start last (other, is, h) =
     let S : Parts → Type 0 = λ p. IsExplained p (moves_of settler.score.plies) seen in
     let P : List Ply → Type 0 = λ xs. IsExplained setting.start (moves_of xs) seen in
-    let I : List ℕ → Type 0 = λ picture. IsExplained setting.start (moves_of (reverse stay)) picture in
-    subst S (sym start) (subst P (sym (stay_are settler stay plies)) (subst I (some_same other seen (sym is ∙ last)) h))
+    let I : List ℕ → Type 0 = λ picture. IsExplained setting.start (moves_of (reverse (plies_of settler))) picture in
+    subst S (sym start) (subst P (reverse-reverse settler.score.plies) (subst I (some_same other seen (sym is ∙ last)) h))

@@ -21,14 +21,14 @@ use Rattle.going_back.specs.declared.answering.Answer.TheVariants.{Back, Unnamed
 use Rattle.going_back.specs.declared.going.BackError.{BackError}
 use Rattle.going_back.specs.declared.going.BackError.TheVariants.{Unseen, Ended, Signed, Moved, Board, TooLong, Memory}
 use Rattle.going_back.specs.Answers.{IsAnswerOf}
-use Rattle.going_back.specs.Back.{Refuses}
+use Rattle.going_back.specs.Back.{Refuses, RefusesThese}
 use Rattle.going_back.specs.Inside.Tellable.{IsLegalBehind, IsTellable}
 use Rattle.going_back.specs.Naming.{Names, NamesPly}
 use Rattle.going_back.specs.Nearest.{IsSoFar}
 use Rattle.going_back.specs.Telling.{IsPlyWritten, IsWrittenSo}
 
 -- a ply that is so far is one of the plies
-far_within : (text : List ℕ) (p : Parts) (plies : List Ply) (k n : ℕ) → IsSoFar text p plies k n → (0 < k) × (k ≤ length plies)
+pub far_within : (text : List ℕ) (p : Parts) (plies : List Ply) (k n : ℕ) → IsSoFar text p plies k n → (0 < k) × (k ≤ length plies)
 far_within text p [] k n h = absurd h
 far_within text p (ply ∷ plies) zero n h = absurd h
 far_within text p (ply ∷ plies) (suc zero) n h = (omega arith, omega arith)
@@ -53,7 +53,7 @@ legal_behind p [] ply more h = h.0
 legal_behind p (x ∷ front) ply more h = legal_behind (after p x.mv) front ply more h.1
 
 -- what was settled is a line
-settled_line : (settler : SettlerState) (start : Parts) (past : List Entry) → HasSettled settler start past → Line start (moves_of (plies_of settler))
+pub settled_line : (settler : SettlerState) (start : Parts) (past : List Entry) → HasSettled settler start past → Line start (moves_of (plies_of settler))
 settled_line settler start past settled =
     let P : List Ply → Type 0 = λ plies. Played start (moves_of plies) in
     line_played start (plies_of settler) (subst P (sym (reverse-reverse settler.score.plies)) (folds_played start (deduplicated past) settler.score settled.folds))
@@ -66,20 +66,25 @@ shown_legal setting settler past stay more ply m settled are is =
     subst M is (legal_behind setting.start stay ply more (subst P are (settled_line settler setting.start (entries_in setting past) settled)))
 
 -- a move that the board still shows is legal
-moved_legal : (setting : Setting) (recovers : Bool) (past : List Event) (stay : List Ply) (m : Move) → Refuses setting recovers past stay (Moved m)
+pub shown_move_legal : (setting : Setting) (recovers : Bool) (past : List Event) (old stay : List Ply) (m : Move) → RefusesThese setting recovers past old stay (Moved m)
     → Legal (position_after setting.start (moves_of stay)) m
-moved_legal setting recovers past stay m (inl e) = absurd cc
-moved_legal setting recovers past stay m (inr (inl (e, none))) = absurd cc
-moved_legal setting recovers past stay m (inr (inr (inl (e, large)))) = absurd cc
-moved_legal setting recovers past stay m (inr (inr (inr (made, is, inl (e, long))))) = absurd cc
-moved_legal setting recovers past stay m (inr (inr (inr (made, is, inr other)))) = elim other.why [
+shown_move_legal setting recovers past old stay m (inl e) = absurd cc
+shown_move_legal setting recovers past old stay m (inr (inl (e, none))) = absurd cc
+shown_move_legal setting recovers past old stay m (inr (inr (inl (e, large)))) = absurd cc
+shown_move_legal setting recovers past old stay m (inr (inr (inr (made, is, inl (e, long))))) = absurd cc
+shown_move_legal setting recovers past old stay m (inr (inr (inr (made, is, inr other)))) = elim other.why [
   | inl h ↦ shown_legal setting other.settler other.events stay h.1 h.0 m other.settled h.2 h.3
   | inr h ↦ (let e = h.0 in absurd cc)
 ]
 
+moved_legal : (setting : Setting) (recovers : Bool) (past : List Event) (old stay : List Ply) (m : Move) → Refuses setting recovers past old stay (Moved m)
+    → Legal (position_after setting.start (moves_of stay)) m
+moved_legal setting recovers past old stay m (inl (outcome, e, ends)) = absurd cc
+moved_legal setting recovers past old stay m (inr h) = shown_move_legal setting recovers past old stay m h
+
 refused_legal : (setting : Setting) (recovers : Bool) (past : List Event) (plies : List Ply) (stays : ℕ) (error : BackError)
-    → Refuses setting recovers past (take stays plies) error → IsLegalBehind setting.start plies stays error
-refused_legal setting recovers past plies stays (Moved m) h = moved_legal setting recovers past (take stays plies) m h
+    → Refuses setting recovers past plies (take stays plies) error → IsLegalBehind setting.start plies stays error
+refused_legal setting recovers past plies stays (Moved m) h = moved_legal setting recovers past plies (take stays plies) m h
 refused_legal setting recovers past plies stays Unseen h = tt
 refused_legal setting recovers past plies stays (Ended outcome) h = tt
 refused_legal setting recovers past plies stays (Signed outcome) h = tt

@@ -18,11 +18,11 @@ use Rattle.going_back.specs.Nearest.{IsNearest}
 abbrev pub IsAnswerOf : Setting → Bool → List Event → SettlerState → List ℕ → Answer → Type 0
 IsAnswerOf setting recovers past game to (Back made stays gone result) = Names game.start (plies_of game) to stays
     × (stays + gone ≡ length (plies_of game)) × IsResult (position_of game) game.score.sign result
-    × GoesBack setting recovers past (take stays (plies_of game)) made.items
+    × GoesBack setting recovers past (plies_of game) (take stays (plies_of game)) made.items
 IsAnswerOf setting recovers past game to (Unnamed nearest) = ((k : ℕ) → Names game.start (plies_of game) to k → ⊥)
     × MatchOption nearest (plies_of game ≡ []) (IsNearest to game.start (plies_of game))
 IsAnswerOf setting recovers past game to (Refused stays error) = Names game.start (plies_of game) to stays
-    × Refuses setting recovers past (take stays (plies_of game)) error
+    × Refuses setting recovers past (plies_of game) (take stays (plies_of game)) error
 
 -- So it is of the game of this capture.
 abbrev pub IsAnswer : Setting → Bool → List ℕ → List ℕ → Answer → Type 0

@@ -1,2 +1,3 @@
 -- What this crate alone knows of: no public contract cites it.
+pub mod Changing
 pub mod Tellable

@@ -1,6 +1,6 @@
 -- What `record` makes of the new capture of a game that went back. Plies stand in their order, events have the latest
 -- first.
-use Rattle.std.specs.Prelude.{◌≡◌, ◌≢◌, ℕ, false, true, List, None, Some, reverse}
+use Rattle.std.specs.Prelude.{◌≡◌, ◌≢◌, ◌⊎◌, ℕ, Bool, false, true, List, None, Some}
 use Rattle.chess_rules.specs.Valid.{Valid}
 use Rattle.dgt_frame.specs.declared.events.Event.{Event}
 use Rattle.dgt_frame.specs.Streams.{Shows, Timed}
@@ -15,25 +15,37 @@ use Rattle.board_events.specs.Session.{entries_in}
 use Rattle.board_events.specs.Settings.{Setting}
 use Rattle.unseen_pairs.specs.declared.pair.Recovery.{Recovery}
 use Rattle.unseen_pairs.specs.Pairs.{Confirms, ExplainsAt}
-use Rattle.going_back.specs.Back.{GoesBack}
+use Rattle.going_back.specs.Back.{GoesBack, HasOneMore, Replaces}
 
--- The game of the events that it shows has exactly the plies that stay, with their clocks, and no result.
+-- The game of the events that it shows has exactly the plies that stay, with their clocks, and no result; or one more, which
+-- the board shows, and which the old game hadn't there.
 abbrev pub WhatStaysIsRecorded : Type 0
-WhatStaysIsRecorded = (setting : Setting) (tags : TagValues) (game : Content) (past : List Event) (stay : List Ply)
+WhatStaysIsRecorded = (setting : Setting) (tags : TagValues) (game : Content) (past : List Event) (old stay : List Ply)
     (made : List ℕ) (events : List Timed) (rest : ℕ)
     → Valid setting.start
-    → GoesBack setting false past stay made
+    → GoesBack setting false past old stay made
     → Shows made events rest
     → IsGameOf game setting tags (past_of events)
-    → (game.plies ≡ stay) × (game.result ≡ None)
+    → ((game.plies ≡ stay) × (game.result ≡ None)) ⊎ HasOneMore old stay game.plies
 
--- What went stays away behind `recover`: as long as the game has these plies alone, whatever waits and whatever picture
--- comes, no pair is put in for what the board showed when the game went back.
+-- The game of the events that a new capture with other plies shows has exactly these plies, or one more, which the board shows,
+-- and which the old game hadn't there; and no sign of a result stands.
+abbrev pub WhatComesIsRecorded : Type 0
+WhatComesIsRecorded = (setting : Setting) (tags : TagValues) (game : Content) (past : List Event) (old plies : List Ply) (more : Bool)
+    (made : List ℕ) (events : List Timed) (rest : ℕ)
+    → Valid setting.start
+    → Replaces setting false past old plies more made
+    → Shows made events rest
+    → (is : IsGameOf game setting tags (past_of events))
+    → (is.sign ≡ None) × ((game.plies ≡ plies) ⊎ HasOneMore old plies game.plies)
+
+-- What went stays away behind `recover`: as long as the game has the plies that the new capture gives, whatever waits and
+-- whatever picture comes, no pair is put in for what the board showed when the game went back.
 abbrev pub WhatWentStaysAway : Type 0
-WhatWentStaysAway = (setting : Setting) (past : List Event) (stay : List Ply) (made shown : List ℕ) (waiting : List Entry)
+WhatWentStaysAway = (setting : Setting) (past : List Event) (old stay : List Ply) (made shown : List ℕ) (waiting : List Entry)
     (seen : List ℕ) (r : Recovery) (place : ℕ) (entry : Entry)
-    → GoesBack setting true past stay made
+    → (back : GoesBack setting true past old stay made)
     → last_picture (entries_in setting past) ≡ Some shown
-    → Confirms setting.start (moves_of (reverse stay)) waiting seen r
-    → ExplainsAt setting.start (moves_of (reverse stay)) waiting r.pair place entry
+    → Confirms setting.start (moves_of back.1.1.settler.score.plies) waiting seen r
+    → ExplainsAt setting.start (moves_of back.1.1.settler.score.plies) waiting r.pair place entry
     → entry.picture ≢ shown

@@ -1,7 +1,10 @@
 pub mod Answers
 pub mod Back
+pub mod Coming
 pub mod Inside
 pub mod Laws
 pub mod Naming
 pub mod Nearest
+pub mod Placing
+pub mod Replacing
 pub mod Telling

@@ -1,5 +1,5 @@
 //! The new capture of a game that goes back: made, read again, and compared.
-ghost use Rattle.std.specs.Prelude.{◌≡◌, ◌⊎◌, ◌↔◌, ◌<◌, ◌≤◌, ◌+◌, ◌++◌, All, List, Some, false, true, IfErr, IfOk, IsTrue, MatchOption, OnOk, length, slice_index_or, take};
+ghost use Rattle.std.specs.Prelude.{◌≡◌, ◌⊎◌, ◌↔◌, ◌<◌, ◌≤◌, ◌+◌, ◌++◌, All, List, None, Some, false, true, IfErr, IfOk, IsTrue, MatchOption, OnOk, length, slice_index_or, take};
 ghost use Rattle.dgt_frame.specs.declared.events.Event.{Event as EventOf};
 ghost use Rattle.board_events.specs.Limits.{limit};
 ghost use Rattle.board_events.specs.Settings.{Setting};
@@ -7,17 +7,17 @@ ghost use Rattle.board_events.specs.Session.{entries_in};
 ghost use Rattle.settle_core.specs.Entries.{last_picture};
 ghost use Rattle.settle_core.specs.Folding.{moves_of};
 ghost use Rattle.settle_core.specs.Settler.{plies_of};
-ghost use Rattle.settle_core.specs.Settling.{Line};
+ghost use Rattle.settle_core.specs.Settling.{Line, position_after};
 ghost use Rattle.settle_core.specs.declared.plies.Ply.{Ply as PlyOf};
 ghost use Rattle.unseen_pairs.specs.Pairs.{IsExplained};
 ghost use Rattle.board_captures.specs.Reading.{StandAlike, StandsForCapture, setting_of};
 ghost use Rattle.board_captures.specs.Shown.{size_of_board, size_of_game};
-ghost use Rattle.going_back.specs.Back.{Differs, Gives, GoesBack, HasFrontAlone, IsMade, Refuses, Spoils};
+ghost use Rattle.going_back.specs.Back.{Differs, Gives, GoesBack, HadMove, HasPlies, IsMade, Refuses, RefusesThese, Replaces, Spoils};
 
 use board_captures::{CaptureError, Captured, Method, read_capture, show_game};
 use chess_clock::Reading;
 use chess_game::result_at;
-use chess_rules::Move;
+use chess_rules::{Move, Position};
 use dgt_frame::LIMIT;
 use settle_core::{Outcome, Ply, Settler};
 use std::alloc::{AllocError, Global};
@@ -32,9 +32,9 @@ pub enum BackError {
     Ended(Outcome),
     /// The board still shows the sign of this result.
     Signed(Outcome),
-    /// The board still shows this move, which is legal behind the plies that stay.
+    /// The board still shows this move, which the game had behind the plies that stay.
     Moved(Move),
-    /// With what the board shows, other plies would stay; or it wouldn't stand as it stood; or, where pairs are
+    /// With what the board shows, there would be other plies; or it wouldn't stand as it stood; or, where pairs are
     /// recovered, two plies would come back at the next move.
     Board,
     /// The new capture has more than 67,108,864 bytes, or it has with what is put in.
@@ -58,6 +58,18 @@ pub fn ply_at(plies: &[Ply], at: usize) -> &Ply
     &plies[at]
 }
 
+/// The position after these plies.
+pub fn position_behind(start: &Position, plies: &[Ply]) -> Position
+    requires { Line start.now (moves_of plies.now) }
+    ensures { result ≡ position_after start.now (moves_of plies.now) }
+{
+    let mut position = *start;
+    for ply in plies {
+        position = position.play(ply.mv);
+    }
+    position
+}
+
 /// Whether the plies begin with these.
 fn begin_with(plies: &[Ply], front: &[Ply]) -> bool
     ensures { IsTrue result ↔ ((more : List PlyOf) × (plies.now ≡ front.now ++ more)) }
@@ -75,29 +87,62 @@ fn begin_with(plies: &[Ply], front: &[Ply]) -> bool
     true
 }
 
-/// Judges the game of a new capture, in which these plies are to stay alone, without a result.
-fn judge(made: &Settler, stay: &[Ply]) -> Result<(), BackError>
-    ensures ok { OnOk result (HasFrontAlone made.now stay.now) }
-    ensures refused { IfErr result (Differs made.now stay.now) }
+pub fn is_same_move(one: &Move, other: &Move) -> bool
+    ensures { IsTrue result ↔ (one.now ≡ other.now) }
+{
+    *one == *other
+}
+
+/// Whether the game had this move at this place, which is 0 for the first.
+fn had_move(old: &[Ply], place: usize, mv: &Move) -> bool
+    ensures { IsTrue result ↔ HadMove old.now place mv.now }
+{
+    if place >= old.len() {
+        return false;
+    }
+    is_same_move(&ply_at(old, place).mv, mv)
+}
+
+/// Judges the plies of a new game: they are to be these, or these and one more that the old game hadn't there. Returns
+/// whether it has one more.
+fn judge_plies(made: &Settler, old: &[Ply], plies: &[Ply]) -> Result<bool, BackError>
+    ensures ok { IfOk result (HasPlies made.now old.now plies.now) }
+    ensures refused { IfErr result (Differs made.now old.now plies.now) }
 {
     let moves = made.moves();
-    if !begin_with(moves, stay) {
+    if !begin_with(moves, plies) {
         return Err(BackError::Board);
     }
-    if moves.len() > stay.len() {
-        return Err(BackError::Moved(ply_at(moves, stay.len()).mv));
+    if moves.len() == plies.len() {
+        return Ok(false);
     }
-    if let Some(outcome) = result_at(made.position(), None) {
-        return Err(BackError::Ended(outcome));
+    let next = ply_at(moves, plies.len()).mv;
+    if had_move(old, plies.len(), &next) {
+        return Err(BackError::Moved(next));
     }
+    if moves.len() > plies.len() + 1 {
+        return Err(BackError::Board);
+    }
+    Ok(true)
+}
+
+/// Judges a new game, which is to have these plies, or one more, and no sign of a result. Returns whether it has one more.
+fn judge(made: &Settler, old: &[Ply], plies: &[Ply]) -> Result<bool, BackError>
+    ensures ok { IfOk result (λ more. HasPlies made.now old.now plies.now more × (made.now.score.sign ≡ None)) }
+    ensures refused { IfErr result (Differs made.now old.now plies.now) }
+{
+    let more = match judge_plies(made, old, plies) {
+        Ok(more) => more,
+        Err(error) => return Err(error),
+    };
     match made.sign() {
         Some(outcome) => Err(BackError::Signed(outcome)),
-        None => Ok(()),
+        None => Ok(more),
     }
 }
 
 /// Whether this is the picture.
-fn is_picture(seen: Option<&[u8; 64]>, picture: &[u8; 64]) -> bool
+pub fn is_picture(seen: Option<&[u8; 64]>, picture: &[u8; 64]) -> bool
     ensures { MatchOption seen.entry (result ≡ false) (λ other. IsTrue result ↔ (other.now ≡ picture.now)) }
 {
     let Some(other) = seen else {
@@ -145,61 +190,63 @@ fn shows_pair(
     Ok(pair)
 }
 
-/// Reads a new capture again, and compares it with what it is to give: these plies alone, without a result, and the
-/// board as it stood, with this picture.
+/// Reads a new capture again, and compares it with what it is to give: these plies, or one more that the old game hadn't
+/// there, without the sign of a result, and the board as it stood, with this picture. Returns whether it has one more.
 fn compare(
     alloc: Global,
     method: &Method,
     captured: &Captured,
     picture: &[u8; 64],
-    stay: &[Ply],
+    old: &[Ply],
+    plies: &[Ply],
     bytes: &[u8],
-) -> Result<(), BackError>
+) -> Result<bool, BackError>
     ensures gives { (past : List EventOf) → StandsForCapture captured.now (setting_of method.now) past
         → last_picture (entries_in (setting_of method.now) past) ≡ Some picture.now
-        → OnOk result (Gives (setting_of method.now) method.now.recovers past stay.now bytes.now) }
+        → IfOk result (λ more. Gives (setting_of method.now) method.now.recovers past old.now plies.now more bytes.now) }
     ensures spoils { (past : List EventOf) → StandsForCapture captured.now (setting_of method.now) past
         → last_picture (entries_in (setting_of method.now) past) ≡ Some picture.now
-        → IfErr result (λ error. (error ≡ BackError.Memory) ⊎ Spoils (setting_of method.now) method.now.recovers past stay.now bytes.now error) }
+        → IfErr result (λ error. (error ≡ BackError.Memory) ⊎ Spoils (setting_of method.now) method.now.recovers past old.now plies.now bytes.now error) }
 {
     let made = match read_capture(alloc, method, bytes) {
         Ok(made) => made,
         Err(CaptureError::TooLong) => return Err(BackError::TooLong),
         Err(CaptureError::Memory) => return Err(BackError::Memory),
     };
-    if let Err(error) = judge(made.session.settler(), stay) {
-        return Err(error);
-    }
+    let more = match judge(made.session.settler(), old, plies) {
+        Ok(more) => more,
+        Err(error) => return Err(error),
+    };
     if !stand_alike(captured, picture, &made) {
         return Err(BackError::Board);
     }
     match shows_pair(alloc, method, &made, picture) {
-        Ok(false) => Ok(()),
+        Ok(false) => Ok(more),
         Ok(true) => Err(BackError::Board),
         Err(_) => Err(BackError::Memory),
     }
 }
 
-/// The bytes that show these plies of what was captured, and then the board as it stands, with this picture.
-fn show_front(
+/// The bytes that show these plies, and then the board as it stands, with this picture.
+fn show_plies(
     alloc: Global,
     method: &Method,
     captured: &Captured,
     picture: &[u8; 64],
-    stay: &[Ply],
+    plies: &[Ply],
 ) -> Result<Vec<u8>, AllocError>
     requires codes { All (λ code. code < 16) picture.now }
-    requires line { Line captured.now.session.settler.start (moves_of stay.now) }
+    requires line { Line captured.now.session.settler.start (moves_of plies.now) }
     ensures { (past : List EventOf) → StandsForCapture captured.now (setting_of method.now) past
         → last_picture (entries_in (setting_of method.now) past) ≡ Some picture.now
-        → IfOk result (λ bytes. IsMade (setting_of method.now) past stay.now bytes.items) }
+        → IfOk result (λ bytes. IsMade (setting_of method.now) past plies.now bytes.items) }
 {
     show_game(
         alloc,
         method.first,
         method.rotated,
         captured.session.settler().start(),
-        stay,
+        plies,
         &captured.session.reading(),
         picture,
         captured.session.trusted(),
@@ -226,20 +273,62 @@ fn is_too_large(plies: usize, trusted: bool) -> bool
     size_of(plies) + board > LIMIT as usize
 }
 
-/// The capture that shows the first plies of a game, so many, with their clocks, and then the board as it stands. It is
-/// read again as `method` says: its game has these plies and no other, and no result, and the board stands as it stood.
-/// `captured` is what was read of all that the board sent.
+/// A new capture.
+#[derive(Drop)]
+pub struct Replacement {
+    pub bytes: Vec<u8>,
+    /// Whether its game has one ply more, which the board shows.
+    pub has_more: bool,
+}
+
+/// The capture that shows these plies in place of those of the game, with their clocks, and then the board as it stands.
+/// It is read again as `method` says: its game has these plies, or one more that the board shows and that the game hadn't
+/// there, and no sign of a result, and the board stands as it stood. `captured` is what was read of all that the board sent.
 ///
 /// # Errors
 ///
 /// - `Unseen`: the board has shown nothing.
-/// - `Ended`: the position with which the game would end is checkmate or stalemate: that is its result.
 /// - `Signed`: the board still shows the sign of this result.
-/// - `Moved`: the board still shows this move.
-/// - `Board`: with what the board shows, other plies would stay, or it would not stand as it stood; or, where pairs are
+/// - `Moved`: the board still shows this move, which the game had there.
+/// - `Board`: with what the board shows, there would be other plies, or it would not stand as it stood; or, where pairs are
 ///   recovered, it shows two plies that would come back at the next move.
 /// - `TooLong`: the capture has more than 67,108,864 bytes, or it has with what is put in.
 /// - `Memory`: memory ran out.
+pub fn replace_plies(
+    alloc: Global,
+    method: &Method,
+    captured: &Captured,
+    plies: &[Ply],
+) -> Result<Replacement, BackError>
+    requires line { Line captured.now.session.settler.start (moves_of plies.now) }
+    ensures made { (past : List EventOf) → StandsForCapture captured.now (setting_of method.now) past
+        → IfOk result (λ made. Replaces (setting_of method.now) method.now.recovers past (plies_of captured.now.session.settler) plies.now made.has_more made.bytes.items) }
+    ensures refused { (past : List EventOf) → StandsForCapture captured.now (setting_of method.now) past
+        → IfErr result (RefusesThese (setting_of method.now) method.now.recovers past (plies_of captured.now.session.settler) plies.now) }
+{
+    let Some(picture) = captured.picture() else {
+        return Err(BackError::Unseen);
+    };
+    if is_too_large(plies.len(), captured.session.trusted()) {
+        return Err(BackError::TooLong);
+    }
+    let Ok(bytes) = show_plies(alloc, method, captured, picture, plies) else {
+        return Err(BackError::Memory);
+    };
+    let old = captured.session.settler().moves();
+    match compare(alloc, method, captured, picture, old, plies, &bytes) {
+        Ok(has_more) => Ok(Replacement { bytes, has_more }),
+        Err(error) => Err(error),
+    }
+}
+
+/// The capture that shows the first plies of a game, so many, with their clocks, and then the board as it stands, as
+/// `replace_plies` makes it.
+///
+/// # Errors
+///
+/// Those of `replace_plies`, and `Ended`: the position with which the game would end is checkmate or stalemate: that is its
+/// result.
 pub fn go_back(
     alloc: Global,
     method: &Method,
@@ -248,22 +337,17 @@ pub fn go_back(
 ) -> Result<Vec<u8>, BackError>
     requires { stays ≤ length (plies_of captured.now.session.settler) }
     ensures back { (past : List EventOf) → StandsForCapture captured.now (setting_of method.now) past
-        → IfOk result (λ made. GoesBack (setting_of method.now) method.now.recovers past (take stays (plies_of captured.now.session.settler)) made.items) }
+        → IfOk result (λ made. GoesBack (setting_of method.now) method.now.recovers past (plies_of captured.now.session.settler) (take stays (plies_of captured.now.session.settler)) made.items) }
     ensures refused { (past : List EventOf) → StandsForCapture captured.now (setting_of method.now) past
-        → IfErr result (Refuses (setting_of method.now) method.now.recovers past (take stays (plies_of captured.now.session.settler))) }
+        → IfErr result (Refuses (setting_of method.now) method.now.recovers past (plies_of captured.now.session.settler) (take stays (plies_of captured.now.session.settler))) }
 {
-    let Some(picture) = captured.picture() else {
-        return Err(BackError::Unseen);
-    };
-    if is_too_large(stays, captured.session.trusted()) {
-        return Err(BackError::TooLong);
+    let settler = captured.session.settler();
+    let stay = &settler.moves()[..stays];
+    if let Some(outcome) = result_at(&position_behind(settler.start(), stay), None) {
+        return Err(BackError::Ended(outcome));
     }
-    let stay = &captured.session.settler().moves()[..stays];
-    let Ok(bytes) = show_front(alloc, method, captured, picture, stay) else {
-        return Err(BackError::Memory);
-    };
-    if let Err(error) = compare(alloc, method, captured, picture, stay, &bytes) {
-        return Err(error);
+    match replace_plies(alloc, method, captured, stay) {
+        Ok(made) => Ok(made.bytes),
+        Err(error) => Err(error),
     }
-    Ok(bytes)
 }

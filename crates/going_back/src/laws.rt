@@ -1,12 +1,23 @@
 //! What holds of a game that went back.
-ghost use Rattle.going_back.specs.Laws.{WhatStaysIsRecorded, WhatWentStaysAway};
+ghost use Rattle.going_back.specs.Laws.{WhatComesIsRecorded, WhatStaysIsRecorded, WhatWentStaysAway};
 
 use dgt_frame::laws::shows_once;
 use settle_core::laws::folds_once;
 
-/// Of the new capture `record` makes the game with exactly the plies that stay, with their clocks, and no result.
+/// Of the new capture `record` makes the game with exactly the plies that stay, with their clocks, and no result; or with one
+/// more that the board shows.
 pub fn what_stays_is_recorded()
     ensures { WhatStaysIsRecorded }
+{
+    // For its clause: the bytes show one list of events.
+    shows_once();
+    // For its clause: the entries fold to one score.
+    folds_once();
+}
+
+/// Of the new capture `record` makes the game with the plies that were put in place of the old ones.
+pub fn what_comes_is_recorded()
+    ensures { WhatComesIsRecorded }
 {
     // For its clause: the bytes show one list of events.
     shows_once();

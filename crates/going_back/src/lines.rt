@@ -1,38 +1,36 @@
-//! The line that says what becomes of a game that goes back.
-ghost use Rattle.std.specs.Prelude.{◌≡◌, ◌<◌, ◌≤◌, ◌++◌, IfOk, List, Some, codes, decimal, length, take, ℕ};
+//! The lines that say what becomes of a game that goes back, or gets other moves.
+ghost use Rattle.std.specs.Prelude.{◌≡◌, ◌<◌, ◌≤◌, ◌++◌, IfOk, Some, codes, decimal, length, take};
 ghost use Rattle.chess_rules.specs.Legal.{Legal};
 ghost use Rattle.pgn_book.specs.Movetext.{result_text};
 ghost use Rattle.settle_core.specs.Folding.{moves_of};
 ghost use Rattle.settle_core.specs.Settling.{Line, position_after};
-ghost use Rattle.going_back.specs.Inside.Tellable.{IsLegalBehind, IsTellable};
-ghost use Rattle.going_back.specs.Telling.{IsLineOf, IsPlyWritten, IsReason, IsWrittenSo};
+ghost use Rattle.going_back.specs.Inside.Tellable.{IsChangeTellable, IsLegalBehind, IsTellable};
+ghost use Rattle.going_back.specs.Telling.{IsChangeLine, IsLineOf, IsNearLine, IsReason};
 
 use crate::answering::Answer;
-use crate::going::{BackError, ply_at};
+use crate::going::{BackError, ply_at, position_behind};
 use crate::naming::write_name;
+use crate::replacing::Change;
 use chess_rules::{Move, Position};
 use itoa::Buffer;
 use settle_core::{Outcome, Ply};
 use std::alloc::{AllocError, Global};
+use typed_lines::joined;
 use watched_streams::Lines;
 
-/// Three texts one after the other.
-fn joined(alloc: Global, a: &[u8], b: &[u8], c: &[u8]) -> Result<Vec<u8>, AllocError>
-    ensures { IfOk result (λ all. all.items ≡ a.now ++ (b.now ++ c.now)) }
-{
-    let mut all = Vec::new(alloc);
-    all.extend_from_slice(a)?;
-    all.extend_from_slice(b)?;
-    all.extend_from_slice(c)?;
-    Ok(all)
-}
-
-/// A number between two texts.
-fn count_line(alloc: Global, kind: &[u8], count: usize, rest: &[u8]) -> Result<Vec<u8>, AllocError>
-    ensures { IfOk result (λ line. line.items ≡ kind.now ++ (decimal count ++ rest.now)) }
+/// A number between two texts, behind what the line begins with.
+fn count_line(
+    alloc: Global,
+    front: &[u8],
+    kind: &[u8],
+    count: usize,
+    rest: &[u8],
+) -> Result<Vec<u8>, AllocError>
+    ensures { IfOk result (λ line. line.items ≡ front.now ++ (kind.now ++ (decimal count ++ rest.now))) }
 {
     let mut buffer = Buffer::new();
-    joined(alloc, kind, buffer.format(count).as_bytes(), rest)
+    let text = joined(alloc, kind, buffer.format(count).as_bytes(), rest)?;
+    joined(alloc, front, text.as_slice(), b"")
 }
 
 /// A result behind a blank, at the end of a line.
@@ -67,25 +65,38 @@ fn back_line(
     ensures { IfOk result (λ line. line.items
         ≡ codes "back: plies " ++ (decimal stays ++ (codes ", gone " ++ (decimal gone ++ (codes ", result " ++ (result_text ending ++ codes "\n")))))) }
 {
-    let rest = count_line(alloc, b", gone ", gone, result_ending(ending))?;
-    count_line(alloc, b"back: plies ", stays, rest.as_slice())
+    let rest = count_line(alloc, b", ", b"gone ", gone, result_ending(ending))?;
+    count_line(alloc, b"back: ", b"plies ", stays, rest.as_slice())
 }
 
-/// The position after these plies.
-fn position_behind(start: &Position, plies: &[Ply]) -> Position
-    requires { Line start.now (moves_of plies.now) }
-    ensures { result ≡ position_after start.now (moves_of plies.now) }
+/// The line about moves that have come.
+fn replaced_line(
+    alloc: Global,
+    stays: usize,
+    gone: usize,
+    come: usize,
+    ending: Option<Outcome>,
+) -> Result<Vec<u8>, AllocError>
+    ensures { IfOk result (λ line. line.items
+        ≡ codes "instead: plies " ++ (decimal stays ++ (codes ", gone " ++ (decimal gone ++ (codes ", come " ++ (decimal come ++ (codes ", result " ++ (result_text ending ++ codes "\n")))))))) }
 {
-    let mut position = *start;
-    for ply in plies {
-        position = position.play(ply.mv);
-    }
-    position
+    let ends = count_line(alloc, b", ", b"come ", come, result_ending(ending))?;
+    let rest = count_line(alloc, b", ", b"gone ", gone, ends.as_slice())?;
+    count_line(alloc, b"instead: ", b"plies ", stays, rest.as_slice())
+}
+
+/// The line about a board that shows the end of the old line.
+fn old_line(alloc: Global, stays: usize, come: usize) -> Result<Vec<u8>, AllocError>
+    ensures { IfOk result (λ line. line.items ≡ codes "instead: old " ++ (decimal stays ++ (codes " " ++ (decimal come ++ codes "\n")))) }
+{
+    let rest = count_line(alloc, b" ", b"", come, b"\n")?;
+    count_line(alloc, b"instead: ", b"old ", stays, rest.as_slice())
 }
 
 /// The line about the ply with this number, which is 1 for the first.
 fn nearest_line(
     alloc: Global,
+    front: &[u8],
     start: &Position,
     plies: &[Ply],
     number: usize,
@@ -93,17 +104,19 @@ fn nearest_line(
     requires line { Line start.now (moves_of plies.now) }
     requires first { 0 < number }
     requires within { number ≤ length plies.now }
-    ensures { IfOk result (λ line. (text : List ℕ) × IsPlyWritten start.now plies.now number text × (line.items ≡ codes "back: nearest " ++ (text ++ codes "\n"))) }
+    ensures { IfOk result (λ line. IsNearLine front.now start.now plies.now (Some number) line.items) }
 {
     let position = position_behind(start, &plies[..number - 1]);
     let mut name = Lines::new();
     write_name(&mut name, &position, ply_at(plies, number - 1).mv);
-    joined(alloc, b"back: nearest ", name.as_slice(), b"\n")
+    let rest = joined(alloc, b"nearest ", name.as_slice(), b"\n")?;
+    joined(alloc, front, rest.as_slice(), b"")
 }
 
 /// The line about a move that the board still shows behind the plies that stay.
 fn moved_line(
     alloc: Global,
+    front: &[u8],
     start: &Position,
     plies: &[Ply],
     stays: usize,
@@ -112,18 +125,19 @@ fn moved_line(
     requires line { Line start.now (moves_of plies.now) }
     requires within { stays ≤ length plies.now }
     requires legal { Legal (position_after start.now (moves_of (take stays plies.now))) mv }
-    ensures { IfOk result (λ line. IsReason start.now plies.now stays (BackError.Moved mv) line.items) }
+    ensures { IfOk result (λ line. IsReason front.now start.now plies.now stays (BackError.Moved mv) line.items) }
 {
     let position = position_behind(start, &plies[..stays]);
     let mut name = Lines::new();
     write_name(&mut name, &position, mv);
     let rest = joined(alloc, b" ", name.as_slice(), b"\n")?;
-    count_line(alloc, b"back: moved ", stays, rest.as_slice())
+    count_line(alloc, front, b"moved ", stays, rest.as_slice())
 }
 
-/// The line about a game that can't go back. Refused where memory ran out: that has no line of this kind.
+/// The line about a game that can't get these plies. Refused where memory ran out: that has no line of this kind.
 fn refused_line(
     alloc: Global,
+    front: &[u8],
     start: &Position,
     plies: &[Ply],
     stays: usize,
@@ -132,15 +146,15 @@ fn refused_line(
     requires line { Line start.now (moves_of plies.now) }
     requires within { stays ≤ length plies.now }
     requires legal { IsLegalBehind start.now plies.now stays error }
-    ensures { IfOk result (λ line. IsReason start.now plies.now stays error line.items) }
+    ensures { IfOk result (λ line. IsReason front.now start.now plies.now stays error line.items) }
 {
     match error {
-        BackError::Unseen => count_line(alloc, b"back: unseen ", stays, b"\n"),
-        BackError::Ended(outcome) => count_line(alloc, b"back: ended ", stays, ending(outcome)),
-        BackError::Signed(outcome) => count_line(alloc, b"back: signed ", stays, ending(outcome)),
-        BackError::Moved(mv) => moved_line(alloc, start, plies, stays, mv),
-        BackError::Board => count_line(alloc, b"back: board ", stays, b"\n"),
-        BackError::TooLong => count_line(alloc, b"back: long ", stays, b"\n"),
+        BackError::Unseen => count_line(alloc, front, b"unseen ", stays, b"\n"),
+        BackError::Ended(outcome) => count_line(alloc, front, b"ended ", stays, ending(outcome)),
+        BackError::Signed(outcome) => count_line(alloc, front, b"signed ", stays, ending(outcome)),
+        BackError::Moved(mv) => moved_line(alloc, front, start, plies, stays, mv),
+        BackError::Board => count_line(alloc, front, b"board ", stays, b"\n"),
+        BackError::TooLong => count_line(alloc, front, b"long ", stays, b"\n"),
         BackError::Memory => Err(AllocError),
     }
 }
@@ -167,10 +181,56 @@ pub fn line_of(
             gone,
             result,
         } => back_line(alloc, *stays, *gone, *result),
-        Answer::Unnamed { nearest: None } => joined(alloc, b"back: none\n", b"", b""),
+        Answer::Unnamed { nearest: None } => joined(alloc, b"back: ", b"none\n", b""),
         Answer::Unnamed {
             nearest: Some(number),
-        } => nearest_line(alloc, start, plies, *number),
-        Answer::Refused { stays, error } => refused_line(alloc, start, plies, *stays, *error),
+        } => nearest_line(alloc, b"back: ", start, plies, *number),
+        Answer::Refused { stays, error } => {
+            refused_line(alloc, b"back: ", start, plies, *stays, *error)
+        }
+    }
+}
+
+/// The line that says what becomes of a game with these plies that is to get other moves, with its end.
+///
+/// # Errors
+///
+/// Where memory ran out, now or before.
+pub fn change_line(
+    alloc: Global,
+    start: &Position,
+    plies: &[Ply],
+    change: &Change,
+) -> Result<Vec<u8>, AllocError>
+    requires line { Line start.now (moves_of plies.now) }
+    requires tellable { IsChangeTellable start.now plies.now change.now }
+    ensures { IfOk result (λ line. IsChangeLine start.now plies.now change.now line.items) }
+{
+    match change {
+        Change::Replaced {
+            made: _,
+            stays,
+            gone,
+            come,
+            result,
+        } => replaced_line(alloc, *stays, *gone, *come, *result),
+        Change::Unplaced { nearest: None } => joined(alloc, b"instead: ", b"none\n", b""),
+        Change::Unplaced {
+            nearest: Some(number),
+        } => nearest_line(alloc, b"instead: ", start, plies, *number),
+        Change::Unsaid { told } => joined(alloc, b"instead: ", told.as_slice(), b""),
+        Change::Old { stays, come } => old_line(alloc, *stays, *come),
+        Change::Refused {
+            plies: new,
+            stays: _,
+            error,
+        } => refused_line(
+            alloc,
+            b"instead: ",
+            start,
+            new.as_slice(),
+            new.len(),
+            *error,
+        ),
     }
 }

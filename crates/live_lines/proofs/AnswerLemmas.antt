@@ -6,9 +6,9 @@ use Rattle.std.specs.List.{AllByRecursion}
 use Rattle.std.proofs.lemmas.Bool.{ne_eqb}
 use Rattle.std.proofs.lemmas.Fmt.{decimal_injective}
 use Rattle.std.proofs.lemmas.List.{append_assoc, append_cancel_left}
-use Rattle.board_asking.specs.declared.line.Request.{Request}
-use Rattle.board_asking.specs.declared.whose.Handling.{Handling}
-use Rattle.board_asking.specs.declared.whose.Handling.TheVariants.{Keep, Hold, Other}
+use Rattle.board_cable.specs.declared.line.Request.{Request}
+use Rattle.board_cable.specs.declared.whose.Handling.{Handling}
+use Rattle.board_cable.specs.declared.whose.Handling.TheVariants.{Keep, Hold, Other}
 use Rattle.board_standing.specs.declared.state.State.{State}
 use Rattle.answer_lines.specs.declared.said.Said.{Said}
 use Rattle.answer_lines.specs.Answers.{answer_text as said_text, clock_line, handling_line, number_line, request_line, room_line, state_line}
@@ -19,8 +19,8 @@ use Rattle.board_endings.specs.declared.news.End.{End}
 use Rattle.game_over.specs.declared.said.Over.{Over}
 use Rattle.answer_lines.specs.Looks.{LooksFit, look_words, looks_text}
 use Rattle.answer_lines.proofs.LookLemmas.{looks_and_said_once}
-use Rattle.board_looks.specs.declared.look.Look.{Look}
-use Rattle.board_looks.specs.declared.look.Look.TheVariants.{Doubtful, Stopped, Unplayed, Suspected}
+use Rattle.board_alarms.specs.declared.look.Look.{Look}
+use Rattle.board_alarms.specs.declared.look.Look.TheVariants.{Doubtful, Stopped, Unplayed, Suspected}
 use Rattle.answer_lines.proofs.AnswerLemmas.{from_clock, from_done, from_number, from_request, from_room, from_state, in_parts}
 use Rattle.answer_lines.proofs.CutLemmas.{cut_once, decimal_lacks_feed, lacks_append}
 use Rattle.answer_lines.proofs.WordLemmas.{behind, first_of}

@@ -13,7 +13,7 @@ use Rattle.pair_frames.specs.PutIn.{put_in}
 use Rattle.recovery.specs.Weaving.{TellsRecovered, recovered_words}
 use Rattle.watched_streams.specs.Lines.{line}
 use Rattle.board_alarms.specs.declared.chunk.When.{When}
-use Rattle.board_asking.specs.Silence.{is_silent}
+use Rattle.board_cable.specs.Silence.{is_silent}
 use Rattle.board_cable.specs.Keeping.{kept}
 use Rattle.board_cable.specs.Laws.{IsToldOnce}
 use Rattle.board_cable.specs.Turns.{Turn, told}

@@ -5,7 +5,7 @@ use Rattle.std.proofs.lemmas.List.{drop-append-le, length-drop, nil_from_length,
 use Rattle.std.proofs.Math.Seq.{take-append_seam, drop-append_seam}
 use Rattle.board_cable.specs.Keeping.{kept}
 use Rattle.board_cable.specs.Turns.{Told, Turn, told}
-use Rattle.board_asking.specs.Serial.{is_serial}
+use Rattle.board_cable.specs.Serial.{is_serial}
 use Rattle.board_cable.specs.declared.happened.What.TheVariants.{Owns as HasNumber, Wakes as TimeCame}
 use Rattle.board_live.specs.declared.happened.What.{What as ToBoard}
 use Rattle.board_live.specs.declared.happened.What.TheVariants.{Cable}

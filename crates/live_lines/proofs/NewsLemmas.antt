@@ -1,7 +1,7 @@
 -- Who wants the text tells no more than who wakes the recorder.
 use Rattle.std.proofs.Common.{◌≡◌, ℕ, Bool, true, false, List, [], ◌∷◌, IfSome, refl, sym, ap, subst, ◌∙◌}
-use Rattle.board_asking.specs.Pace.{AsksAlike}
-use Rattle.board_asking.specs.Whose.{HandledAlike}
+use Rattle.board_cable.specs.Pace.{AsksAlike}
+use Rattle.board_cable.specs.Whose.{HandledAlike}
 use Rattle.board_cable.specs.Keeping.{kept}
 use Rattle.board_cable.specs.Turns.{Told, Turn, told}
 use Rattle.board_events.specs.declared.setup.Setup.{Setup}

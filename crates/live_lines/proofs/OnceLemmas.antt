@@ -27,7 +27,7 @@ use Rattle.board_live.specs.Coming.{came}
 use Rattle.board_live.specs.Laws.{WakesOnce}
 use Rattle.board_live.specs.Once.{IsAnsweredOnce}
 use Rattle.board_live.specs.Moments.{Moment, cabled}
-use Rattle.board_looks.specs.declared.look.Look.{Look}
+use Rattle.board_alarms.specs.declared.look.Look.{Look}
 use Rattle.pgn_book.specs.Laws.{GamesTellTexts}
 use Rattle.pgn_book.specs.Pgn.{Pgn}
 use Rattle.pgn_book.proofs.OneText.{same_game}

@@ -1,7 +1,7 @@
 -- What is answered to an entry.
 use Rattle.std.proofs.Common.{◌≡◌, ℕ, Bool, true, false, List, [], ◌∷◌, IfSome, Option, ap, ◌∙◌, subst, sym, refl}
-use Rattle.board_asking.specs.Pace.{AsksAlike}
-use Rattle.board_asking.specs.Whose.{HandledAlike}
+use Rattle.board_cable.specs.Pace.{AsksAlike}
+use Rattle.board_cable.specs.Whose.{HandledAlike}
 use Rattle.board_cable.specs.Keeping.{kept}
 use Rattle.board_cable.specs.Turns.{Told, Turn, told}
 use Rattle.board_events.specs.declared.setup.Setup.{Setup}
@@ -15,7 +15,7 @@ use Rattle.board_live.specs.Due.{IsDue, MayChange, StaysAlike}
 use Rattle.board_live.specs.Ending.{EndStays}
 use Rattle.board_live.specs.Live.{Answers}
 use Rattle.board_live.specs.Moments.{Moment, cabled}
-use Rattle.board_looks.specs.declared.look.Look.{Look}
+use Rattle.board_alarms.specs.declared.look.Look.{Look}
 use Rattle.board_times.specs.declared.events.Event.{Event}
 use Rattle.board_times.specs.declared.reading.Found.{Found}
 use Rattle.board_times.specs.Times.{IsFound}

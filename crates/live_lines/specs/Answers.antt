@@ -8,7 +8,7 @@ use Rattle.answer_lines.specs.Looks.{looks_text}
 use Rattle.board_endings.specs.declared.news.End.{End}
 use Rattle.board_endings.specs.Saying.{no_end}
 use Rattle.board_live.specs.declared.live.Answer.{Answer}
-use Rattle.board_looks.specs.declared.look.Look.{Look}
+use Rattle.board_alarms.specs.declared.look.Look.{Look}
 use Rattle.board_standing.specs.declared.state.State.{State}
 
 -- the bytes that the capture gets, if there are any, behind a line that says how many

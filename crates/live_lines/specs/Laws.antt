@@ -13,7 +13,7 @@ use Rattle.board_events.specs.Game.{IsGameOf}
 use Rattle.board_game.specs.History.{AreShown, Came, bytes_of}
 use Rattle.board_game.specs.Report.{IsReport}
 use Rattle.board_live.specs.Moments.{Moment}
-use Rattle.board_looks.specs.declared.look.Look.{Look}
+use Rattle.board_alarms.specs.declared.look.Look.{Look}
 use Rattle.board_times.specs.declared.events.Event.{Event}
 use Rattle.chess_game.specs.Games.{Content}
 use Rattle.chess_game.specs.Values.{TagValues}

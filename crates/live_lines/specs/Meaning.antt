@@ -1,6 +1,6 @@
 -- What an entry is to a board that is recorded. Entries are listed with the latest first.
 use Rattle.std.specs.Prelude.{ℕ, Bool, true, false, List, [], ◌∷◌, if◌then◌else◌}
-use Rattle.board_asking.specs.Serial.{is_serial}
+use Rattle.board_cable.specs.Serial.{is_serial}
 use Rattle.board_cable.specs.declared.happened.What.TheVariants.{Begins as CallBegins, Opens as LineOpens, Answers as ServerAnswers, Closes, HangsUp, Hears as BoardSends, Takes as BoardTaken, Owns as HasNumber, Lends as IsLent, Wakes as TimeCame}
 use Rattle.board_live.specs.declared.happened.What.{What as ToBoard}
 use Rattle.board_live.specs.declared.happened.What.TheVariants.{Cable, Adds as AddsBytes, Brings as BringsBytes, Stops as NobodyListened, Notes}

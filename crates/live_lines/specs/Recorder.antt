@@ -1,7 +1,7 @@
 -- A recorder that a host tells entries, and what it answers. Entries are listed with the latest first.
 use Rattle.std.specs.Prelude.{◌≡◌, ℕ, Bool, true, false, List, ◌∷◌, drop, IfSome, Option}
-use Rattle.board_asking.specs.Pace.{AsksAlike}
-use Rattle.board_asking.specs.Whose.{HandledAlike}
+use Rattle.board_cable.specs.Pace.{AsksAlike}
+use Rattle.board_cable.specs.Whose.{HandledAlike}
 use Rattle.board_cable.specs.Keeping.{kept}
 use Rattle.board_cable.specs.Turns.{Told, Turn, told}
 use Rattle.board_events.specs.declared.setup.Setup.{Setup}
@@ -15,7 +15,7 @@ use Rattle.board_live.specs.Due.{IsDue, MayChange, StaysAlike}
 use Rattle.board_live.specs.Ending.{EndStays}
 use Rattle.board_live.specs.Live.{Answers, HasBegun as LiveHasBegun, StandsFor as LiveStands}
 use Rattle.board_live.specs.Moments.{cabled}
-use Rattle.board_looks.specs.declared.look.Look.{Look}
+use Rattle.board_alarms.specs.declared.look.Look.{Look}
 use Rattle.live_lines.specs.declared.recorder.Recorder.{Recorder}
 use Rattle.live_lines.specs.Answers.{answer_text, capture_text}
 use Rattle.live_lines.specs.Clock.{clock_after}

@@ -4,8 +4,8 @@ ghost use Rattle.std.specs.Prelude.{◌≡◌, ◌++◌, ℕ, List, IfOk, OnOk};
 ghost use Rattle.live_lines.specs.Answers.{answer_text, capture_text, game_text, kept_text, lasting, said_of, state_for, wake_in};
 
 use answer_lines::{Said, add_answer as add_said, add_end, add_looks};
+use board_alarms::Look;
 use board_live::Answer;
-use board_looks::Look;
 use board_standing::State;
 use itoa::Buffer;
 use std::alloc::{AllocError, Global};

@@ -3,8 +3,7 @@ ghost use Rattle.std.specs.Prelude.{◌≡◌};
 ghost use Rattle.live_lines.specs.Meaning.{happening_of, meaning_of, owned};
 
 use crate::entries::What;
-use board_asking::serial_in;
-use board_cable::What as AtCable;
+use board_cable::{What as AtCable, serial_in};
 use board_game::Note;
 use board_live::What as ToBoard;
 use board_times::What as Happening;

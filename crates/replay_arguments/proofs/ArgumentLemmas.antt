@@ -22,7 +22,7 @@ use Rattle.chess_game.specs.declared.values.Tag.TheVariants.{Event, Site, Date, 
 use Rattle.board_events.specs.Settings.{setting_of}
 use Rattle.replay_arguments.specs.declared.arguments.Subcommand.{Subcommand}
 use Rattle.replay_arguments.specs.Command.{replay}
-use Rattle.replay_arguments.specs.Subcommands.{Asks, AsksForPictures, AsksForTimes, AsksToAdd, AsksToAttend, AsksToCheck, AsksToShow, AsksForMoves, AsksForPositions, AsksToFollow, AsksToGoBack, AsksToRecord, AsksToRecover, AsksToWatch, Chooses, IsAdd, IsBack, IsCheck, IsFollow, IsLive, IsMoves, IsPictures, IsPositions, IsRecord, IsRecover, IsTimes, IsWatch, IsShow, is_subcommand}
+use Rattle.replay_arguments.specs.Subcommands.{Asks, AsksForPictures, AsksForTimes, AsksToAdd, AsksToAttend, AsksToCheck, AsksToShow, AsksForMoves, AsksForPositions, AsksToFollow, AsksToGoBack, AsksToReplace, AsksToRecord, AsksToRecover, AsksToWatch, Chooses, IsAdd, IsBack, IsInstead, IsCheck, IsFollow, IsLive, IsMoves, IsPictures, IsPositions, IsRecord, IsRecover, IsTimes, IsWatch, IsShow, is_subcommand}
 use Rattle.replay_arguments.specs.Setups.{SetsBoardUp, flag_text, plain_setup, side_in}
 use Rattle.chess_text.specs.Start.{given}
 use Rattle.replay_arguments.specs.TagOptions.{option_of}
@@ -389,6 +389,67 @@ back_asks text false true arguments (name, is) =
 back_asks text true true arguments (name, is) =
     let P : List Text → Type 0 = λ w. AsksToGoBack w (setting_of (plain_setup true)) true (Some text) in
     subst P (sym is) (back_by text true true (name ∷ codes "back" ∷ (codes "--to=" ++ text) ∷ codes "--rotated" ∷ codes "--recover" ∷ []) (turned_recovered_back name text))
+
+plain_instead : (name text : Text) → Finds (name ∷ codes "instead" ∷ (codes "--line=" ++ text) ∷ []) (codes "instead") (edit_rows (codes "line") text false false)
+unfolding clap_on_literals
+plain_instead name text = (refl, takes_by (name ∷ codes "instead" ∷ (codes "--line=" ++ text) ∷ []) refl)
+
+turned_instead : (name text : Text) → Finds (name ∷ codes "instead" ∷ (codes "--line=" ++ text) ∷ codes "--rotated" ∷ []) (codes "instead") (edit_rows (codes "line") text true false)
+unfolding clap_on_literals
+turned_instead name text = (refl, takes_by (name ∷ codes "instead" ∷ (codes "--line=" ++ text) ∷ codes "--rotated" ∷ []) refl)
+
+recovered_instead : (name text : Text) → Finds (name ∷ codes "instead" ∷ (codes "--line=" ++ text) ∷ codes "--recover" ∷ []) (codes "instead") (edit_rows (codes "line") text false true)
+unfolding clap_on_literals
+recovered_instead name text = (refl, takes_by (name ∷ codes "instead" ∷ (codes "--line=" ++ text) ∷ codes "--recover" ∷ []) refl)
+
+turned_recovered_instead : (name text : Text) → Finds (name ∷ codes "instead" ∷ (codes "--line=" ++ text) ∷ codes "--rotated" ∷ codes "--recover" ∷ []) (codes "instead") (edit_rows (codes "line") text true true)
+unfolding clap_on_literals
+turned_recovered_instead name text = (refl, takes_by (name ∷ codes "instead" ∷ (codes "--line=" ++ text) ∷ codes "--rotated" ∷ codes "--recover" ∷ []) refl)
+
+instead_by : (text : Text) (rotated recovers : Bool) (arguments : List Text) → Finds arguments (codes "instead") (edit_rows (codes "line") text rotated recovers)
+    → AsksToReplace arguments (setting_of (plain_setup rotated)) recovers (Some text)
+instead_by text false false arguments finds = (
+  edit_rows (codes "line") text false false,
+  asks_by arguments (codes "instead") (edit_rows (codes "line") text false false) finds refl,
+  sets_board_up_plainly (edit_rows (codes "line") text false false) false refl refl refl,
+  refl,
+  refl,
+)
+instead_by text true false arguments finds = (
+  edit_rows (codes "line") text true false,
+  asks_by arguments (codes "instead") (edit_rows (codes "line") text true false) finds refl,
+  sets_board_up_plainly (edit_rows (codes "line") text true false) true refl refl refl,
+  refl,
+  refl,
+)
+instead_by text false true arguments finds = (
+  edit_rows (codes "line") text false true,
+  asks_by arguments (codes "instead") (edit_rows (codes "line") text false true) finds refl,
+  sets_board_up_plainly (edit_rows (codes "line") text false true) false refl refl refl,
+  refl,
+  refl,
+)
+instead_by text true true arguments finds = (
+  edit_rows (codes "line") text true true,
+  asks_by arguments (codes "instead") (edit_rows (codes "line") text true true) finds refl,
+  sets_board_up_plainly (edit_rows (codes "line") text true true) true refl refl refl,
+  refl,
+  refl,
+)
+
+pub instead_asks : (text : Text) (rotated recovers : Bool) (arguments : List Text) → IsInstead text rotated recovers arguments → AsksToReplace arguments (setting_of (plain_setup rotated)) recovers (Some text)
+instead_asks text false false arguments (name, is) =
+    let P : List Text → Type 0 = λ w. AsksToReplace w (setting_of (plain_setup false)) false (Some text) in
+    subst P (sym is) (instead_by text false false (name ∷ codes "instead" ∷ (codes "--line=" ++ text) ∷ []) (plain_instead name text))
+instead_asks text true false arguments (name, is) =
+    let P : List Text → Type 0 = λ w. AsksToReplace w (setting_of (plain_setup true)) false (Some text) in
+    subst P (sym is) (instead_by text true false (name ∷ codes "instead" ∷ (codes "--line=" ++ text) ∷ codes "--rotated" ∷ []) (turned_instead name text))
+instead_asks text false true arguments (name, is) =
+    let P : List Text → Type 0 = λ w. AsksToReplace w (setting_of (plain_setup false)) true (Some text) in
+    subst P (sym is) (instead_by text false true (name ∷ codes "instead" ∷ (codes "--line=" ++ text) ∷ codes "--recover" ∷ []) (recovered_instead name text))
+instead_asks text true true arguments (name, is) =
+    let P : List Text → Type 0 = λ w. AsksToReplace w (setting_of (plain_setup true)) true (Some text) in
+    subst P (sym is) (instead_by text true true (name ∷ codes "instead" ∷ (codes "--line=" ++ text) ∷ codes "--rotated" ∷ codes "--recover" ∷ []) (turned_recovered_instead name text))
 
 -- ---- a board that is attended
 

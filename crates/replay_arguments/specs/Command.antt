@@ -77,6 +77,9 @@ add_app = with_edit (codes "line") (new_app (codes "add"))
 abbrev pub back_app : App
 back_app = with_edit (codes "to") (new_app (codes "back"))
 
+abbrev pub instead_app : App
+instead_app = with_edit (codes "line") (new_app (codes "instead"))
+
 -- how a board stands, where its game starts, whether it is recovered, and the tags of its text
 abbrev pub live_app : App
 live_app = with_tags (with_rule (with_board (new_app (codes "live"))) recover_rule)
@@ -92,7 +95,7 @@ with_board_subcommands app = with_subcommand (with_subcommand (with_subcommand (
 
 -- with those that change a capture
 abbrev pub with_edit_subcommands : App → App
-with_edit_subcommands app = with_subcommand (with_subcommand app add_app.top) back_app.top
+with_edit_subcommands app = with_subcommand (with_subcommand (with_subcommand app add_app.top) back_app.top) instead_app.top
 
 -- with those that read texts, or nothing
 abbrev pub with_text_subcommands : App → App

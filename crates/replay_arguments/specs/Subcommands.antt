@@ -13,7 +13,7 @@ use Rattle.chess_rules.specs.declared.parts.Parts.{Parts}
 use Rattle.board_events.specs.declared.setup.Setup.{Setup}
 use Rattle.board_events.specs.Settings.{Setting}
 use Rattle.replay_arguments.specs.declared.arguments.Subcommand.{Subcommand}
-use Rattle.replay_arguments.specs.declared.arguments.Subcommand.TheVariants.{Show, Pictures, Record, Follow, Watch, Recover, Add, Back, Live, Check, Times, Moves, Positions}
+use Rattle.replay_arguments.specs.declared.arguments.Subcommand.TheVariants.{Show, Pictures, Record, Follow, Watch, Recover, Add, Back, Instead, Live, Check, Times, Moves, Positions}
 use Rattle.replay_arguments.specs.declared.arguments.BoardArguments.{BoardArguments}
 use Rattle.replay_arguments.specs.declared.arguments.RecordArguments.{RecordArguments}
 use Rattle.replay_arguments.specs.declared.arguments.EditArguments.{EditArguments}
@@ -24,7 +24,7 @@ use Rattle.chess_text.specs.Start.{StartsAt, given}
 
 -- whether the subcommand is one of the program's, and the side after `--first`, if there is one, is white or black
 abbrev pub is_subcommand : Text → List Row → Bool
-is_subcommand name rows = if bytes_eq name (codes "record") || bytes_eq name (codes "follow") || bytes_eq name (codes "watch") || bytes_eq name (codes "recover") || bytes_eq name (codes "add") || bytes_eq name (codes "back") || bytes_eq name (codes "live") then is_some (side_in (first_of (codes "first") rows))
+is_subcommand name rows = if bytes_eq name (codes "record") || bytes_eq name (codes "follow") || bytes_eq name (codes "watch") || bytes_eq name (codes "recover") || bytes_eq name (codes "add") || bytes_eq name (codes "back") || bytes_eq name (codes "instead") || bytes_eq name (codes "live") then is_some (side_in (first_of (codes "first") rows))
     else (bytes_eq name (codes "show") || bytes_eq name (codes "pictures") || bytes_eq name (codes "check") || bytes_eq name (codes "times") || bytes_eq name (codes "moves") || bytes_eq name (codes "positions"))
 
 -- what a subcommand with these arguments asks for
@@ -37,6 +37,7 @@ pub record Chooses (name : Text) (rows : List Row) (subcommand : Option Subcomma
   pub recover : name ≡ codes "recover" → IfSome subcommand (λ chosen. (options : BoardArguments) × (chosen ≡ Recover options) × WantsBoard rows options)
   pub add : name ≡ codes "add" → IfSome subcommand (λ chosen. (options : EditArguments) × (chosen ≡ Add options) × WantsEdit (codes "line") rows options)
   pub back : name ≡ codes "back" → IfSome subcommand (λ chosen. (options : EditArguments) × (chosen ≡ Back options) × WantsEdit (codes "to") rows options)
+  pub instead : name ≡ codes "instead" → IfSome subcommand (λ chosen. (options : EditArguments) × (chosen ≡ Instead options) × WantsEdit (codes "line") rows options)
   pub live : name ≡ codes "live" → IfSome subcommand (λ chosen. (options : LiveArguments) × (chosen ≡ Live options) × WantsLive rows options)
   pub check : name ≡ codes "check" → subcommand ≡ Some Check
   pub times : name ≡ codes "times" → subcommand ≡ Some Times
@@ -117,6 +118,12 @@ abbrev pub AsksToGoBack : List Text → Setting → Bool → Option Text → Typ
 AsksToGoBack arguments setting recovers to = (rows : List Row) × Asks arguments (codes "back") rows × SetsBoardUp rows setting
     × (one_of (codes "recover") rows ≡ Some (flag_text recovers)) × (first_of (codes "to") rows ≡ to)
 
+-- The arguments ask that a game get the moves of a line, if there is one, in place of its last ones, of a capture whose game
+-- is set up so, and which is recovered first or not.
+abbrev pub AsksToReplace : List Text → Setting → Bool → Option Text → Type 0
+AsksToReplace arguments setting recovers line = (rows : List Row) × Asks arguments (codes "instead") rows × SetsBoardUp rows setting
+    × (one_of (codes "recover") rows ≡ Some (flag_text recovers)) × (first_of (codes "line") rows ≡ line)
+
 -- The arguments ask that a board be attended whose game is set up so, and is recovered or not.
 abbrev pub AsksToAttend : List Text → Setup → Bool → Type 0
 AsksToAttend arguments setup recovers = (rows : List Row) × Asks arguments (codes "live") rows × SetsUp rows setup
@@ -167,6 +174,10 @@ IsAdd text rotated recovers arguments = IsEdit (codes "add") (codes "--line=") t
 -- They are `back` and `--to=TEXT`.
 abbrev pub IsBack : Text → Bool → Bool → List Text → Type 0
 IsBack text rotated recovers arguments = IsEdit (codes "back") (codes "--to=") text rotated recovers arguments
+
+-- They are `instead` and `--line=TEXT`.
+abbrev pub IsInstead : Text → Bool → Bool → List Text → Type 0
+IsInstead text rotated recovers arguments = IsEdit (codes "instead") (codes "--line=") text rotated recovers arguments
 
 -- The arguments are a program's name, whatever it is, and `live`, with or without `--rotated` and `--recover`.
 abbrev pub IsLive : Bool → Bool → List Text → Type 0

@@ -39,6 +39,8 @@ pub enum Subcommand<'a> {
     Add(EditArguments<'a>),
     /// A capture whose game goes back to one of its plies.
     Back(EditArguments<'a>),
+    /// A capture whose game gets typed moves in place of its last ones.
+    Instead(EditArguments<'a>),
     /// What a host that records a board is answered.
     Live(LiveArguments<'a>),
     /// Whether a text is PGN in export form.
@@ -217,6 +219,10 @@ fn subcommand_named<'a>(name: &str, matches: &ArgMatches<'a>) -> Option<Subcomma
         },
         "back" => match edit_arguments_of("to", matches) {
             Some(back) => Some(Subcommand::Back(back)),
+            None => None,
+        },
+        "instead" => match edit_arguments_of("line", matches) {
+            Some(instead) => Some(Subcommand::Instead(instead)),
             None => None,
         },
         "live" => match live_arguments_of(matches) {

@@ -1,7 +1,7 @@
 //! The command line of the program, as `clap` parses it.
 ghost use Rattle.std.specs.Prelude.{◌≡◌, IfOk};
 ghost use Rattle.clap.specs.Simple.{App, app_of, new_app};
-ghost use Rattle.replay_arguments.specs.Command.{AddsRule, AddsApp, IsApp, Makes, add_app, back_app, check_app, follow_app, live_app, moves_app, pictures_app, positions_app, record_app, recover_app, recover_rule, replay, rotated_rule, show_app, text_rule, times_app, watch_app, with_board, with_board_subcommands, with_edit, with_edit_subcommands, with_tags, with_text_subcommands};
+ghost use Rattle.replay_arguments.specs.Command.{AddsRule, AddsApp, IsApp, Makes, add_app, back_app, check_app, follow_app, instead_app, live_app, moves_app, pictures_app, positions_app, record_app, recover_app, recover_rule, replay, rotated_rule, show_app, text_rule, times_app, watch_app, with_board, with_board_subcommands, with_edit, with_edit_subcommands, with_tags, with_text_subcommands};
 
 use crate::tag_options::{option_help, option_name};
 use chess_game::Tag;
@@ -223,6 +223,23 @@ fn back<'a>(alloc: Global) -> Result<Command<'a>, AllocError>
     )
 }
 
+fn instead<'a>(alloc: Global) -> Result<Command<'a>, AllocError>
+    ensures { IfOk result (λ command. IsApp command instead_app) }
+{
+    let command = named(
+        alloc,
+        "instead",
+        "Writes a new capture, in which the game of a capture on standard input gets typed moves in place of its last ones",
+    );
+    with_edit(
+        alloc,
+        Ok(command),
+        "line",
+        "TEXT",
+        "The moves; the number of the first says from where on",
+    )
+}
+
 fn live<'a>(alloc: Global) -> Result<Command<'a>, AllocError>
     ensures { IfOk result (λ command. IsApp command live_app) }
 {
@@ -302,7 +319,8 @@ fn with_edit_subcommands<'a>(
     ensures { (app : App) → Makes command.entry app → Makes result (with_edit_subcommands app) }
 {
     let command = with_subcommand(command, add(alloc));
-    with_subcommand(command, back(alloc))
+    let command = with_subcommand(command, back(alloc));
+    with_subcommand(command, instead(alloc))
 }
 
 /// The command with the subcommands that read texts, or nothing.

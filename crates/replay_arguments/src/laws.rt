@@ -3,7 +3,7 @@ ghost use Rattle.std.specs.Prelude.{Bool, List, Some, ℕ, [], ◌∷◌, codes}
 ghost use Rattle.board_events.specs.Settings.{setting_of};
 ghost use Rattle.chess_rules.specs.Initial.{initial};
 ghost use Rattle.replay_arguments.specs.Setups.{plain_setup};
-ghost use Rattle.replay_arguments.specs.Subcommands.{AreMistaken, AsksForHelp, AsksForMoves, AsksForPictures, AsksForPositions, AsksForTimes, AsksForVersion, AsksToAdd, AsksToAttend, AsksToCheck, AsksToFollow, AsksToGoBack, AsksToRecord, AsksToRecover, AsksToShow, AsksToWatch, IsAdd, IsBack, IsCheck, IsFollow, IsHelp, IsLive, IsMoves, IsPictures, IsPositions, IsRecord, IsRecover, IsShow, IsTimes, IsVersion, IsWatch};
+ghost use Rattle.replay_arguments.specs.Subcommands.{AreMistaken, AsksForHelp, AsksForMoves, AsksForPictures, AsksForPositions, AsksForTimes, AsksForVersion, AsksToAdd, AsksToAttend, AsksToCheck, AsksToFollow, AsksToGoBack, AsksToRecord, AsksToRecover, AsksToReplace, AsksToShow, AsksToWatch, IsAdd, IsBack, IsCheck, IsFollow, IsHelp, IsInstead, IsLive, IsMoves, IsPictures, IsPositions, IsRecord, IsRecover, IsShow, IsTimes, IsVersion, IsWatch};
 
 /// `record` asks for a recording from the initial position, with White's time first and unknown tags, turned where
 /// `--rotated` is given; `follow` asks that a game be followed that is set up so, `watch` that one be watched, and
@@ -24,14 +24,16 @@ pub fn without_options()
     ensures positions { (arguments : List (List ℕ)) → IsPositions arguments → AsksForPositions arguments initial }
 {}
 
-/// `add --line=TEXT` asks what TEXT adds, and `back --to=TEXT` that the game go back so far, whatever TEXT is, from the
-/// initial position and with White's time first: turned where `--rotated` follows, and recovered first where
-/// `--recover` does.
+/// `add --line=TEXT` asks what TEXT adds, `back --to=TEXT` that the game go back so far, and `instead --line=TEXT` that it get
+/// these moves, whatever TEXT is, from the initial position and with White's time first: turned where `--rotated` follows,
+/// and recovered first where `--recover` does.
 pub fn edits_with_a_text()
     ensures adds { (text : List ℕ) (rotated recovers : Bool) (arguments : List (List ℕ)) → IsAdd text rotated recovers arguments
         → AsksToAdd arguments (setting_of (plain_setup rotated)) recovers (Some text) }
     ensures goes_back { (text : List ℕ) (rotated recovers : Bool) (arguments : List (List ℕ)) → IsBack text rotated recovers arguments
         → AsksToGoBack arguments (setting_of (plain_setup rotated)) recovers (Some text) }
+    ensures replaces { (text : List ℕ) (rotated recovers : Bool) (arguments : List (List ℕ)) → IsInstead text rotated recovers arguments
+        → AsksToReplace arguments (setting_of (plain_setup rotated)) recovers (Some text) }
 {}
 
 /// `--help` and `-h` ask for help, `--version` and `-V` for the version; the program's name alone is mistaken, and so

@@ -10,5 +10,5 @@ mod masks;
 mod runs;
 
 pub use lasting::{carried, lasted, sooner};
-pub use masks::has_any;
+pub use masks::{first_square, has_any, with_if, without};
 pub use runs::Runs;

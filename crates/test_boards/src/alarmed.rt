@@ -6,11 +6,10 @@ ghost use Rattle.board_events.specs.History.{IsInRange};
 
 use crate::coded_frames::expect_none;
 use crate::doubted::codes_of;
-use board_alarms::{Alarms, Chunk, News, Sight, When};
+use board_alarms::{Alarms, Chunk, Look, News, Sight, When};
 use board_doubts::Place;
 use board_doubts::Why::{self, AfterGap, Late, OtherTime, TakenBack, Unpressed};
 use board_events::Session;
-use board_looks::Look;
 use chess_game::result_at;
 use chess_rules::Position;
 use dgt_frame::{Event, First, Message};

@@ -1,7 +1,7 @@
 //! The example on the page of `answer_lines`.
 
 use answer_lines::{Said, add_answer};
-use board_asking::{Handling, Request};
+use board_cable::{Handling, Request};
 use board_standing::{Kind, State};
 use std::alloc::{AllocError, Global};
 

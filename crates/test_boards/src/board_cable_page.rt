@@ -1,7 +1,6 @@
 //! The example on the page of `board_cable`.
 
-use board_asking::Handling;
-use board_cable::{Cable, Happened, What};
+use board_cable::{Cable, Handling, Happened, What};
 use std::alloc::{AllocError, Global};
 
 /// How many bytes the game gets of a read of three, in which a fault comes, from a board whose number isn't known: what was

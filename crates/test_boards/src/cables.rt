@@ -1,9 +1,8 @@
 //! What happens at a board's cable, with its bytes: what the board is sent, and which bytes the game gets.
 
 use crate::coded_frames::expect_none;
-use board_asking::Handling;
 use board_cable::What::{Begins, Closes, Hears, Interrupts, Lends, Opens, Owns, Takes, Wakes};
-use board_cable::{Answer, Cable, Happened, What};
+use board_cable::{Answer, Cable, Handling, Happened, What};
 use std::alloc::{AllocError, Global};
 
 const OWN: [u8; 5] = *b"01234";

@@ -1,7 +1,7 @@
 //! Where a game without a result ended, worked by hand.
 
 use crate::coded_frames::{expect_none, first_false};
-use game_ends::{End, Made, StartAgain, end_of};
+use game_over::{End, Made, StartAgain, end_of};
 
 /// What a move is. Hands go on at once after it, but while a player thinks with a piece in hand.
 #[derive(Clone, Copy)]

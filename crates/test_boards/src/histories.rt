@@ -2,11 +2,11 @@
 //! it is.
 
 use crate::coded_frames::expect_none;
-use board_asking::Happening::{
+use board_cable::Happening::{
     Answers, Asks, Begins, Closes, Comes, Dumps, Faults, HangsUp, Interrupts, Numbers, Opens, Owns,
     Updates,
 };
-use board_asking::{Asking, Event, Handling, Happening, Request, serial_in};
+use board_cable::{Asking, Event, Handling, Happening, Request, serial_in};
 
 const EMPTY: [u8; 64] = [0; 64];
 

@@ -1,10 +1,10 @@
 //! Tests of the public calls on boards and what they send. Of `watched_streams`, streams that fail; of `dgt_frame`, frames and
-//! times; of `board_captures` and `going_back`, captures that go back; of `board_asking`, what a board is sent when, and what is
-//! done with what it sends; of `board_cable`, the same with its bytes; of `board_times`, files of times; of `square_runs`, since
+//! times; of `board_captures` and `going_back`, captures that go back; of `board_cable`, what a board is sent when, and what is
+//! done with what it sends, without its bytes and with them; of `board_times`, files of times; of `square_runs`, since
 //! when squares are in masks; of `board_standing`, how a board stands; of `board_doubts`, which news of a game is doubtful;
-//! of `board_looks` and `board_alarms`, which alarms are open; of `game_ends`, where a game ended; of `game_over` and
-//! `board_endings`, whether it is over; of `board_game`, one game while its capture grows; of `board_live`, a board that is recorded; of `answer_lines`, the lines of an
-//! answer; of `live_lines`, what a host tells a recorder, and what it is answered.
+//! of `board_alarms`, which alarms are open; of `game_over` and `board_endings`, whether a game is over, and where it ended; of
+//! `board_game`, one game while its capture grows; of `board_live`, a board that is recorded; of `answer_lines`, the lines of an answer;
+//! of `live_lines`, what a host tells a recorder, and what it is answered.
 //!
 //! The files `NAME_page.rt` have the examples on the crates' pages, as they stand there: `tests/pages` compares them. They are here
 //! since they load the same libraries.
@@ -21,8 +21,6 @@ mod backs;
 #[cfg(test)]
 mod board_alarms_page;
 #[cfg(test)]
-mod board_asking_page;
-#[cfg(test)]
 mod board_cable_page;
 #[cfg(test)]
 mod board_captures_page;
@@ -38,7 +36,6 @@ mod board_game_page;
 mod board_listing_page;
 #[cfg(test)]
 mod board_live_page;
-mod board_looks_page;
 #[cfg(test)]
 mod board_over;
 #[cfg(test)]
@@ -68,8 +65,6 @@ mod doubted;
 #[cfg(test)]
 mod ended;
 #[cfg(test)]
-mod game_ends_page;
-#[cfg(test)]
 mod game_over_page;
 #[cfg(test)]
 mod games;
@@ -79,6 +74,8 @@ mod going_back_page;
 mod hints;
 #[cfg(test)]
 mod histories;
+#[cfg(test)]
+mod instead;
 #[cfg(test)]
 mod live_alarms;
 #[cfg(test)]

@@ -4,8 +4,8 @@ ghost use Rattle.std.specs.Prelude.{OnOk};
 ghost use Rattle.board_live.specs.Live.{HasBegun};
 
 use crate::coded_frames::{expect_none, first_false};
-use board_asking::{Handling, Request};
 use board_cable::What::{Begins, Closes, Hears, Opens, Owns, Takes, Wakes};
+use board_cable::{Handling, Request};
 use board_captures::Method;
 use board_live::What::{Adds, Cable, Keeps, Tells};
 use board_live::{Answer, Happened, Live, What};

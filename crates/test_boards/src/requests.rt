@@ -1,8 +1,8 @@
 //! What a board is sent when, if the recorder wakes whenever something may be due. A recorder wakes here each 50 ms.
 
 use crate::coded_frames::expect_none;
-use board_asking::Happening::{Begins, Comes, Dumps, Faults, Numbers, Opens, Owns, Updates};
-use board_asking::{Asking, Event, Happening};
+use board_cable::Happening::{Begins, Comes, Dumps, Faults, Numbers, Opens, Owns, Updates};
+use board_cable::{Asking, Event, Happening};
 
 const EMPTY: [u8; 64] = [0; 64];
 

@@ -22,7 +22,7 @@ fn moves_are_counted(rt: HostRuntime) {
 
 #[test]
 fn moves_are_recognised(rt: HostRuntime) {
-    assert!(rt; says_to_type(rt.alloc(), "g1f3", "Nf3"));
+    assert!(rt; says_to_type(rt.alloc(), "Ng1f3", "Nf3"));
     assert!(rt; says_to_type(rt.alloc(), "Sf3", "Nf3"));
 }
 

@@ -12,7 +12,7 @@ use Rattle.chess_rules.specs.declared.pieces.Kind.{Kind}
 use Rattle.chess_rules.specs.After.{after}
 use Rattle.chess_rules.specs.Legal.{Legal}
 use Rattle.chess_text.specs.San.{San}
-use Rattle.settle_core.specs.Settling.{position_after}
+use Rattle.settle_core.specs.Settling.{Line, position_after}
 use Rattle.typed_lines.specs.Letters.{bare}
 use Rattle.typed_lines.specs.Words.{without_number}
 use Rattle.typed_lines.specs.Lines.{AreMoves, WordSays, StopsAt}
@@ -162,3 +162,10 @@ meant_at start position words found behind moves word number m san split so coun
     let P : Parts → Type 0 = λ q. WordSays q (without_number word) (Meant m) in
     let Q : Parts → Type 0 = λ q. San q m san in
     (m, record { before = found; behind = behind; moves = moves; split = split; named = so.named; count = count; here = subst P so.here here }, subst Q so.here is)
+
+-- moves that words name are legal one after the other
+pub named_line : (p : Parts) (words : List (List ℕ)) (moves : List Move) → AreMoves p words moves → Line p moves
+named_line p [] [] named = tt
+named_line p (word ∷ words) (m ∷ moves) named = (named.0.legal, named_line (after p m) words moves named.1)
+named_line p [] (m ∷ moves) named = absurd named
+named_line p (word ∷ words) [] named = absurd named

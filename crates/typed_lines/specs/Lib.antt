@@ -4,3 +4,4 @@ pub mod Numbers
 pub mod Results
 pub mod Spelling
 pub mod Lines
+pub mod Telling

@@ -1,5 +1,5 @@
 -- The move numbers in a typed line. Words stand in their order.
-use Rattle.std.specs.Prelude.{ℕ, ◌==◌, ◌||◌, ◌&&◌, ◌+◌, ◌-◌, ◌*◌, ◌/◌, ◌%◌, suc, nat_lt, Bool, List, [], ◌∷◌, decimal, filter, length, take, Option, None, Some, if◌then◌else◌}
+use Rattle.std.specs.Prelude.{ℕ, ◌==◌, ◌||◌, ◌&&◌, ◌+◌, ◌-◌, ◌*◌, ◌/◌, ◌%◌, suc, nat_lt, not, Bool, false, List, [], ◌∷◌, decimal, filter, length, take, Option, None, Some, if◌then◌else◌}
 use Rattle.std.specs.List.{slice_split}
 use Rattle.std.specs.Str.{bytes_eq}
 use Rattle.chess_rules.specs.declared.parts.Parts.{Parts}
@@ -40,3 +40,11 @@ misnumbered p made [] = None
 misnumbered p made (word ∷ words) = if has_its_number (half_of p.side p.fullmove + made) word
     then misnumbered p (if is_filled (without_number word) then suc made else made) words
     else Some (word, made)
+
+-- The line begins with the number of the move to be made in this position, with its dots.
+abbrev pub begins_with_number : ℕ → List (List ℕ) → Bool
+begins_with_number half [] = false
+begins_with_number half (word ∷ words) = not (length (digits_of word) == 0) && not (dots_of word == 0) && has_its_number half word
+
+abbrev pub begins_at : Parts → List ℕ → Bool
+begins_at p text = begins_with_number (half_of p.side p.fullmove) (line_words text)

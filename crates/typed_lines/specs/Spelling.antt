@@ -1,4 +1,4 @@
--- How a move may be typed: as PGN writes it, or otherwise so that it can be told which move is meant.
+-- How a move may be typed: as PGN writes it or by its two squares, or otherwise so that it can be told which move is meant.
 use Rattle.std.specs.Prelude.{◌≡◌, ◌⊎◌, ℕ, Bool, true, false, List, [], ◌∷◌, ◌++◌, Some, IsTrue, if◌then◌else◌, ⊤}
 use Rattle.chess_rules.specs.declared.pieces.Kind.{Kind}
 use Rattle.chess_rules.specs.declared.pieces.Kind.TheVariants.{Pawn, Rook, Knight, Bishop, King, Queen}
@@ -18,6 +18,10 @@ use Rattle.typed_lines.specs.declared.spelling.Manner.TheVariants.{Written, Mean
 -- The word is the move's SAN, but for marks at its end, the `=` before a promotion, and noughts for the letter O.
 abbrev pub IsItsSan : Parts → Move → List ℕ → Type 0
 IsItsSan p m word = (san : List ℕ) × San p m san × (bare word ≡ bare san)
+
+-- The word is the two squares of the move, with the letter of what a pawn becomes.
+abbrev pub IsOfSquares : Move → List ℕ → Type 0
+IsOfSquares m word = letters word ≡ letters (square_text m.from ++ (square_text m.to ++ promotion_text m.promotion))
 
 -- a piece's letter; a pawn has none
 abbrev pub piece_letter : Kind → List ℕ
@@ -67,7 +71,7 @@ IsMeant p m word = SpellsMove p m (letters word) ⊎ SpellsMove p m (letters (in
 
 -- The word is read in this manner as the move.
 abbrev pub IsReadAs : Manner → Parts → Move → List ℕ → Type 0
-IsReadAs Written p m word = IsItsSan p m word
+IsReadAs Written p m word = IsItsSan p m word ⊎ IsOfSquares m word
 IsReadAs Meant p m word = IsMeant p m word
 
 -- Among the legal moves, the word is read as this one alone.

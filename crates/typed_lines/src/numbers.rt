@@ -1,7 +1,7 @@
 //! The move numbers in a typed line.
-ghost use Rattle.std.specs.Prelude.{◌≡◌, ◌≤◌, ◌+◌, ◌/◌, None, Some, IfOk, MatchOption, decimal, map};
+ghost use Rattle.std.specs.Prelude.{◌≡◌, ◌≤◌, ◌+◌, ◌/◌, None, Some, IfOk, MatchOption, decimal, length, map, not, ◌&&◌, ◌==◌};
 ghost use Rattle.std.specs.Str.{bytes_eq};
-ghost use Rattle.typed_lines.specs.Numbers.{are_dots_of as are_dots_test, digits_of as digits_in, dots_of as dots_in, half_of, has_its_number as its_number_test, line_words as words_of, misnumbered as misnumbered_in};
+ghost use Rattle.typed_lines.specs.Numbers.{are_dots_of as are_dots_test, begins_at, digits_of as digits_in, dots_of as dots_in, half_of, has_its_number as its_number_test, line_words as words_of, misnumbered as misnumbered_in};
 
 use crate::results::is_text;
 use crate::words::{after_digits, after_dots, is_blank, is_move_word};
@@ -81,4 +81,26 @@ pub fn misnumbered<'a>(p: &Position, words: &[&'a [u8]]) -> Option<(&'a [u8], us
         }
     }
     None
+}
+
+/// Whether the word begins with the number of this half-move, and its dots.
+fn is_numbered(half: usize, word: &[u8]) -> bool
+    ensures { result ≡ (not (length (digits_in word.now) == 0) && not (dots_in word.now == 0) && its_number_test half word.now) }
+{
+    !digits_of(word).is_empty() && !(dots_of(word) == 0) && has_its_number(half, word)
+}
+
+/// Whether a line begins with the number of the move to be made in this position, and its dots.
+///
+/// # Errors
+///
+/// Where there is no memory.
+pub fn begins_at(alloc: Global, p: &Position, text: &[u8]) -> Result<bool, AllocError>
+    ensures { IfOk result (λ begins. begins ≡ begins_at p.now text.now) }
+{
+    let words = line_words(alloc, text)?;
+    if words.is_empty() {
+        return Ok(false);
+    }
+    Ok(is_numbered(half_of(p), words[0]))
 }

@@ -23,7 +23,7 @@ use std::alloc::{AllocError, Global};
 /// What a word says in a position.
 #[derive(Clone, Copy)]
 pub enum Word {
-    /// The move that it is, as PGN writes it.
+    /// The move that it is, as PGN writes it or by its two squares.
     Written(Move),
     /// The one move that it may be meant as.
     Meant(Move),
@@ -46,7 +46,7 @@ pub enum Typed<'a> {
     Nothing,
     /// A result, or `*`, among other words.
     Mixed,
-    /// A word that is no move as PGN writes it, and the SAN of the one legal move that it may be meant as.
+    /// A word that is no move as PGN writes it, nor by its two squares, and the SAN of the one legal move that it may be meant as.
     Meant(&'a [u8], usize, ArrayString<8>),
     /// A word that has the form of a move, but is no legal one.
     Illegal(&'a [u8], usize),

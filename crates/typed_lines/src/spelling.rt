@@ -6,7 +6,7 @@ ghost use Rattle.chess_rules.specs.declared.chess_move.Move.{Move as MoveOf};
 ghost use Rattle.chess_text.specs.San.{castling_text as castling_text_of, promotion_text};
 ghost use Rattle.chess_text.specs.Squares.{file_byte, rank_byte, square_text};
 ghost use Rattle.typed_lines.specs.Letters.{letters as letters_of};
-ghost use Rattle.typed_lines.specs.Spelling.{IsMeant, IsOnly, IsItsSan, MayBe, IsReadAs, Spells, SpellsBy, SpellsCastling, SpellsMove, piece_letter as piece_letter_of, mover_text, destination_text};
+ghost use Rattle.typed_lines.specs.Spelling.{IsMeant, IsOfSquares, IsOnly, IsItsSan, MayBe, IsReadAs, Spells, SpellsBy, SpellsCastling, SpellsMove, piece_letter as piece_letter_of, mover_text, destination_text};
 
 use crate::letters::{bare, in_english, is_same, letters};
 use arrayvec::ArrayString;
@@ -32,7 +32,7 @@ pub enum Way {
 /// How a word is read as a move.
 #[derive(Clone, Copy)]
 pub enum Manner {
-    /// As PGN writes it.
+    /// As PGN writes it, or by its two squares.
     Written,
     /// Otherwise, so that it can be told which move is meant.
     Meant,
@@ -228,7 +228,7 @@ fn is_meant(alloc: Global, p: &Position, m: &Move, word: &[u8]) -> Result<bool, 
     spells_move(alloc, p, m, other.as_slice())
 }
 
-fn is_written(alloc: Global, p: &Position, m: &Move, word: &[u8]) -> Result<bool, AllocError>
+fn is_its_san(alloc: Global, p: &Position, m: &Move, word: &[u8]) -> Result<bool, AllocError>
     requires { Legal p.now m.now }
     ensures { IfOk result (λ written. IsTrue written ↔ IsItsSan p.now m.now word.now) }
 {
@@ -236,6 +236,25 @@ fn is_written(alloc: Global, p: &Position, m: &Move, word: &[u8]) -> Result<bool
     let own = bare(alloc, san.as_str().as_bytes())?;
     let other = bare(alloc, word)?;
     Ok(is_same(other.as_slice(), own.as_slice()))
+}
+
+/// Whether the word is the two squares of the move, with the letter of what a pawn becomes.
+fn is_of_squares(alloc: Global, m: &Move, word: &[u8]) -> Result<bool, AllocError>
+    ensures { IfOk result (λ squares. IsTrue squares ↔ IsOfSquares m.now word.now) }
+{
+    let heard = letters(alloc, word)?;
+    let text = text_by(Way::Squares, true, Kind::Pawn, m);
+    has_letters(alloc, heard.as_slice(), text.as_str())
+}
+
+fn is_written(alloc: Global, p: &Position, m: &Move, word: &[u8]) -> Result<bool, AllocError>
+    requires { Legal p.now m.now }
+    ensures { IfOk result (λ written. IsTrue written ↔ IsReadAs Manner.Written p.now m.now word.now) }
+{
+    if is_its_san(alloc, p, m, word)? {
+        return Ok(true);
+    }
+    is_of_squares(alloc, m, word)
 }
 
 /// Whether the word is read in this manner as this legal move.

@@ -8,11 +8,12 @@ use Rattle.board_listing.specs.OneText.{event_lines, no_line, picture_lines}
 use Rattle.board_listing.specs.declared.listing.Listing.{Listing}
 use Rattle.board_listing.specs.declared.listing.Listing.TheVariants.{Game, Watched}
 use Rattle.replay_arguments.specs.declared.arguments.Subcommand.{Subcommand}
-use Rattle.replay_arguments.specs.declared.arguments.Subcommand.TheVariants.{Show, Pictures, Record, Follow, Watch, Recover, Add, Back, Live, Check, Times, Moves, Positions}
+use Rattle.replay_arguments.specs.declared.arguments.Subcommand.TheVariants.{Show, Pictures, Record, Follow, Watch, Recover, Add, Back, Instead, Live, Check, Times, Moves, Positions}
 use Rattle.replay_arguments.specs.Setups.{Meets, MeetsBoard, MeetsNothing, tag_text}
 use Rattle.chess_text.specs.Start.{HasNoStart, StartsAt, given}
 use Rattle.dgt_replay.specs.Add.{AddsLine}
 use Rattle.dgt_replay.specs.Back.{TakesBack}
+use Rattle.dgt_replay.specs.Instead.{PutsInstead}
 use Rattle.dgt_replay.specs.Edit.{text_in}
 use Rattle.dgt_replay.specs.Refusals.{RefusesSetup}
 use Rattle.text_subcommands.specs.Refusals.{RefusesStart, Refuses}
@@ -42,6 +43,8 @@ Does (Recover options) status s = ((setting : Setting) → MeetsBoard options se
 Does (Add options) status s = ((setting : Setting) → MeetsBoard options.board setting → AddsLine setting options.recovers (text_in (given options.text)) status s)
     × (HasNoStart (given options.board.fen) → Refuses (RefusesStart (given options.board.fen)) status s)
 Does (Back options) status s = ((setting : Setting) → MeetsBoard options.board setting → TakesBack setting options.recovers (text_in (given options.text)) status s)
+    × (HasNoStart (given options.board.fen) → Refuses (RefusesStart (given options.board.fen)) status s)
+Does (Instead options) status s = ((setting : Setting) → MeetsBoard options.board setting → PutsInstead setting options.recovers (text_in (given options.text)) status s)
     × (HasNoStart (given options.board.fen) → Refuses (RefusesStart (given options.board.fen)) status s)
 Does (Live options) status s = ((setup : Setup) → Meets options.game setup → AttendsBoard setup options.recovers status s)
     × (MeetsNothing options.game → Refuses (RefusesSetup (given options.game.board.fen) (tag_text options.game)) status s)

@@ -4,9 +4,11 @@ use Rattle.chess_rules.specs.declared.parts.Parts.{Parts}
 use Rattle.chess_rules.specs.Legal.{Legal}
 use Rattle.settle_core.specs.declared.plies.Ply.{Ply}
 use Rattle.settle_core.specs.Folding.{moves_of}
-use Rattle.settle_core.specs.Settling.{position_after}
+use Rattle.settle_core.specs.Settling.{Line, position_after}
 use Rattle.going_back.specs.declared.answering.Answer.{Answer}
 use Rattle.going_back.specs.declared.answering.Answer.TheVariants.{Back, Unnamed, Refused}
+use Rattle.going_back.specs.declared.replacing.Change.{Change}
+use Rattle.going_back.specs.declared.replacing.Change.TheVariants as change
 use Rattle.going_back.specs.declared.going.BackError.{BackError}
 use Rattle.going_back.specs.declared.going.BackError.TheVariants.{Moved}
 
@@ -20,3 +22,9 @@ IsTellable start plies (Back made stays gone result) = ⊤
 IsTellable start plies (Unnamed None) = ⊤
 IsTellable start plies (Unnamed (Some k)) = (0 < k) × (k ≤ length plies)
 IsTellable start plies (Refused stays error) = (stays ≤ length plies) × IsLegalBehind start plies stays error
+
+-- the same of other moves that come
+abbrev pub IsChangeTellable : Parts → List Ply → Change → Type 0
+IsChangeTellable start plies (change.Unplaced (Some k)) = (0 < k) × (k ≤ length plies)
+IsChangeTellable start plies (change.Refused new stays error) = Line start (moves_of new.items) × IsLegalBehind start new.items (length new.items) error
+IsChangeTellable start plies other = ⊤

@@ -5,7 +5,7 @@ use Rattle.typed_lines.specs.Lines.{ReadsLine}
 use Rattle.typed_lines.specs.Words.{typed_words}
 use Rattle.typed_lines.specs.declared.reading.Typed.{Typed}
 use Rattle.typed_lines.specs.declared.reading.Typed.TheVariants as typed
-use Rattle.adding.proofs.TrialLemmas.{named_line}
+use Rattle.typed_lines.proofs.LineLemmas.{named_line}
 use Rattle.adding.proofs.adding.trial_of.Goals as goal
 
 pub trial_of_moves-requires : goal.trial_of_moves-requires

@@ -1,6 +1,6 @@
 use Rattle.std.proofs.Common.{List, sym, subst, ◌∙◌}
-use Rattle.board_looks.specs.declared.look.Told.{Told}
-use Rattle.board_looks.specs.Keeping.{StandsFor as LooksStandFor}
+use Rattle.board_alarms.specs.declared.look.Told.{Told}
+use Rattle.board_alarms.specs.Keeping.{LooksStandFor}
 use Rattle.board_alarms.specs.Items.{events_of}
 use Rattle.board_alarms.proofs.TakeLemmas.{lever_stays, nothing_said, reading_stays}
 use Rattle.board_alarms.proofs.event_heard.tell_clock.Goals as goal

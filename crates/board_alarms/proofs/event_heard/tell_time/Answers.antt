@@ -1,7 +1,7 @@
 use Rattle.std.proofs.Common.{Bool, Option, refl, ap, subst, ◌∙◌}
 use Rattle.chess_clock.specs.declared.times.Reading.{Reading}
 use Rattle.board_doubts.specs.declared.heard.Heard.{Heard}
-use Rattle.board_looks.specs.Keeping.{StandsFor as LooksStandFor}
+use Rattle.board_alarms.specs.Keeping.{LooksStandFor}
 use Rattle.board_events.specs.History.{reading_at}
 use Rattle.board_alarms.specs.Clock.{clock_of, counts_said, lever_at, lever_said, presses_of, runs_said}
 use Rattle.board_alarms.specs.Hearing.{with_heard}

@@ -2,8 +2,8 @@ use Rattle.std.proofs.Common.{◌≡◌, ℕ, ◌+◌, ◌-◌, ◌<◌, ◌≤�
 use Rattle.std.proofs.lemmas.List.{take-append-drop}
 use Rattle.dgt_frame.specs.Decoder.{Decoded, TakesAll, TakesUpTo}
 use Rattle.dgt_frame.specs.Streams.{Timed}
-use Rattle.board_asking.specs.declared.line.Event.{Event}
-use Rattle.board_asking.specs.Asking.{StandsFor}
+use Rattle.board_cable.specs.declared.line.Event.{Event}
+use Rattle.board_cable.specs.Asking.{StandsFor}
 use Rattle.board_cable.specs.Frames.{told_of, with_happening, with_shown}
 use Rattle.board_cable.proofs.Shown.{shown_more, take_past}
 use Rattle.board_cable.proofs.frames.tell_all.Goals as goal

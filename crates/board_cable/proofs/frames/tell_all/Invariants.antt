@@ -1,8 +1,8 @@
 use Rattle.std.proofs.Common.{◌≡◌, ℕ, ◌-◌, ◌≤◌, List, ◌++◌, length, take}
 use Rattle.dgt_frame.specs.Decoder.{Decoded}
 use Rattle.dgt_frame.specs.Streams.{Timed}
-use Rattle.board_asking.specs.declared.line.Event.{Event}
-use Rattle.board_asking.specs.Asking.{StandsFor}
+use Rattle.board_cable.specs.declared.line.Event.{Event}
+use Rattle.board_cable.specs.Asking.{StandsFor}
 use Rattle.board_cable.specs.Frames.{last_five, with_shown}
 use Rattle.board_cable.proofs.frames.tell_all.Given as goal
 

@@ -1,4 +1,4 @@
-use Rattle.board_doubts.proofs.Masks.{lacking}
+use Rattle.square_runs.proofs.Squares.{lacking}
 use Rattle.board_doubts.proofs.stood.without.Goals as goal
 
 pub returns : goal.returns

@@ -5,4 +5,4 @@ use Rattle.board_doubts.proofs.Lent.{counted}
 use Rattle.board_doubts.proofs.thinking.are_most.Goals as goal
 
 pub returns : goal.returns
-returns c plies keeps = ap (nat_le 7) (c.count.ensures ∙ ap (count_by (λ one. one)) keeps ∙ counted pace_of plies)
+returns c plies keeps = ap (nat_le _) (c.count.ensures ∙ ap (count_by (λ one. one)) keeps ∙ counted pace_of plies)

@@ -26,6 +26,9 @@ returns-in-Add-clause-does g c = rw c.in-Add.is (c.edit.ensures.edits, c.edit.en
 pub returns-in-Back-clause-does : goal.returns-in-Back-clause-does
 returns-in-Back-clause-does g c = rw c.in-Back.is (c.edit-in-Back.ensures.edits, c.edit-in-Back.ensures.refuses)
 
+pub returns-in-Instead-clause-does : goal.returns-in-Instead-clause-does
+returns-in-Instead-clause-does g c = rw c.in-Instead.is (c.edit-in-Instead.ensures.edits, c.edit-in-Instead.ensures.refuses)
+
 pub returns-in-Live-clause-does : goal.returns-in-Live-clause-does
 returns-in-Live-clause-does g c = rw c.in-Live.is (c.live.ensures.attends, c.live.ensures.refuses)
 

@@ -11,10 +11,11 @@ use Rattle.replay_arguments.specs.TagOptions.{option_of}
 use Rattle.board_captures.specs.Reading.{IsTooLong}
 use Rattle.dgt_replay.specs.Add.{AnswersLine}
 use Rattle.dgt_replay.specs.Back.{AnswersBack}
+use Rattle.dgt_replay.specs.Instead.{AnswersInstead}
 use Rattle.dgt_replay.specs.Edit.{text_in}
 use Rattle.dgt_replay.specs.Refusals.{RefusesSetup}
 use Rattle.text_subcommands.specs.Refusals.{RefusesStart}
-use Rattle.dgt_replay.proofs.DoesLemmas.{attends_memory, checks_memory, does_add, does_attend, does_back, does_refuse_add, does_refuse_back, does_refuse_live, edits_memory, does_check, does_follow, does_moves, does_pictures, does_positions, does_record, does_recover, does_refuse_positions, does_refuse_recover, does_refuse_setup, does_refuse_start, does_refuse_watch, does_show, does_times, does_watch, lacks_memory, lists_memory, plays_memory, prints_memory, records_memory, recovers_memory, refuses_memory, text_memory, times_memory}
+use Rattle.dgt_replay.proofs.DoesLemmas.{attends_memory, checks_memory, does_add, does_attend, does_back, does_instead, does_refuse_add, does_refuse_back, does_refuse_instead, does_refuse_live, edits_memory, does_check, does_follow, does_moves, does_pictures, does_positions, does_record, does_recover, does_refuse_positions, does_refuse_recover, does_refuse_setup, does_refuse_start, does_refuse_watch, does_show, does_times, does_watch, lacks_memory, lists_memory, plays_memory, prints_memory, records_memory, recovers_memory, refuses_memory, text_memory, times_memory}
 use Rattle.dgt_replay.proofs.FaultLemmas.{mistaken_asks_nothing, mistaken_kind, one_fault, one_kind, text_out_of_memory}
 use Rattle.dgt_replay.proofs.SubcommandLemmas.{check_unrefused, follow_unrefused, moves_chosen, or_refused, pictures_unrefused, record_unrefused, recover_chosen, recover_unrefused, show_unrefused, times_unrefused, unrefused, watch_unrefused}
 use Rattle.dgt_replay.proofs.program.run.Goals as goal
@@ -158,6 +159,26 @@ pub returns-in-Ok-clause-back_refuses : goal.returns-in-Ok-clause-back_refuses
 returns-in-Ok-clause-back_refuses g c rows asks none =
     let arguments = map string_bytes c.args.arguments.now in
     does_refuse_back arguments c.in-Ok.subcommand c.dispatch.result _ c.in-Ok.ensures.chooses c.dispatch.ensures.does rows asks none
+
+pub returns-in-Err-clause-instead : goal.returns-in-Err-clause-instead
+returns-in-Err-clause-instead g c setting recovers line asks =
+    let arguments = map string_bytes c.args.arguments.now in
+    edits_memory (AnswersInstead setting recovers (text_in line)) (IsTooLong setting recovers) _ _ (lacks_memory _ _ (Keeps-refl (g.R.Read.remaining (inner_of c.args.reader.now))) c.requires.reading (c.refused_arguments.ensures.memory (or_refused c.in-Err.ensures.refused (unrefused arguments (codes "instead") asks.0 asks.1))))
+
+pub returns-in-Ok-clause-instead : goal.returns-in-Ok-clause-instead
+returns-in-Ok-clause-instead g c setting recovers line asks =
+    let arguments = map string_bytes c.args.arguments.now in
+    does_instead arguments c.in-Ok.subcommand c.dispatch.result _ c.in-Ok.ensures.chooses c.dispatch.ensures.does setting recovers line asks
+
+pub returns-in-Err-clause-instead_refuses : goal.returns-in-Err-clause-instead_refuses
+returns-in-Err-clause-instead_refuses g c rows asks none =
+    let arguments = map string_bytes c.args.arguments.now in
+    refuses_memory (RefusesStart (first_of (codes "fen") rows)) _ _ (lacks_memory _ _ (Keeps-refl (g.R.Read.remaining (inner_of c.args.reader.now))) c.requires.reading (c.refused_arguments.ensures.memory (or_refused c.in-Err.ensures.refused (unrefused arguments (codes "instead") rows asks))))
+
+pub returns-in-Ok-clause-instead_refuses : goal.returns-in-Ok-clause-instead_refuses
+returns-in-Ok-clause-instead_refuses g c rows asks none =
+    let arguments = map string_bytes c.args.arguments.now in
+    does_refuse_instead arguments c.in-Ok.subcommand c.dispatch.result _ c.in-Ok.ensures.chooses c.dispatch.ensures.does rows asks none
 
 pub returns-in-Err-clause-live : goal.returns-in-Err-clause-live
 returns-in-Err-clause-live g c setup recovers asks =

@@ -31,7 +31,7 @@ returns-in-Ok-true-clause-spoils c = λ past stands last.
       read = read;
       settler = c.settler.result.now;
       settled = settled;
-      why = inr (refl, inr (pair.0, pair_shown setting past c.args.stay.now c.settler.result.now c.args.picture.now settled.start_is c.in_default.ensures.ok.plies last (subst E (sym c.settler.ensures.same) pair.1)));
+      why = inr (refl, inr (pair.0, pair_shown setting past c.settler.result.now c.args.picture.now settled.start_is last (subst E (sym c.settler.ensures.same) pair.1)));
     }))
 
 pub returns-in-Ok-false-clause-gives : goal.returns-in-Ok-false-clause-gives
@@ -39,15 +39,15 @@ returns-in-Ok-false-clause-gives c = λ past stands last.
     let setting = setting_of c.args.method.now in
     let (events, read, made) = c.in-Ok.ensures.read in
     let settled = c.settler.ensures.stands setting events made.session in
-    let front = c.in_default.ensures.ok in
     let E : SettlerState → Type 0 = λ s. IsExplained s.start (moves_of s.score.plies) c.args.picture.now in
     record {
       events = events;
       read = read;
       settler = c.settler.result.now;
       settled = settled;
-      front = front;
+      front = c.in-Ok-judge.ensures.ok.0;
+      sign = c.in-Ok-judge.ensures.ok.1;
       board = (c.stand_alike.ensures setting past events stands made last).0 c.if-not-stand_alike.false;
       no_pair = λ recovers shows. iff_false c.in-Ok-false.ensures c.in-Ok-false.field-0-test
-          (recovers, subst E c.settler.ensures.same (pair_of setting past c.args.stay.now c.settler.result.now c.args.picture.now settled.start_is front.plies last shows));
+          (recovers, subst E c.settler.ensures.same (pair_of setting past c.settler.result.now c.args.picture.now settled.start_is last shows));
     }

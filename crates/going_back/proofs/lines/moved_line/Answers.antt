@@ -15,4 +15,4 @@ returns c =
     let written = subst W c.position_behind-position.ensures c.write_name.ensures in
     let shown = ap (λ (text : List ℕ). codes " " ++ (text ++ codes "\n")) c.as_slice.ensures.value in
     let rest = c.as_slice-2.ensures.value ∙ c.in_ok-rest.ensures ∙ shown in
-    if_ok _ _ c.count_line.result (λ line is. (name, written, is ∙ ap (λ (text : List ℕ). codes "back: moved " ++ (decimal c.args.stays ++ text)) rest)) c.count_line.ensures
+    if_ok _ _ c.count_line.result (λ line is. (name, written, is ∙ ap (λ (text : List ℕ). c.args.front.now ++ (codes "moved " ++ (decimal c.args.stays ++ text))) rest)) c.count_line.ensures

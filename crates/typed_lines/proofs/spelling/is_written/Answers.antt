@@ -1,11 +1,13 @@
-use Rattle.std.proofs.Common.{◌≡◌, ◌∙◌, sym, rules}
-use Rattle.typed_lines.specs.Letters.{bare}
-use Rattle.typed_lines.proofs.LineLemmas.{written_iff}
+use Rattle.std.proofs.Common.{◌∙◌, ◌⊎◌, inr, sym, ⊎_elim}
+use Rattle.std.proofs.lemmas.Bool.{false≢true}
+use Rattle.typed_lines.specs.Spelling.{IsItsSan, IsOfSquares}
+use Rattle.typed_lines.proofs.LineLemmas.{if_ok_iff}
 use Rattle.typed_lines.proofs.spelling.is_written.Goals as goal
 
 pub returns : goal.returns
 returns c =
-    let own : c.as_slice-2.result.now ≡ bare c.write_san-san.result.bytes = search rules in
-    let other : c.as_slice.result.now ≡ bare c.args.word.now = search rules in
-    written_iff c.args.p.now c.args.m.now c.copy.result c.args.word.now c.write_san-san.result.bytes c.is_same.result c.copy.ensures c.write_san-san.ensures.san c.write_san-san.ensures.one
-    (λ t. sym other ∙ c.is_same.ensures.0 t ∙ own, λ e. c.is_same.ensures.1 (other ∙ e ∙ sym own))
+    let p = c.args.p.now in
+    let m = c.args.m.now in
+    let word = c.args.word.now in
+    if_ok_iff c.is_of_squares.result (IsOfSquares m word) (IsItsSan p m word ⊎ IsOfSquares m word) c.is_of_squares.ensures (λ squares. inr squares)
+    (λ written. ⊎_elim (λ san. absurd (false≢true (sym c.if-branch.false ∙ c.in_ok-is_its_san.ensures.1 san))) (λ squares. squares) written)

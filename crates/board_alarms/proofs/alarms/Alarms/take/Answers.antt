@@ -1,7 +1,7 @@
 use Rattle.std.proofs.Common.{◌≡◌, ◌∷◌, ℕ, List, length, refl, ap, subst, sym, ◌∙◌}
 use Rattle.std.proofs.lemmas.Result.{on_ok_weaker}
 use Rattle.settle_core.specs.Settler.{SettlerState}
-use Rattle.board_looks.specs.declared.look.Told.{Told}
+use Rattle.board_alarms.specs.declared.look.Told.{Told}
 use Rattle.board_events.specs.History.{reading_at}
 use Rattle.board_alarms.specs.Clock.{clock_of, counts_said, lever_at, lever_said, presses_of, runs_said}
 use Rattle.board_alarms.specs.Hearing.{AreMoved, EventHeard, agrees, away_of, moves, shown_at, with_event}

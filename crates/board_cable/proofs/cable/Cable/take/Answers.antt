@@ -1,6 +1,6 @@
 use Rattle.std.proofs.Common.{◌≡◌, ◌∷◌, refl, sym, ap, subst, ◌∙◌}
-use Rattle.board_asking.specs.Asking.{StandsFor as AskingStandsFor, request_at, with_request}
-use Rattle.board_asking.specs.Whose.{handling_at}
+use Rattle.board_cable.specs.Asking.{StandsFor as AskingStandsFor, request_at, with_request}
+use Rattle.board_cable.specs.Whose.{handling_at}
 use Rattle.board_cable.specs.Moments.{Moment, moment_of, stream}
 use Rattle.board_cable.specs.Turns.{Turn, told}
 use Rattle.board_cable.proofs.BackLemmas.{back_more}

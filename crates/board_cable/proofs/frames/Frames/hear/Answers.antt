@@ -1,6 +1,6 @@
 use Rattle.std.proofs.Common.{ℕ, nat_lt, List, ◌∷◌, ◌++◌, refl}
-use Rattle.board_asking.specs.declared.line.Event.{Event}
-use Rattle.board_asking.specs.declared.line.Happening.TheVariants.{Comes}
+use Rattle.board_cable.specs.declared.line.Event.{Event}
+use Rattle.board_cable.specs.declared.line.Happening.TheVariants.{Comes}
 use Rattle.board_cable.specs.Frames.{with_shown}
 use Rattle.board_cable.proofs.frames.Frames.hear.Goals as goal
 

@@ -1,6 +1,6 @@
 use Rattle.std.proofs.Common.{◌∷◌, ℕ, List, Option, sym, ap, subst, ◌∙◌}
-use Rattle.board_asking.specs.Silence.{is_silent}
-use Rattle.board_asking.specs.Whose.{own_number}
+use Rattle.board_cable.specs.Silence.{is_silent}
+use Rattle.board_cable.specs.Whose.{own_number}
 use Rattle.board_cable.specs.Cable.{StandsFor}
 use Rattle.board_cable.specs.declared.happened.Happened.{Happened}
 use Rattle.board_cable.specs.Moments.{moment_of as cable_moment_of}

@@ -1,5 +1,5 @@
 use Rattle.std.proofs.Common.{ℕ, Option, IfSome, ap, sym, subst, ◌∙◌}
-use Rattle.board_asking.specs.Lasting.{IsBefore}
+use Rattle.board_cable.specs.Lasting.{IsBefore}
 use Rattle.board_live.specs.Coming.{came}
 use Rattle.square_runs.specs.Lasting.{IsBefore as IsBeforeState, earlier}
 use Rattle.board_live.specs.Moments.{cabled}

@@ -1,5 +1,0 @@
-use Rattle.board_asking.proofs.LawLemmas.{own_sends_known_number}
-use Rattle.board_asking.proofs.laws.own_sends_known_number.Goals as goal
-
-pub returns : goal.returns
-returns c = own_sends_known_number

@@ -1,5 +1,0 @@
-use Rattle.board_looks.proofs.Opening.{added_raises_none}
-use Rattle.board_looks.proofs.laws.added_raises_none.Goals as goal
-
-pub returns : goal.returns
-returns c = added_raises_none

@@ -1,5 +1,0 @@
-use Rattle.board_looks.proofs.Opening.{open_exactly}
-use Rattle.board_looks.proofs.laws.is_open_exactly.Goals as goal
-
-pub returns : goal.returns
-returns c = open_exactly

@@ -1,5 +1,0 @@
-use Rattle.board_looks.proofs.Opening.{stays_open}
-use Rattle.board_looks.proofs.laws.stays_open.Goals as goal
-
-pub returns : goal.returns
-returns c = stays_open

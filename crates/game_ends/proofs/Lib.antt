@@ -1,4 +1,0 @@
-pub mod Going
-pub mod OneWay
-pub mod Sure
-pub mod Tails

@@ -1,5 +1,0 @@
-use Rattle.game_ends.proofs.OneWay.{ends_in_one_way}
-use Rattle.game_ends.proofs.laws.ends_in_one_way.Goals as goal
-
-pub returns : goal.returns
-returns c = ends_in_one_way
