@@ -31,7 +31,8 @@ import streams
 from hands import EMPTY, PROGRAM, Game, lognormal
 
 from attending.frames import UPDATE_ID  # noqa: E402  (hands has put its folder on the path)
-from live.child.lines import Agrees, Answers, Differs, Doubt, Move, entry, line_of  # noqa: E402
+from live.child.lines import Agrees, Answers, Differs, Doubt, Move, line_of  # noqa: E402
+from live.game.attending import entry  # noqa: E402
 from live.game.times import BEGIN, GONE, HEARD, OPENED  # noqa: E402
 from live.line.protocol import LETTERS, Picture  # noqa: E402
 from recovering.frames import dump  # noqa: E402

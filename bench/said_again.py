@@ -13,8 +13,9 @@ TOP = pathlib.Path(__file__).resolve().parents[1]
 sys.dont_write_bytecode = True
 sys.path[:0] = [str(TOP / "tests"), str(TOP)]
 from live.child.program import Program  # noqa: E402
-from live.game import timed, times  # noqa: E402
+from live.game import times  # noqa: E402
 from live.game.files import Paths  # noqa: E402
+from live.game.kept import milliseconds, times_of  # noqa: E402
 from live.game.times import Began, began_line, part_line, summed, this_start  # noqa: E402
 from live.out.again import said_again  # noqa: E402
 from played.stage import program  # noqa: E402
@@ -53,8 +54,8 @@ def main(words: List[str]) -> int:
         heard = [(number, times.HEARD, end - before) for number, (before, end) in enumerate(zip([0, *ends], ends), 1)]
         pathlib.Path(paths.capture).write_bytes(capture)
         lines = heading + times.lines([(0, times.BEGIN, 0), *heard])
-        pathlib.Path(timed.times_of(paths.capture)).write_bytes(lines)
-        call = began_line((0, len(heading)), Began(timed.milliseconds() - places - 1, this_start()))
+        pathlib.Path(times_of(paths.capture)).write_bytes(lines)
+        call = began_line((0, len(heading)), Began(milliseconds() - places - 1, this_start()))
         pathlib.Path(paths.began).write_bytes(summed([call, part_line(0, 0, lines)], 0))
         began = time.monotonic()
         said = said_again(Program(program()), [paths], 900.0, time.monotonic)

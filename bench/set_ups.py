@@ -17,8 +17,8 @@ from typing import Callable, Dict, List, Sequence, Tuple
 
 from hands import EMPTY, INITIAL, KINGS, Hands, lognormal, moves_of, program, program_bytes, random_game, updates
 
-from live.child.lines import Answers, Over, entry  # noqa: E402  (hands has put its folder on the path)
-from live.child.lines import Agrees, Differs, Event, Move, Result, line_of  # noqa: E402
+from live.child.lines import Agrees, Answers, Differs, Event, Move, Over, Result, line_of  # noqa: E402
+from live.game.attending import entry  # noqa: E402  (hands has put its folder on the path)
 
 
 @dataclass

@@ -1,11 +1,15 @@
 """The live recorder: the code of `dgt_live` and `dgt_round`. A byte's way from a board to `round.pgn`:
 
-`board/connection.py` reads it from its line (`line/line.py`) and passes it on to the session (`board/session.py`). `board/attending.py` tells it
-to `dgt_replay live`; `child/lines.py` has the line about it, and reads the answer. What is kept goes into the capture
-(`game/files.py`) before anything else is done. What the board is asked goes back through `board/cable.py`. Then the answer counts, in
-the stage of the game (`board/playing.py`): its report is printed (`game/log.py`), its course kept (`game/reading.py`), the board's
-state shown (`board/state.py`), and NAME.pgn made anew (`game/making_pgn.py`). What goes up from the session are values, which
-`board/board.py` takes in the same turn. `out/publish.py` puts `round.pgn` in place.
+`board/connection.py` reads it from its line (`line/line.py`) and passes it on to the session (`board/session.py`). `game/attending.py` tells it
+to `dgt_replay live`, and `child/lines.py` reads the answer. What is kept goes into the capture, and when it came into the times beside it
+(`game/kept.py`), before anything else is done. What the board is asked goes back through `board/cable.py`. Then the answer counts, in
+the stage of the game (`board/playing.py`): its report is printed (`game/log.py`, `show/terminal.py`), NAME.pgn wanted anew
+(`game/making_pgn.py`), its course kept (`game/game.py`), and the board's state shown (`board/state.py`). What goes up from the session are
+values, which `board/board.py` takes in the same turn; from there they go to `board/single.py`, or to `round/row.py`. `out/publish.py`
+puts `round.pgn` in place.
+
+A typed line's way: `show/terminal.py`; `board/single.py`, or `round/round.py` and its row; `board/board.py`; `board/arbiter.py`, which obeys it. What
+it means says `game/typed.py`, what it changes on the disk `game/changing.py`.
 
 In that order:
 

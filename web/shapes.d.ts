@@ -110,7 +110,12 @@ type Back =
   | { kind: string; stays: number; rest: string; result?: undefined; put?: undefined };
 
 /** What changes a game: plies are taken off, a line is read by the program, nobody plays, or a result is taken off. */
-type ChangeTyped = { kind: 'back'; to: string } | { kind: 'added'; line: string } | { kind: 'forfeit'; forfeit: string } | { kind: 'reopened' };
+/** What `instead` has answered: what goes and comes, with the new capture; or why not, and what it says more. */
+type Instead =
+  | { kind: 'plies'; stays: number; come: number; put: Uint8Array; words?: undefined }
+  | { kind: string; words: string[]; stays?: undefined; come?: undefined; put?: undefined };
+
+type ChangeTyped = { kind: 'back'; to: string } | { kind: 'instead'; line: string } | { kind: 'added'; line: string } | { kind: 'forfeit'; forfeit: string } | { kind: 'reopened' };
 
 type Reply = { done: boolean; said: Words }; // to a typed line
 

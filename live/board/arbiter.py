@@ -1,4 +1,5 @@
-"""What an arbiter types to the games of one board, and how it is obeyed while the board plays on.
+"""What an arbiter types to the games of one board, line after line, and how it is obeyed while the board plays on. Each line is obeyed once the
+one before it has been answered, and gets an answer, whatever happens.
 
 The program answers beside the loop, and what the board sends is kept and recorded meanwhile. If the capture has grown by then, the
 program is asked again, since its answer holds for the bytes that it has read. At the last try, and while files are put in place,
@@ -7,30 +8,29 @@ what the board sends is held in memory, and recorded right after: a kill loses n
 
 from __future__ import annotations
 
+import collections
 import contextlib
 import dataclasses
 import functools
 import os
-from typing import Callable, Optional, Sequence, Tuple, TypeVar
+from dataclasses import dataclass
+from typing import Callable, Deque, List, Optional, Sequence, Tuple, TypeVar, Union
 
-from live.board.advice import may_take
-from live.board.attended import PATIENCE, News
-from live.board.attending import Attending
 from live.board.over import SettingUp, Watched
-from live.board.playing import Playing
+from live.board.plan import News
+from live.board.playing import PATIENCE, Playing
 from live.board.session import Session
-from live.board.state import mend_of
+from live.board.state import may_take, mend_of
 from live.child.lines import Move
-from live.game.changing import add_and_make, add_by_name, ask_first, course_of, go_back_closed, or_reopened, put_names_right, put_way, reopen, told_of_next, unforfeited
+from live.game.attending import Attending, read_game
+from live.game.changing import add_and_make, add_by_name, ask_first, change_closed, course_of, or_reopened, put_names_right, put_way, reopen, told_of_next, unforfeited
 from live.game.files import Paths, open_regular, part_of
-from live.game.forfeits import Forfeit, drop_forfeit, is_unended, keep_forfeit, kept_forfeit, read_typed, refuse_played
-from live.game.game import Game, end_mark, forget_question, keep_other
+from live.game.game import Course, Game, end_mark, forget_question, game_of, keep_other
 from live.game.looks import acknowledge
 from live.game.opening import Chooses, Opened, named
 from live.game.options import IN_A_TABLE, is_naming
-from live.game.reading import Course, game_of, read_game
-from live.game.typed import ALL, BOARD, LONG, NO_RESULT, ONE_BOARD, UNENDED, UNPLAYED, WAYS, Acknowledged, Added, Back, Nothing, Quit, Reopened, Said, Typed, Way, ask_to_add, ask_to_go_back, meaning, not_added, not_back, nothing_goes, place_of, result_typed, way_of, which_game, with_more
-from live.run.loop import Resume, Steps, beside
+from live.game.typed import ALL, BOARD, LONG, NO_RESULT, ONE_BOARD, UNENDED, UNPLAYED, WAYS, Acknowledged, Added, Back, Changes, Forfeit, Instead, Nothing, Quit, Reopened, Said, Typed, Way, ask_for_way, ask_to_add, drop_forfeit, is_unended, keep_forfeit, kept_forfeit, meaning, no_way, not_added, nothing_goes, place_of, read_typed, refuse_played, result_typed, way_of, which_game, with_more
+from live.run.loop import Callback, Resume, Steps, beside, walk
 from live.run.refused import DGT_LIVE, DONE, Answer, Asked, NotDone, Refused, refusal
 from live.words.message import Message, linked
 
@@ -42,17 +42,91 @@ FORFEITS = {"1-0": (Message("side.black"), "+-"), "0-1": (Message("side.white"),
 Result = TypeVar("Result")
 
 
+@dataclass(frozen=True)
+class Line:
+    """A typed line: what obeys it, and who gets the answer."""
+
+    text: str
+    obeys: Callable[[], Steps[Answer]]
+    answered: Callable[[Answer], None]
+
+
+class TypedLines:
+    """Obeys them in their order. `refuses` makes an answer of an error."""
+
+    def __init__(self, refuses: Callable[[str, Exception], Answer]) -> None:
+        self._refuses = refuses
+        self._waiting: Deque[Line] = collections.deque()
+        self._now: Optional[Line] = None  # the line that is obeyed
+        self._obeys = False
+        self._then: List[Callback] = []  # what waits for the answer to it
+        self._idle: List[Callback] = []  # what waits for the answers to all
+
+    def take(self, line: Line) -> None:
+        """The next line."""
+        self._waiting.append(line)
+        self._obey()
+
+    def then(self, callback: Callback) -> None:
+        """Calls this when the line that is obeyed is answered; at once if there is none."""
+        self._call_or_keep(callback, self._then, self._now is not None)
+
+    def when_idle(self, callback: Callback) -> None:
+        """Calls this when all lines are answered; at once if they are."""
+        self._call_or_keep(callback, self._idle, bool(self._now or self._waiting))
+
+    @staticmethod
+    def _call_or_keep(callback: Callback, kept: List[Callback], waits: bool) -> None:
+        if waits:
+            kept.append(callback)
+        else:
+            callback()
+
+    def drop(self, error: Exception) -> None:
+        """What obeys the present line goes no further: this error is its answer."""
+        if self._now:
+            self._answer(self._now, error)
+
+    def _obey(self) -> None:
+        """Obeys lines until one must wait."""
+        if self._obeys:
+            return
+        self._obeys = True
+        while self._now is None and self._waiting:
+            line = self._now = self._waiting.popleft()
+            walk(line.obeys(), functools.partial(self._answer, line))
+        self._obeys = False
+        if self._now is None:
+            idle, self._idle = self._idle, []
+            for callback in idle:
+                callback()
+
+    def _answer(self, line: Line, answer: Union[Answer, Exception]) -> None:
+        """Answers a line, unless that was done."""
+        if self._now is not line:
+            return
+        self._now = None
+        try:
+            line.answered(self._refuses(line.text, answer) if isinstance(answer, Exception) else answer)
+        except Exception as error:  # it ends nothing
+            self._refuses(line.text, error)
+        then, self._then = self._then, []
+        for callback in then:
+            callback()
+        self._obey()
+
+
 class Arbiter:
     """Obeys what is typed. Each line gets an answer, with its status."""
 
     def __init__(self, session: Session) -> None:
-        self._session, self._guard, self._screen, self._plan = session, session.guard, session.screen, session.plan
+        self.session, self._guard, self._screen, self._plan = session, session.means.guard, session.means.screen, session.plan
         self._asked_about: Optional[Tuple[str, float]] = None  # the result of a game without a move, and when it was asked about
 
     def typed(self, text: str) -> Steps[Answer]:
         """A line of the terminal. In a series it may end with the name of this game or of the one before."""
         words, _, name = text.rpartition(" ")
-        last, here, series = self._session.before, self._session.game.paths.name, self._plan.rules.series
+        last, here, series = self.session.next.before, self.session.game.paths.name, self._plan.rules.series
         named = series and name in (here, last.name if last else here)
         if series and not named and is_naming(text) and os.path.lexists(Paths(name).capture):
             return refusal(text, NotDone(Message("naming.other_game", name=name, dgt_live=DGT_LIVE)))
@@ -74,13 +148,13 @@ class Arbiter:
         except (NotDone, OSError, Refused) as error:
             answer = refusal(text, error)
         except Exception:
-            self._session.let_go()
+            self.session.let_go()
             raise
-        self._session.let_go()
+        self.session.let_go()
         return answer
 
     def _obeys(self, text: str, before: Optional[Paths], sure: bool, may_quit: bool) -> Steps[Answer]:
-        session = self._session
+        session = self.session
         if is_naming(text) and not before:
             if self._plan.board:
                 raise NotDone(IN_A_TABLE)
@@ -94,7 +168,7 @@ class Arbiter:
         if isinstance(typed, Acknowledged) and not before:
             return self._acknowledge()
         if before:
-            return (yield from self._add_before(before, text, isinstance(typed, (Reopened, Back))))
+            return (yield from self._add_before(before, text, isinstance(typed, (Reopened, Back, Instead))))
         if isinstance(typed, Forfeit):
             return (yield from self._forfeit(typed))
         return (yield from self._plays_on(typed, sure))
@@ -103,19 +177,19 @@ class Arbiter:
         """A result, moves, or what takes them off: the game isn't forfeited any more."""
         if isinstance(typed, Reopened):
             answer = yield from self._take_result_off()
-        elif isinstance(typed, Back):
+        elif isinstance(typed, (Back, Instead)):
             answer = yield from self.go_back(typed)
         elif isinstance(typed, Added):
             answer = yield from self._add(typed.line, sure)
         else:
             raise NotDone(WAYS)
-        drop_forfeit(self._session.game.paths)
+        drop_forfeit(self.session.game.paths)
         return answer
 
     def _acknowledge(self) -> Answer:
         """Acknowledges the alarms of this game. If the board on the cable is another one, that may give it to this game."""
-        session, other = self._session, self._session.cable.other
-        owner = session.others.owner(other) if other else None
+        session, other = self.session, self.session.cable.another.number
+        owner = session.strangers.others.owner(other) if other else None
         takes = bool(other) and not (owner and self._plan.serial) and may_take(owner, bool(session.course.plies))
         if other and not takes:
             keep_other(session.game.paths, other)
@@ -133,12 +207,12 @@ class Arbiter:
 
     def _add(self, line: str, sure: bool) -> Steps[Answer]:
         """Adds to the game. A result in a series may be meant for the game before, unless it is `sure` which one is meant."""
-        session = self._session
+        session = self.session
         if not isinstance(session.now, Playing):
             return (yield from self._add_last(line))
         adds = functools.partial(_added_by, session.game, line)
         said = yield from self._asked(ADDED, adds)
-        now, had, before = self._playing(ADDED), session.course.result, session.before
+        now, had, before = self._playing(ADDED), session.course.result, session.next.before
         if said.kind == BOARD and had != NO_RESULT:
             outcome = yield from self._beside(functools.partial(result_typed, session.game.program, line))
             if outcome and before and not sure:
@@ -169,8 +243,8 @@ class Arbiter:
 
     def _be_sure(self, outcome: str, before: Paths) -> Steps[None]:
         """Asks which game is meant if the result may be that of the game before."""
-        name = self._session.game.paths.name
-        meant = which_game(len(self._session.course.plies), (yield from self._beside(functools.partial(is_unended, before))))
+        name = self.session.game.paths.name
+        meant = which_game(len(self.session.course.plies), (yield from self._beside(functools.partial(is_unended, before))))
         why = {UNPLAYED: Message("which.no_move", name=name), UNENDED: Message("which.no_result", name=before.name)}.get(meant)
         if why:
             raise NotDone(Message("which.type_one", why=why, result=outcome, before=before.name, name=name))
@@ -188,7 +262,7 @@ class Arbiter:
 
     def _add_before(self, paths: Paths, text: str, opens: bool) -> Steps[Answer]:
         """Adds to the game before this one. What `opens` that game leaves it as one that nobody records."""
-        program = self._session.game.program
+        program = self.session.game.program
         status, answer = yield from self._beside(functools.partial(add_by_name, program, paths, text, 0))
         if status == DONE and opens:
             more = yield from self._beside(functools.partial(told_of_next, paths))
@@ -200,7 +274,7 @@ class Arbiter:
 
     def _add_last(self, line: str) -> Steps[Answer]:
         """Adds to the game that is over while its board is watched, or while the pieces are set up."""
-        session, name = self._session, self._session.game.paths.name
+        session, name = self.session, self.session.game.paths.name
         adds = functools.partial(_added_last, session.game, line, self._is_there, self._guard.now())
         what, course = yield from self._changed(ADDED, adds)
         self._screen.say(Message("typed.added_by_hand_to", name=name, what=what))
@@ -209,7 +283,7 @@ class Arbiter:
 
     def _watch_on(self, course: Course) -> None:
         """The game is over still, and is this now."""
-        session = self._session
+        session = self.session
         session.close_now()
         session.course = course
         session.ups.append(News.PLACED)
@@ -219,24 +293,24 @@ class Arbiter:
 
     def _take_result_off(self) -> Steps[Answer]:
         """Takes the result off: the game goes on."""
-        game, course = self._session.game, self._session.course
-        if isinstance(self._session.now, Playing):
+        game, course = self.session.game, self.session.course
+        if isinstance(self.session.now, Playing):
             if course.result == NO_RESULT and not course.plies and kept_forfeit(game.paths):
                 return DONE, self._unforfeited(course.plies)  # its board may be away
-            return DONE, (yield from self._put(ALL))
+            return DONE, (yield from self._put(Back(ALL)))
         is_there = self._is_there
         said = yield from self._changed(TAKEN_OFF, lambda: or_reopened(game, lambda: reopen(game, is_there)))
         yield from self._go_on(said)
         return DONE, said
 
-    def go_back(self, typed: Back) -> Steps[Answer]:
-        """Takes plies off, and a game that was over goes on; between two games of a series it stays over if the board still shows
-        what was taken off."""
-        game, now = self._session.game, self._session.now
+    def go_back(self, typed: Changes) -> Steps[Answer]:
+        """Takes plies off, or puts others in their place, and a game that was over goes on; between two games of a series it stays over if
+        the board still shows what was taken off."""
+        game, now = self.session.game, self.session.now
         if isinstance(now, Playing):
-            return DONE, (yield from self._put(typed.to))
+            return DONE, (yield from self._put(typed))
         may_stay = isinstance(now, SettingUp)
-        goes = functools.partial(_gone_back, game, typed.to, self._is_there or may_stay, may_stay, self._guard.now())
+        goes = functools.partial(_gone_back, game, typed, self._is_there or may_stay, may_stay, self._guard.now())
         done, course = yield from self._changed(TAKEN_OFF, goes)
         if course is None:
             yield from self._go_on(done)
@@ -245,21 +319,21 @@ class Arbiter:
             self._watch_on(course)
         return DONE, linked("colon", (game.paths.name, done))
 
-    def _put(self, to: str) -> Steps[str]:
-        """The recorded game goes back so far. Returns what was done."""
-        session = self._session
-        game = session.game
-        said = yield from self._asked(TAKEN_OFF, lambda sent: ask_to_go_back(game.program, game.options, sent, to))
+    def _put(self, typed: Changes) -> Steps[str]:
+        """The recorded game changes so. Returns what was done."""
+        session = self.session
+        game, line = session.game, typed.line if isinstance(typed, Instead) else ""
+        said = yield from self._asked(TAKEN_OFF, lambda sent: ask_for_way(game.program, game.options, sent, typed))
         session.hold()
-        way = way_of(said, session.course.plies)
+        way = way_of(said, session.course.plies, line)
         if said.put and way is None:  # not all of it has been reported yet
             course = yield from self._beside(lambda: game_of(game.program, game.options, game.capture.bytes()))
-            way = way_of(said, course.plies)
+            way = way_of(said, course.plies, line)
         if way is None:
-            raise not_back(said, to, session.course.plies)
-        if way.changes_nothing:
-            if to != ALL:
-                raise nothing_goes(way, to)
+            raise no_way(said, typed, game.options.fen, session.course.plies)
+        if way.changes_nothing and isinstance(typed, Back):
+            if typed.to != ALL:
+                raise nothing_goes(way, typed.to)
             return self._unforfeited(way.plies)
         yield from self._beside(functools.partial(ask_first, game.paths, way))
         self._playing(TAKEN_OFF)
@@ -277,22 +351,22 @@ class Arbiter:
 
     def _unforfeited(self, plies: Sequence[Move]) -> str:
         """The game isn't forfeited any more. Returns what was done."""
-        paths = self._session.game.paths
+        paths = self.session.game.paths
         done = unforfeited(paths, plies)
         self._screen.say(done)
-        self._session.ups.append(News.PLACED)
+        self.session.ups.append(News.PLACED)
         return linked("colon", (paths.name, done))
 
     def _go_on(self, said: str) -> Steps[None]:
         """The game is no longer over."""
         self._screen.say(said)
-        self._session.close_now()
+        self.session.close_now()
         yield from self._begin_anew(is_reopened=True)
-        self._session.ups.append(News.REOPENED)
+        self.session.ups.append(News.REOPENED)
 
     def _begin_anew(self, is_reopened: bool = False) -> Steps[None]:
         """Starts the recording again from the game's new capture."""
-        session = self._session
+        session = self.session
         session.hold()
         try:
             opened = yield from self._beside(functools.partial(_opened, session.game, self._guard.now()))
@@ -306,7 +380,7 @@ class Arbiter:
     def _rename(self, prepares: Callable[[], Chooses]) -> Steps[Answer]:
         """The game has other tags from now on: those of `name White=Anna`, or of its line in a table. Its text follows. If it is over, so
         has the next one."""
-        session = self._session
+        session = self.session
         now, game, has_moves = session.now, session.game, bool(session.course.plies)
         is_recorded = isinstance(now, Playing)
         if now is None:
@@ -328,31 +402,31 @@ class Arbiter:
 
     def _forfeit(self, typed: Forfeit) -> Steps[Answer]:
         """The result ends the game as if it had been typed; if both players are absent, it has none."""
-        game, has = self._session.game, self._session.course.result
-        refuse_played(len(self._session.course.plies), has, typed)
+        game, has = self.session.game, self.session.course.result
+        refuse_played(len(self.session.course.plies), has, typed)
         keep_forfeit(game.paths, typed.kind, game.capture.total)
         if typed.result not in (NO_RESULT, has):
             yield from self._add(typed.result, sure=True)
         self._screen.say(Message("typed.added_by_hand", what=typed.words))
-        self._session.ups.append(News.PLACED)
+        self.session.ups.append(News.PLACED)
         return DONE, Message("forfeit.not_played_of", name=game.paths.name, words=typed.words)
 
     # The steps that lines have in common.
 
     def _beside(self, job: Callable[[], Result]) -> Steps[Result]:
         """Waits for a job that is done beside the loop."""
-        return beside(self._session.worker, job)
+        return beside(self.session.means.worker, job)
 
     @property
     def _is_there(self) -> bool:
         """Whether the board's device is there. What the board of a game that is over shows counts for what is typed only then: nobody can
         set pieces right on a board that isn't there."""
-        return bool(self._session.cable.holds)
+        return bool(self.session.cable.holds)
 
     def _playing(self, done: str) -> Playing:
         """The game that is recorded. Refused if it is just being ended, or if its capture can't be written: then nothing can be
         `added`, or `taken off`."""
-        session, now = self._session, self._session.now
+        session, now = self.session, self.session.now
         if not isinstance(now, Playing) or now.end.is_over or session.is_closing:
             raise NotDone(JUST_ENDED)
         capture = session.game.capture
@@ -363,7 +437,7 @@ class Arbiter:
 
     def _asked(self, done: str, asks: Callable[[bytes], Result]) -> Steps[Result]:
         """What the program answers, given all that the board has sent by then."""
-        game = self._session.game
+        game = self.session.game
         for tries in range(TRIES + 1):
             if tries == TRIES:
                 yield from self._hold(done)
@@ -377,8 +451,8 @@ class Arbiter:
 
     def _hold(self, done: str) -> Steps[None]:
         """From now on what the board sends is held. Waits until the program has answered all that it was told before."""
-        self._session.hold()
-        now = self._session.now
+        self.session.hold()
+        now = self.session.now
         if now:
             attending = now.attended.attending
             yield lambda resume: self._once_settled(attending, resume)
@@ -399,14 +473,14 @@ class Arbiter:
 
     def _on_the_disk(self) -> Steps[None]:
         """Waits until the capture is on the disk. If the disk has a fault, its text says so."""
-        number = os.dup(self._session.game.capture.number)
+        number = os.dup(self.session.game.capture.number)
         yield from self._beside(functools.partial(_sync, number))
 
     def _changed(self, done: str, change: Callable[[], Result]) -> Steps[Result]:
         """Changes the files of a game that is over, while its board isn't watched; the caller watches it again, or records it. If it
         is refused, everything stays as it was."""
-        session, now = self._session, self._session.now
-        if not isinstance(now, (Watched, SettingUp)) or session.begins_anew or session.game.capture.waits:
+        session, now = self.session, self.session.now
+        if not isinstance(now, (Watched, SettingUp)) or session.next.is_anew or session.game.capture.waits:
             raise NotDone(Message("typed.not_now", done=done))
         yield from self._hold(done)
         if session.now is not now:
@@ -464,9 +538,9 @@ def _added_last(game: Game, line: str, is_there: bool, now: float) -> Tuple[str,
     return add_and_make(game, line, is_there), course_of(game, now)
 
 
-def _gone_back(game: Game, to: str, listens: bool, may_stay: bool, now: float) -> Tuple[str, Optional[Course]]:
-    """What was taken off a game that was over, and its course then; None if the game goes on."""
-    done = or_reopened(game, lambda: go_back_closed(game, to, listens, may_stay))
+def _gone_back(game: Game, typed: Changes, listens: bool, may_stay: bool, now: float) -> Tuple[str, Optional[Course]]:
+    """How a game that was over has changed, and its course then; None if the game goes on."""
+    done = or_reopened(game, lambda: change_closed(game, typed, listens, may_stay))
     return done, None if end_mark(game.paths) is None else course_of(game, now)
 
 

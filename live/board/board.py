@@ -3,33 +3,28 @@
 from __future__ import annotations
 
 import contextlib
-import dataclasses
 import functools
 import math
-from typing import Callable, List, Optional, Protocol, Sequence, Tuple
+from dataclasses import dataclass
+from typing import Callable, List, Optional, Sequence, Tuple
 
-from live.board.advice import Owner, Return, Returned, came_back, told_of_same_number
-from live.board.arbiter import Arbiter
-from live.board.attended import Asked, CameBack, News, Numbered, Stopped
+from live.board.arbiter import Arbiter, Line, TypedLines
 from live.board.cable import AskedFirst
-from live.board.plan import Others, Plan, Wanted
+from live.board.plan import Among, Asked, BoardUp, CameBack, Change, Means, News, NotRecorded, Numbered, Others, Plan, Stopped, Wanted
 from live.board.playing import Playing
 from live.board.session import Session
-from live.board.state import State
-from live.board.typed_lines import Line, TypedLines
+from live.board.state import Owner, Returned, State, came_back, told_of_same_number
 from live.child.lines import Clock, Move
 from live.child.program import Program
 from live.game import files
 from live.game.changing import add_by_name
 from live.game.files import Paths
-from live.game.forfeits import forfeit_of
-from live.game.game import kept_serial, result_of
+from live.game.game import Course, kept_serial, new_course, result_of
 from live.game.log import Log, Screen, log_once
 from live.game.looks import Looks, kept_looks
 from live.game.opening import Chooses, Opened
-from live.game.options import Options
-from live.game.reading import Course, new_course
-from live.game.tags import today
+from live.game.options import Options, today
+from live.game.typed import forfeit_of
 from live.run.loop import Guard, Steps, Timer, Turns, Worker, beside, traced
 from live.run.refused import DONE, FAILED, Answer, NotDone, Refused, reason_of, refusal
 from live.words.message import Message, linked
@@ -39,64 +34,54 @@ ENDED = Message("board.ended")
 BEING_OPENED = Message("board.being_opened")
 
 
-class HearsBoard(Protocol):
-    """Gets the events of a board."""
+@dataclass
+class Left:
+    """What is known of its game and of the board itself while it isn't recorded: its files, its course, its alarms; the serial number, and the
+    cable's name, which stays when the device's name changes."""
 
-    def wanted(self) -> Wanted:
-        """What to record, each time that recording begins."""
+    paths: Paths
+    course: Course
+    looks: Looks = Looks()
+    number: str = ""
+    cable: str = ""
 
-    def changed(self) -> None:
-        """What the board shows has changed."""
 
-    def remade(self) -> None:
-        """The text of its game has changed."""
+@dataclass
+class Tries:
+    """The timer of the next try to record it; how many there were, and when it was recorded last."""
 
-    def ended(self, why: Optional[Exception]) -> bool:
-        """Its recording has ended, or couldn't begin. Returns whether to try again."""
-
-    def came_back(self) -> None:
-        """Its board was away, and is there again."""
-
-    def numbered(self) -> None:
-        """The serial number of its board has just become known."""
-
-    def missing(self) -> None:
-        """Its board, whose serial number is known, isn't on its cable any more."""
-
-    def owner(self, number: str) -> Optional["Board"]:
-        """The other board that has this serial number."""
+    timer: Optional[Timer] = None
+    count: int = 0
+    begun_at: float = math.inf
 
 
 class Board:
     """One board. Its calls raise nothing: an error ends the recording here, and it is tried again."""
 
-    def __init__(self, loop: Turns, program: Program, screen: Screen, paths: Paths, hears: HearsBoard) -> None:
-        self._loop, self._program, self._screen, self._hears = loop, program, screen, hears
-        self._paths = paths
+    def __init__(
+        self, loop: Turns, program: Program, screen: Screen, paths: Paths, wanted: Callable[[], Wanted], tells: Callable[[BoardUp], None],
+        of_number: Callable[[str], Optional[Board]] = lambda number: None
+    ) -> None:  # fmt: skip
+        self._loop, self._program, self._screen = loop, program, screen
+        self._wanted, self._tells, self._of_number = wanted, tells, of_number
         self.options = Options()  # of the game, as its text has them
-        self.course: Course = new_course(self.options)
+        self.pgn = b""
+        self.forfeit = ""  # how its game was forfeited, if it was
         self.trouble = ""  # why it isn't recorded
-        self._back: Optional[Return] = None  # when it was away last, and heard again
         self.refused: Optional[Refused] = None  # why its recording has ended, if that was an error
         self.is_over = False
         self.is_new = True  # nothing is known about it yet; a call that ends before its game is open leaves it so
-        self.pgn = b""
-        self.forfeit = ""  # how its game was forfeited, if it was
-        self._looks = Looks()  # alarms of a game that isn't recorded
+        self.left, self._tries, self.among = Left(paths, new_course(self.options)), Tries(), Among()
         self._guard: Optional[Guard] = None  # of the game that is opened or recorded
-        self._session: Optional[Session] = None  # which only this object holds
-        self._arbiter: Optional[Arbiter] = None  # obeys what is typed to that
-        self._alike: Sequence[int] = ()  # boards with its serial number, told before it was recorded
-        self.called = ""  # among the boards of a round
-        self._number = ""  # the serial number of its board while it isn't recorded
+        self._arbiter: Optional[Arbiter] = None  # obeys what is typed to that, and has the session
         self._done: Optional[Callable[[], None]] = None  # called when it has ended
-        self._again: Optional[Timer] = None
-        self._tries = 0
-        self._begun_at = math.inf  # when it was last recorded
-        self.cable = ""  # the cable's name, which stays when the device's name changes
         self._lines = TypedLines(self._refuses)
         self._is_changed = False  # whether its game, which isn't recorded, is just being changed by a typed line
         self._read_pgn()
+
+    @property
+    def _session(self) -> Optional[Session]:
+        return self._arbiter.session if self._arbiter else None
 
     # Recording it, if possible.
 
@@ -105,17 +90,17 @@ class Board:
         if self._is_changed:
             self._lines.then(self.begin)
             return
-        if self._again:
-            self._again.cancel()
-            self._again = None
+        if self._tries.timer:
+            self._tries.timer.cancel()
+            self._tries.timer = None
         if self._guard is None:
             self._guard = guard = Guard(self._loop, self._broke, self._note, self._turn)
             guard.call(lambda: self._open(guard))
 
     def _open(self, guard: Guard) -> None:
-        wanted = self._hears.wanted()
-        self._paths = wanted.plan.paths
-        self._number = kept_serial(self._paths)
+        wanted = self._wanted()
+        self.left.paths = wanted.plan.paths
+        self.left.number = kept_serial(self.left.paths)
         worker = Worker(guard)
         guard.opened(worker.close)
         opening = wanted.opening()
@@ -130,14 +115,14 @@ class Board:
         asked: List[AskedFirst] = []
 
         def held() -> None:
-            asked.append(AskedFirst(guard, self._program, wanted.plan.device, wanted.plan.serial or self._number))
+            asked.append(AskedFirst(guard, self._program, wanted.plan.device, wanted.plan.serial or self.left.number))
 
         def opened(found: Opened) -> None:
-            close = guard.opened(found.game.capture.close)
+            guard.opened(found.game.capture.close)
             assert found.reader
             reader_unused = guard.opened(found.reader.close)
             opening.take()
-            self._opened(guard, worker, wanted.plan, dataclasses.replace(found, close=close), asked[0] if asked else None)
+            self._opened(Means(guard, worker, self._screen), wanted.plan, found, asked[0] if asked else None)
             reader_unused()
             opening.untold = ()  # it has been said
 
@@ -146,28 +131,27 @@ class Board:
 
         worker.do(lambda: opening.open(now, today()), opened)
 
-    def _opened(self, guard: Guard, worker: Worker, plan: Plan, opened: Opened, asked: Optional[AskedFirst]) -> None:
+    def _opened(self, means: Means, plan: Plan, opened: Opened, asked: Optional[AskedFirst]) -> None:
         """The game is open: it is recorded, or its board is listened to, since it is over."""
-        self.trouble, self.is_new, self._begun_at = "", False, self._loop.now()
-        self._paths, self.options, self.course = opened.game.paths, opened.game.options, opened.old.course
+        self.trouble, self.is_new, self._tries.begun_at = "", False, self._loop.now()
+        self.left.paths, self.options, self.left.course = opened.game.paths, opened.game.options, opened.old.course
         self._read_pgn()
-        guard.opened(lambda: self._screen.keep(None))
-        self._screen.keep(Log(self._paths.log))
+        means.guard.opened(lambda: self._screen.keep(None))
+        self._screen.keep(Log(self.left.paths.log))
         for line in opened.told:
             self._screen.say(line)
         anew = (*opened.read_anew, *opened.results)
         if anew:
-            self._screen.say(self._screen.anew(str(self._paths.pgn), linked("semicolon", anew)))
+            self._screen.say(self._screen.anew(str(self.left.paths.pgn), linked("semicolon", anew)))
         self.is_over = opened.is_over or opened.is_full
         if plan.shows or (plan.board and opened.is_full):  # nothing more comes to it
             self._release(None)
         else:
-            self._session = Session(guard, worker, self._screen, plan, opened, Others(self.owner, self.lends), asked)
-            self._arbiter = Arbiter(self._session)
-            self.course = self._session.course
-            self.shares_number(self._alike)
-        self._hears.remade()
-        self._hears.changed()
+            self._arbiter = Arbiter(Session(means, plan, opened, Others(self.owner, self.lends), asked))
+            self.left.course = self._arbiter.session.course
+            self.shares_number(self.among.alike)
+        self._tells(Change.REMADE)
+        self._tells(Change.SHOWN)
 
     def _broke(self, error: Exception) -> None:
         """An error was raised: everything that was open is closed."""
@@ -180,9 +164,9 @@ class Board:
         was_recorded = self._session is not None
         if self._session:
             game, cable = self._session.game, self._session.cable
-            self.course, self._paths, self.options = self._session.course, game.paths, game.options
-            self.cable, self._number = cable.name, cable.number
-        self._guard = self._session = self._arbiter = None
+            self.left.course, self.left.paths, self.options = self._session.course, game.paths, game.options
+            self.left.cable, self.left.number = cable.name, cable.number
+        self._guard = self._arbiter = None
         if was_recorded:
             self._lines.drop(Refused(FAILED, Message("board.ended_again", ended=ENDED)))
 
@@ -190,20 +174,25 @@ class Board:
         """Not recorded, for this reason. It is tried again later unless it is ending."""
         if self.is_new and not self._done:
             self.is_new = False
-            self._hears.remade()
+            self._tells(Change.REMADE)
         if self._done:
             self.trouble = why if error else self.trouble  # the reason for the last failure, if recording was just tried again
             self._ended()
-        elif self._hears.ended(error):
-            before, self.trouble = self.trouble, why
-            if self._loop.now() - self._begun_at > PAUSES[-1]:
-                self._tries = 0
-            self._begun_at = math.inf
-            self._again = self._loop.after(PAUSES[min(self._tries, len(PAUSES) - 1)], self.begin)
-            self._tries += 1
-            if why != before:
-                self._screen.say(Message("board.not_recorded", why=why))
-        self._hears.changed()
+        else:
+            self._tells(up := NotRecorded(error))
+            if up.is_tried_again:
+                self._try_again_later(why)
+        self._tells(Change.SHOWN)
+
+    def _try_again_later(self, why: str) -> None:
+        before, self.trouble = self.trouble, why
+        if self._loop.now() - self._tries.begun_at > PAUSES[-1]:
+            self._tries.count = 0
+        self._tries.begun_at = math.inf
+        self._tries.timer = self._loop.after(PAUSES[min(self._tries.count, len(PAUSES) - 1)], self.begin)
+        self._tries.count += 1
+        if why != before:
+            self._screen.say(Message("board.not_recorded", why=why))
 
     def _turn(self) -> None:
         """Takes what has gone up from the session, in order, in the same turn."""
@@ -212,10 +201,10 @@ class Board:
                 self._takes(up)
             elif isinstance(up, CameBack):
                 if back := came_back(up.heard_at, up.has_slept, self._loop.now()):
-                    self._back = back
-                    self._hears.came_back()
+                    self.among.back = back
+                    self._tells(Change.CAME_BACK)
             elif isinstance(up, Numbered):
-                self._hears.numbered()
+                self._tells(Change.NUMBERED)
             elif isinstance(up, Asked):
                 self._asked(up.text, up.answered)
             elif isinstance(up, Stopped):  # the line that is being obeyed gets its answer first
@@ -223,13 +212,13 @@ class Board:
 
     def _takes(self, news: News) -> None:
         if news is News.MISSING:
-            self._hears.missing()
+            self._tells(Change.MISSING)
             return
         if news in (News.OVER, News.REOPENED):
             self.is_over = news is News.OVER
         self._read_pgn()
-        self._hears.remade()
-        self._hears.changed()
+        self._tells(Change.REMADE)
+        self._tells(Change.SHOWN)
 
     def _release_soon(self, refused: Optional[Refused]) -> None:
         if self._guard:
@@ -243,17 +232,17 @@ class Board:
         self._read_pgn()
         if refused is None and not self._done:
             self.is_over = self.is_over or self.result != "*" or files.size_of(self.paths.end) > 0
-        self._hears.remade()
+        self._tells(Change.REMADE)
         if self._done or refused or not self.is_over:
             self._put_off(refused.lines[0] if refused else ENDED, refused)
         else:
-            self._hears.ended(None)
-        self._hears.changed()
+            self._tells(NotRecorded(None))
+        self._tells(Change.SHOWN)
 
     @property
     def returned(self) -> Optional[Returned]:
         """When it was away last, and what tells it from others; None if it wasn't, or its game is over."""
-        return None if self._back is None or self.is_over else Returned(self._back, self.number, self._course.placement)
+        return None if self.among.back is None or self.is_over else Returned(self.among.back, self.number, self._course.shown.placement)
 
     def suspect(self, others: Sequence[int]) -> None:
         """Its cable may have been exchanged with that of one of the boards with these numbers."""
@@ -263,18 +252,23 @@ class Board:
 
     def shares_number(self, others: Sequence[int]) -> None:
         """Its board has the same serial number as the boards with these numbers."""
-        self._alike = () if self._session else others
+        self.among.alike = () if self._session else others
         if others and self._guard and self._session:
             self._guard.call(functools.partial(self._session.look_at, told_of_same_number(others)))
 
+    def _other(self, number: str) -> Optional[Board]:
+        """The other board that has this serial number; boards without one have that in common."""
+        board = self._of_number(number) if number else None
+        return None if board is self else board
+
     def owner(self, number: str) -> Optional[Owner]:
         """The other game that is recorded from the board with this serial number."""
-        board = self._hears.owner(number) if number else None
-        return Owner(board.called, bool(board.plies)) if board else None
+        board = self._other(number)
+        return Owner(board.among.called, bool(board.plies)) if board else None
 
     def lends(self, number: str, sent: bytes) -> bool:
         """The board with this number is on this board's cable, and has sent this. Returns whether its own game takes it."""
-        board = self._hears.owner(number) if number else None  # boards without a number have that in common
+        board = self._other(number)
         return board is not None and board.takes(sent)
 
     def takes(self, sent: bytes) -> bool:
@@ -289,9 +283,9 @@ class Board:
         self._lines.when_idle(lambda: self._end(done))
 
     def _end(self, done: Callable[[], None]) -> None:
-        if self._again:
-            self._again.cancel()
-            self._again = None
+        if self._tries.timer:
+            self._tries.timer.cancel()
+            self._tries.timer = None
         self._done = done
         if self._guard and self._session:
             self._guard.call(self._session.end)
@@ -307,7 +301,7 @@ class Board:
 
     def try_at_once(self) -> None:
         """If it isn't recorded: tries now, and again soon."""
-        self._tries = 0
+        self._tries.count = 0
         self.begin()
 
     # Typed lines.
@@ -327,7 +321,7 @@ class Board:
             return self._obeys(text, is_typed=False, is_sure=is_sure)
 
         def then(answer: Answer) -> None:
-            self._hears.changed()
+            self._tells(Change.SHOWN)
             answered(answer)
 
         self._lines.take(Line(text, obeys, then))
@@ -387,7 +381,7 @@ class Board:
             self._read_pgn()
             self.is_over = files.size_of(self.paths.end) > 0
             self._lines.then(self.try_at_once)
-            self._hears.remade()
+            self._tells(Change.REMADE)
         return answer
 
     def _note(self, error: Exception) -> None:
@@ -415,7 +409,7 @@ class Board:
     @property
     def number(self) -> str:
         """The serial number of its board, empty if unknown."""
-        return self._session.cable.number if self._session else self._number
+        return self._session.cable.number if self._session else self.left.number
 
     @property
     def lacks(self) -> str:
@@ -435,7 +429,7 @@ class Board:
     @property
     def paths(self) -> Paths:
         """The files of the game."""
-        return self._session.game.paths if self._session else self._paths
+        return self._session.game.paths if self._session else self.left.paths
 
     @property
     def result(self) -> str:
@@ -455,12 +449,12 @@ class Board:
     @property
     def clock(self) -> Optional[Clock]:
         """The last clock times."""
-        return self._course.clock
+        return self._course.shown.clock
 
     @property
     def clock_at(self) -> float:
         """When they came."""
-        return self._course.clock_at
+        return self._course.shown.clock_at
 
     @property
     def recovered(self) -> List[str]:
@@ -470,11 +464,11 @@ class Board:
     @property
     def looks(self) -> Looks:
         """The alarms of the game."""
-        return self._session.looks if self._session else self._looks
+        return self._session.looks if self._session else self.left.looks
 
     @property
     def _course(self) -> Course:
-        return self._session.course if self._session else self.course
+        return self._session.course if self._session else self.left.course
 
     @property
     def state(self) -> Optional[State]:
@@ -490,7 +484,7 @@ class Board:
         """Takes the text of its game: the one that this recording has put in place last, if it has; else what the file has."""
         written = self._session.game.written.last if self._session else None
         if self._session is None:
-            self._looks = kept_looks(self.paths)
+            self.left.looks = kept_looks(self.paths)
         if written:
             self.pgn, self.options = written
         else:

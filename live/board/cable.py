@@ -3,18 +3,16 @@ program decides when the board is asked and whose board it is. What comes of it 
 
 from __future__ import annotations
 
+from dataclasses import dataclass, field
 from typing import Iterator, List, NamedTuple, Optional, Set, Union
 
-from live.board.advice import AT_THE_CABLE, MOST_NUMBERS, another, back, changing, of_line
-from live.board.attended import News, Numbered
-from live.board.attending import OF_THE_LINE, Attending, Hears as HearsAnswer, Told
 from live.board.connection import BUSY, PLUGGED, UNPLUGGED, Connection, Happened, Hears
-from live.board.plan import Others
-from live.board.state import Standing
+from live.board.plan import Means, News, Numbered, Others, Plan
+from live.board.state import AT_THE_CABLE, MOST_NUMBERS, Standing, another, back, changing, of_line
 from live.child.lines import KEEP, NUMBER, OTHER, SILENT, UNPLUGGED as GONE_AWAY, WAITS, WAKE, Answer
 from live.child.program import Program
-from live.game.files import MEMORY
-from live.game.log import Screen
+from live.game.attending import OF_THE_LINE, Attending, Hears as HearsAnswer, Told
+from live.game.kept import MEMORY
 from live.game.looks import Look
 from live.game.times import HEARD, OPENED, TOOK
 from live.run.loop import Guard
@@ -88,17 +86,17 @@ class Strangers:
     """What is said of other boards on the cable of a game. If the table says which board is where, each `is_found` by itself."""
 
     def __init__(self, others: Others, is_found: bool) -> None:
-        self._others, self._is_found = others, is_found
+        self.others, self._is_found = others, is_found
         self._numbers: Set[str] = set()  # those that were on its cable and that no board has
 
     def told(self, said: Union[OtherBoard, OwnIsBack], cable: Cable, left: str, has_moves: bool, is_over: bool) -> List[Union[Look, str]]:
         """The alarm, or the message, in a game that has moves or not, if there is one. The board with the number `left` was left there
         before. If the game `is_over` with a result, another board is no alarm, unless that is the board of a game."""
         if isinstance(said, OwnIsBack):
-            is_known = self._is_found if self._others.owner(said.other) else is_over
+            is_known = self._is_found if self.others.owner(said.other) else is_over
             is_one_of_many = len(self._numbers) > MOST_NUMBERS
             return [] if is_known or is_one_of_many else [back(cable.number, said.other)]
-        owner = self._others.owner(said.number)
+        owner = self.others.owner(said.number)
         if owner and (self._is_found or said.number == left):
             return [Message("cable.other_game", cable=cable.name, owner=owner.name, number=said.number)]
         if owner is None and is_over:
@@ -108,27 +106,39 @@ class Strangers:
         return [changing(cable.number) if is_changing else another(cable.number, said.number, owner, has_moves)]
 
 
+@dataclass
+class LineState:
+    """How the line is: whether it is gone, since when, and whether it has been there; whether the board on it is silent."""
+
+    is_unplugged: bool = False
+    unplugged_at: float = 0.0
+    was_plugged: bool = False
+    is_silent: bool = False
+
+
+@dataclass
+class Another:
+    """Another board on the cable: its number, and that of the one that was last reported, while it is there; who attends it, and knows nothing
+    but the number of the game's own; what has come, while nobody knows whose it is; what it has sent and no game has taken."""
+
+    number: str = ""
+    told: str = ""
+    attending: Optional[Attending] = None
+    unsure: List[bytes] = field(default_factory=list)
+    foreign: List[bytes] = field(default_factory=list)
+
+
 class Cable:
     """The state of a board's line. If it listens `once`, a board that goes away isn't waited for. What a board with another number
     sends is lent to the game that has this board; if there is none, it is kept back."""
 
     def __init__(
-        self, guard: Guard, program: Program, screen: Screen, device: str, once: bool, number: str, hears: Hears, hears_another: HearsAnswer,
-        asked: Optional[AskedFirst] = None
-    ) -> None:  # fmt: skip
-        self._guard, self._program, self._screen = guard, program, screen
-        self._hears, self._hears_another = hears, hears_another
-        self._device, self._once = device, once
-        self._unplugged = self._silent = self._was_plugged = False
-        self._unplugged_at = 0.0
+        self, means: Means, program: Program, plan: Plan, number: str, connection: Connection, hears_another: HearsAnswer
+    ) -> None:
+        self._means, self._program, self._hears_another = means, program, hears_another
+        self._device, self._once, self._connection = plan.device, plan.once, connection
         self.number = number  # of the game's board; empty if unknown
-        self.other = ""  # the number of the board on the cable, if it is another board
-        self._told_other = ""  # that of the one that was last reported, while it is on the cable
-        self.another: Optional[Attending] = None  # attends another board while that is on it, and knows nothing but the number of its own
-        self._unsure: List[bytes] = []  # what has come, while nobody knows whose it is
-        self._foreign: List[bytes] = []  # what another board has sent and no game has taken
-        self._asked = asked  # before its game was open
-        self._connection = asked.connection if asked else Connection(guard, program, device, hears)
+        self._line, self.another = LineState(), Another()
 
     @property
     def name(self) -> str:
@@ -138,25 +148,18 @@ class Cable:
     @property
     def lacks(self) -> str:
         """The serial number of the game's board, if that isn't on this cable; else empty."""
-        return self.number if self._unplugged or self.other else ""
+        return self.number if self._line.is_unplugged or self.another.number else ""
 
     @property
     def holds(self) -> str:
         """The device that is open, if it is."""
-        return "" if self._unplugged else self.name
+        return "" if self._line.is_unplugged else self.name
 
     def move_to(self, device: str) -> None:
         """The game's board is on this device."""
-        self._screen.say(Message("cable.recorded_there", number=self.number, device=device))
+        self._means.screen.say(Message("cable.recorded_there", number=self.number, device=device))
         self._device = device
         self._connection.move_to(device)
-
-    def begin(self) -> None:
-        """Opens the line, or waits for it."""
-        if self._asked:
-            self._asked.pass_on(self._hears)
-        else:
-            self._connection.begin()
 
     def last_words(self) -> None:
         """Takes what has come so far, and closes the line."""
@@ -164,9 +167,9 @@ class Cable:
 
     def tell(self, standing: Standing) -> None:
         """Reports the line's state to a new listener."""
-        if self._unplugged:
-            standing.unplugged(self._unplugged_at, self._connection.is_server, self._how_it_is_there())
-        if self._silent:
+        if self._line.is_unplugged:
+            standing.unplugged(self._line.unplugged_at, self._connection.is_server, self._how_it_is_there())
+        if self._line.is_silent:
             standing.was_away = True
 
     # What the line does.
@@ -174,8 +177,8 @@ class Cable:
     def happens(self, it: Happened, standing: Optional[Standing]) -> Iterator[FromCable]:
         """This happens on the line, of a board that stands so."""
         if it.what == HEARD:
-            if self.another:
-                self.another.tell(HEARD, it.sent)
+            if self.another.attending:
+                self.another.attending.tell(HEARD, it.sent)
             else:
                 yield it
         elif it.what == PLUGGED:
@@ -194,34 +197,34 @@ class Cable:
     def answered(self, told: Told, answer: Answer, standing: Optional[Standing]) -> Iterator[FromCable]:
         """Asks the board what the program says, and does as it says with what the board has sent."""
         is_doubtful = told.what == HEARD and answer.handling != KEEP
-        if self.another:  # it was told this before
-            if is_doubtful and self.other:
+        if self.another.attending:  # it was told this before
+            if is_doubtful and self.another.number:
                 yield self._is_foreign([told.sent])
             elif is_doubtful:  # nobody knows yet which board this is
-                keep(self._unsure, told.sent)
+                keep(self.another.unsure, told.sent)
             return
         self._asks(answer, standing)
         if told.what == OPENED:
-            self._unsure.clear()
+            self.another.unsure.clear()
         elif is_doubtful:
-            keep(self._unsure, told.sent)
+            keep(self.another.unsure, told.sent)
         if answer.number and not self.number:
             yield self._is_own(answer.number)
         if answer.handling == OTHER and answer.other != self.number:  # else it was taken meanwhile
             yield from self._attend_another()
             yield from self._is_other(answer.other)
         elif answer.handling == KEEP:
-            self._unsure.clear()
-            if answer.kept and self._told_other:  # the game gets what the board on the cable sends
-                before, self._told_other = self._told_other, ""
-                self._foreign.clear()
+            self.another.unsure.clear()
+            if answer.kept and self.another.told:  # the game gets what the board on the cable sends
+                before, self.another.told = self.another.told, ""
+                self.another.foreign.clear()
                 yield OwnIsBack(before)
 
     def of_another(self, told: Told, answer: Answer, standing: Optional[Standing]) -> Iterator[FromCable]:
         """The same for another board, or perhaps the game's own again."""
         self._asks(answer, standing)
         if told.what == HEARD:
-            keep(self._unsure, told.sent)
+            keep(self.another.unsure, told.sent)
         elif told.what != WAKE:
             return  # its line isn't open yet
         if answer.handling == OTHER:
@@ -234,49 +237,48 @@ class Cable:
             self._connection.ask(answer.asked)
         if answer.stood:
             is_silent = answer.stood.kind == SILENT
-            if is_silent != self._silent and answer.stood.kind not in NO_BOARD:
+            if is_silent != self._line.is_silent and answer.stood.kind not in NO_BOARD:
                 self._silence(is_silent, standing)
 
     def plays_elsewhere(self) -> Iterator[FromCable]:
         """The game's board is on another cable: what is on this one isn't known."""
-        if self.another is None and not self._unplugged:
+        if self.another.attending is None and not self._line.is_unplugged:
             yield from self._attend_another()
 
     def _attend_another(self) -> Iterator[FromCable]:
         """The game's own board may come over another cable, so another child attends this one."""
         yield Happened(ANOTHER)
-        self.another = Attending(self._guard, self._program, (), None, self._hears_another)
-        self.another.tell(NUMBER, self.number.encode("ascii"))
-        self.another.tell(OPENED)
+        self.another.attending = Attending(self._means.guard, self._program, (), None, self._hears_another)
+        self.another.attending.tell(NUMBER, self.number.encode("ascii"))
+        self.another.attending.tell(OPENED)
 
     def _is_other(self, number: str) -> Iterator[FromCable]:
         """The board with this number is on the cable, and has sent what nobody knew the sender of."""
-        self.other = number
-        if number != self._told_other:
-            self._told_other = number
-            self._foreign.clear()
+        self.another.number = number
+        if number != self.another.told:
+            self.another.told = number
+            self.another.foreign.clear()
             yield OtherBoard(number)
             yield News.MISSING
-        unsure, self._unsure = self._unsure, []
+        unsure, self.another.unsure = self.another.unsure, []
         yield self._is_foreign(unsure)
 
     def _is_foreign(self, sent: List[bytes]) -> Foreign:
         """The other board has sent this. What no game takes is kept back."""
         for one in sent:
-            keep(self._foreign, one)
-        return Foreign(self.other, self._foreign)
+            keep(self.another.foreign, one)
+        return Foreign(self.another.number, self.another.foreign)
 
     def _leave_another(self) -> None:
         """The other board isn't attended any more."""
-        another, self.another = self.another, None
-        self.other = ""
-        if another:
-            another.close()
+        attending, self.another.attending, self.another.number = self.another.attending, None, ""
+        if attending:
+            attending.close()
 
     def _goes_on(self) -> Iterator[FromCable]:
         """The program that attends the game hears the cable again: its own board is there, or a third one."""
         self._leave_another()
-        unsure, self._unsure = self._unsure, []
+        unsure, self.another.unsure = self.another.unsure, []
         yield Happened(OPENED)
         if unsure:
             yield Happened(HEARD, b"".join(unsure))
@@ -288,60 +290,60 @@ class Cable:
 
     def take(self) -> Iterator[FromCable]:
         """From now on the board on the cable is the game's, with all that it has sent."""
-        if self.other:
-            yield self._is_own(self.other)
-            self._told_other = ""
+        if self.another.number:
+            yield self._is_own(self.another.number)
+            self.another.told = ""
             yield Happened(TOOK)
-            self._unsure = [*self._foreign, *self._unsure]
-            self._foreign = []
+            self.another.unsure = [*self.another.foreign, *self.another.unsure]
+            self.another.foreign = []
             yield from self._goes_on()
 
     # How it is.
 
     def _is_plugged(self, standing: Optional[Standing]) -> None:
         """The line is open."""
-        if self._unplugged:
-            self._screen.say(Message("cable.is_there", name=self.name))
+        if self._line.is_unplugged:
+            self._means.screen.say(Message("cable.is_there", name=self.name))
         elif self.name != self._device:
-            self._screen.say(Message("cable.waits_for", device=self._device, name=self.name))
-        self._unplugged, self._was_plugged = False, True
+            self._means.screen.say(Message("cable.waits_for", device=self._device, name=self.name))
+        self._line.is_unplugged, self._line.was_plugged = False, True
         if standing:
             standing.plugged()
 
     def _is_unplugged(self, standing: Optional[Standing]) -> Iterator[FromCable]:
         """The line has gone away, or wasn't there."""
-        self._unplugged, self._silent, self._unplugged_at = True, False, self._guard.now()
-        self._unsure.clear()
+        self._line.is_unplugged, self._line.is_silent, self._line.unplugged_at = True, False, self._means.guard.now()
+        self.another.unsure.clear()
         if not self._once and standing and self.name:  # a game that is over ends without it; one that isn't played needs none
-            self._screen.cable(isnt_there(self.name, self._connection.why, self._how_it_is_there()))
+            self._means.screen.cable(isnt_there(self.name, self._connection.why, self._how_it_is_there()))
         if standing:
-            standing.unplugged(self._unplugged_at, self._connection.is_server, self._how_it_is_there())
+            standing.unplugged(self._line.unplugged_at, self._connection.is_server, self._how_it_is_there())
         if self.number:
             yield News.MISSING
         if self._once:
-            yield Gone(self._gone_for_good(), self._was_plugged)
+            yield Gone(self._gone_for_good(), self._line.was_plugged)
 
     def _how_it_is_there(self) -> str:
         """What to do so that it is there again."""
-        screen, is_server = self._screen, bool(self._connection.why)
-        return of_line(is_server, "" if self._was_plugged else screen.other_address() if is_server else screen.other_device())
+        screen, is_server = self._means.screen, bool(self._connection.why)
+        return of_line(is_server, "" if self._line.was_plugged else screen.other_address() if is_server else screen.other_device())
 
     def _gone_for_good(self) -> str:
         """Why it isn't there, if it isn't waited for; and what to do if it never was."""
         why = printable(self._connection.why)
-        if self._was_plugged:
+        if self._line.was_plugged:
             return Message("cable.gone_why", device=self._device, why=why) if why else Message("cable.gone", device=self._device)
         looks = Message("cable.look_at_the_server") if why else Message("cable.plug_in", dgt_live=DGT_LIVE)
         return isnt_there(self._device, why, looks)
 
     def _silence(self, silent: bool, standing: Optional[Standing]) -> None:
         """The board sends no dumps, or sends them again."""
-        self._silent = silent
+        self._line.is_silent = silent
         self._connection.silence(silent)
         if silent:
-            self._screen.cable(Message("cable.no_answer", name=self.name, advice=AT_THE_CABLE))
+            self._means.screen.cable(Message("cable.no_answer", name=self.name, advice=AT_THE_CABLE))
         else:
-            self._screen.say(Message("cable.answers_again", name=self.name))
+            self._means.screen.say(Message("cable.answers_again", name=self.name))
         if standing:
             standing.silence(silent)
 

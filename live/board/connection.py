@@ -1,6 +1,5 @@
-"""The connection to one board: its line, which is opened again after it went away. It sends what it is given. And boards that are missing, which
-are looked for on devices that nobody uses, since a board that gives a serial number is known in any socket; and the numbers of all that are
-plugged in, for a list. A child attends each board for that: it says when the board is asked, and which number has come."""
+"""The connection to one board: its line, which is opened again after it went away. It sends what it is given. And the numbers of all boards that
+are plugged in: a child attends each board for that, and says when the board is asked, and which number has come."""
 
 from __future__ import annotations
 
@@ -9,14 +8,14 @@ import functools
 import math
 import os
 from dataclasses import dataclass, field
-from typing import Callable, Dict, FrozenSet, List, NamedTuple, Optional, Protocol, Sequence, Set, Tuple
+from typing import Callable, Dict, List, NamedTuple, Optional, Sequence, Set, Tuple
 
-from live.board.attending import Attending, Told
 from live.child.lines import NUMBER, OTHER, UNSEEN, Answer
 from live.child.program import Program
+from live.game.attending import Attending, Told
 from live.game.times import ANSWERED, ASKED, CALLED, GONE, HEARD, OPENED
-from live.line.line import BUSY_PATIENCE, Busy, Line, SerialLine, Trial, cable_name, devices, line_of, may_not_open
-from live.run.loop import Callback, Guard, Loop, Timer, Turns, Worker, traced
+from live.line.line import BUSY_PATIENCE, Busy, Line, SerialLine, Trial, cable_name, line_of, may_not_open
+from live.run.loop import Callback, Guard, Loop, Timer
 from live.words.message import Message, linked
 
 LOOK_AGAIN = 0.5  # seconds between two tries to open a device that isn't there
@@ -38,6 +37,28 @@ class Happened(NamedTuple):
 Hears = Callable[[Happened], None]
 
 
+@dataclass
+class LineIs:
+    """Whether the line is open; whether a board on it is plugged in; whether that it is gone was reported; whether it is closed for good."""
+
+    open: bool = False
+    plugged: bool = False
+    gone: bool = False
+    closed: bool = False
+
+
+@dataclass
+class Server:
+    """What is known of a serial server: the trial of the connection, and a child that says whether a board is there, as long as there may be none;
+    why the line has ended, while what has come before is tried; whether its board is silent, and when it is called again then."""
+
+    trial: Optional[Trial] = None
+    first: Optional[Attending] = None
+    ended: Optional[str] = None
+    is_silent: bool = False
+    calls_again: Optional[Timer] = None
+
+
 class Connection:
     """A device that may be unplugged and come back, found by the name of its cable; or a serial server that does so.
 
@@ -49,16 +70,9 @@ class Connection:
         self._guard, self._program, self.hears = guard, program, hears
         self._given = device
         self._line: Line = line_of(device)
-        self._silent = False
         self._timer: Optional[Timer] = None
-        self._calls_again: Optional[Timer] = None
-        self._gone = False
-        self._is_plugged = self._is_open = False
-        self._trial: Optional[Trial] = None  # of a connection to a serial server
-        self._first: Optional[Attending] = None  # a child that says whether a board is there, as long as the server may have none
-        self._ended: Optional[str] = None  # why the line has ended, while what has come before is tried
+        self._is, self._server = LineIs(), Server()
         self._busy_since = math.inf
-        self._closed = False
         self.why = ""  # why a serial server isn't there
         guard.opened(lambda: self._line.close())
 
@@ -107,35 +121,35 @@ class Connection:
         self._busy_since = min(self._busy_since, now)
         if now - self._busy_since >= BUSY_PATIENCE:
             self.hears(Happened(BUSY))
-        elif not self._closed:
+        elif not self._is.closed:
             self._timer = self._guard.after(LOOK_AGAIN, self.begin)
 
     def _opened(self) -> None:
         assert self._line.number is not None
-        now, self._is_open = self._guard.now(), True
+        now, self._is.open = self._guard.now(), True
         self.hears(Happened(OPENED))
         self._guard.watch(self._line.number, self._readable)
         if isinstance(self._line, SerialLine):
             self._plugged()
         else:
             # It isn't told that the line is open: when the board is asked, the game's child says.
-            self._trial, self._first = Trial(now), Attending(self._guard, self._program, (), None, self._tried_by, self._untried)
+            self._server.trial, self._server.first = Trial(now), Attending(self._guard, self._program, (), None, self._tried_by, self._untried)
             self._call_again_later()
 
     def _plugged(self) -> None:
-        if not self._is_plugged:
-            self._is_plugged, self._gone = True, False
+        if not self._is.plugged:
+            self._is.plugged, self._is.gone = True, False
             self.hears(Happened(PLUGGED))
 
     def _readable(self) -> None:
         sent, now = self._line.read(), self._guard.now()
         if sent is None:
             self._ends(self._line.why)
-        elif sent and self._trial and self._trial.is_flood(now, len(sent)):
+        elif sent and self._server.trial and self._server.trial.is_flood(now, len(sent)):
             self._lost(FLOOD)
-        elif sent and self._trial and self._first:
-            self._trial.came(sent)
-            self._first.tell(HEARD, sent)
+        elif sent and self._server.trial and self._server.first:
+            self._server.trial.came(sent)
+            self._server.first.tell(HEARD, sent)
         elif sent:
             self.hears(Happened(HEARD, sent))
 
@@ -143,15 +157,15 @@ class Connection:
         """The program has heard more of what a serial server has sent: if a dump has ended in that, a board is behind it."""
         if told.what != HEARD:
             return
-        assert self._trial
-        passed = self._trial.passes(len(told.sent), answer.stood is not None and answer.stood.kind not in UNSEEN)
+        assert self._server.trial
+        passed = self._server.trial.passes(len(told.sent), answer.stood is not None and answer.stood.kind not in UNSEEN)
         if passed:
             self._try_no_more()
             self.hears(Happened(ANSWERED))
             self._plugged()
             self.hears(Happened(HEARD, passed))
-        if self._ended is not None and (passed or self._trial.is_tried):
-            self._lost(self._ended)
+        if self._server.ended is not None and (passed or self._server.trial.is_tried):
+            self._lost(self._server.ended)
 
     def _untried(self, why: str, is_broken: bool) -> None:
         """The program doesn't say whether a board is behind a serial server."""
@@ -159,70 +173,70 @@ class Connection:
             self._lost(why)
 
     def _try_no_more(self) -> None:
-        first, self._first = self._first, None
+        first, self._server.first = self._server.first, None
         if first:
             first.close()
 
     def _ends(self, why: str) -> None:
         """The line has ended. A board may have sent something before."""
         assert self._line.number is not None
-        if self._trial and self._first and not self._trial.is_tried:
-            self._ended = why
+        if self._server.trial and self._server.first and not self._server.trial.is_tried:
+            self._server.ended = why
             self._guard.forget(self._line.number)
         else:
             self._lost(why)
 
     def _lost(self, why: str) -> None:
-        said = self._trial.said if self._trial and not self._trial.has_answered else ""
+        said = self._server.trial.said if self._server.trial and not self._server.trial.has_answered else ""
         self._is_gone(Message("device.said", why=why, said=said) if said else why)
 
     def _is_gone(self, why: str = "") -> None:
         """It isn't there. That is reported once; it is tried again and again."""
         self.why = why or self._line.why
-        was_open, was_gone, self._gone = self._is_open, self._gone, True
+        was_open, was_gone, self._is.gone = self._is.open, self._is.gone, True
         self._hang_up()
         if not was_gone:
             if not was_open:
                 self.hears(Happened(GONE))
             self.hears(Happened(UNPLUGGED))
-        if not self._closed:
+        if not self._is.closed:
             self._timer = self._guard.after(LOOK_AGAIN if isinstance(self._line, SerialLine) else CONNECT_AGAIN, self.begin)
 
     def _call_again_later(self) -> None:
         """The next call of a serial server whose board is silent."""
-        if self._calls_again:
-            self._calls_again.cancel()
-            self._calls_again = None
-        if self._silent and not isinstance(self._line, SerialLine):
-            self._calls_again = self._guard.after(CALL_AGAIN, self._call_again)
+        if self._server.calls_again:
+            self._server.calls_again.cancel()
+            self._server.calls_again = None
+        if self._server.is_silent and not isinstance(self._line, SerialLine):
+            self._server.calls_again = self._guard.after(CALL_AGAIN, self._call_again)
 
     def _call_again(self) -> None:
         """Hangs up and calls again. The board stays silent until it answers, so nothing is reported."""
         self._disconnect()
         if not isinstance(self._line, SerialLine):
             self._line.hang_up()
-        self._is_open = False
+        self._is.open = False
         self.hears(Happened(CALLED))
         self._timer = self._guard.after(CONNECT_AGAIN, self.begin)
 
     def _disconnect(self) -> None:
         """The line is watched no more, and nothing is asked."""
-        for timer in (self._timer, self._calls_again):
+        for timer in (self._timer, self._server.calls_again):
             if timer:
                 timer.cancel()
-        self._timer = self._calls_again = None
+        self._timer = self._server.calls_again = None
         if self._line.number is not None:
             self._guard.forget(self._line.number)
         self._try_no_more()
-        self._trial = self._ended = None
+        self._server.trial = self._server.ended = None
 
     def _hang_up(self) -> None:
         self._disconnect()
         self._line.close()
-        if self._is_open:
-            self._is_open = False
+        if self._is.open:
+            self._is.open = False
             self.hears(Happened(GONE))
-        self._silent = self._is_plugged = False
+        self._server.is_silent = self._is.plugged = False
 
     def ask(self, request: bytes) -> None:
         """Sends the board this, if its line is open."""
@@ -232,14 +246,14 @@ class Connection:
 
     def silence(self, silent: bool) -> None:
         """The board is silent, though it was asked, or answers again."""
-        self._silent = silent
+        self._server.is_silent = silent
         self._plugged()
         self._call_again_later()
 
     def last_words(self) -> None:
         """Takes what has come, once more, and closes the line for good."""
-        self._closed = True
-        if self._line.number is not None and self._is_plugged and not self._first:
+        self._is.closed = True
+        if self._line.number is not None and self._is.plugged and not self._server.first:
             sent = self._line.read()
             if sent:
                 self.hears(Happened(HEARD, sent))
@@ -378,87 +392,3 @@ def _state(device: str, asked: Asked) -> str:
 def told_of_shut(asked: Asked, user: str) -> List[str]:
     """What to do about the devices that this user may not open."""
     return [may_not_open(", ".join(sorted(asked.shut)), user)] if asked.shut else []
-
-
-LOOKS_EACH = 5.0  # seconds
-ASKS_AGAIN = 30.0  # seconds after which devices are asked again that gave no missing number
-Found = Tuple[FrozenSet[str], Dict[str, str]]  # the devices that nobody uses; those that gave a number, by that
-
-
-class Seeks(Protocol):
-    """A game whose board may be missing."""
-
-    @property
-    def lacks(self) -> str:
-        """The serial number of its board, if that isn't on its cable; else empty."""
-
-    @property
-    def holds(self) -> str:
-        """The device that it has open, if any."""
-
-    def found_on(self, device: str) -> None:
-        """Its board is on this device."""
-
-
-def on_free_devices(program: Program, used: Set[str], asked: FrozenSet[str]) -> Found:
-    """Asks the boards on the devices that aren't used, unless those are the ones that were asked before. It waits for up to two
-    seconds."""
-    free = {device: name or device for device, name in devices() if device not in used}
-    if not free or asked == frozenset(free):
-        return frozenset(free), {}
-    return frozenset(free), {number: free[device] for device, number in ask(program, list(free)).numbers.items()}
-
-
-class Finder:
-    """Looks for missing boards now and then, beside the loop. `trouble` gets errors that should never happen."""
-
-    def __init__(self, loop: Turns, program: Program, seekers: Callable[[], Sequence[Seeks]], trouble: Callable[[str], None]) -> None:
-        self._loop, self._program, self._seekers, self._trouble = loop, program, seekers, trouble
-        self._worker: Optional[Worker] = None  # while it looks
-        self._missing: Set[str] = set()
-        self._asked: FrozenSet[str] = frozenset()  # the devices that have given none of these numbers
-        self._asked_at = 0.0
-        self._timer = loop.after(LOOKS_EACH, self._each)
-
-    def _each(self) -> None:
-        self._timer = self._loop.after(LOOKS_EACH, self._each)
-        try:
-            self._look()
-        except Exception as error:
-            self._trouble(traced(error))
-
-    def _look(self) -> None:
-        seekers = self._seekers()
-        missing = {seeker.lacks for seeker in seekers if seeker.lacks}
-        if not missing or self._worker:
-            return
-        if missing != self._missing or self._loop.now() - self._asked_at > ASKS_AGAIN:
-            self._missing, self._asked, self._asked_at = missing, frozenset(), self._loop.now()
-        used = {os.path.realpath(seeker.holds) for seeker in seekers if seeker.holds}
-        asked = self._asked
-        self._worker = worker = Worker(self._loop)
-        worker.do(lambda: self._job(used, asked), self._found)
-
-    def _job(self, used: Set[str], asked: FrozenSet[str]) -> "Found | Exception":
-        try:
-            return on_free_devices(self._program, used, asked)
-        except Exception as error:
-            return error
-
-    def _found(self, found: "Found | Exception") -> None:
-        if self._worker:
-            self._worker.close()
-            self._worker = None
-        if isinstance(found, Exception):
-            self._trouble(traced(found))
-            return
-        self._asked, places = found
-        for seeker in self._seekers():
-            if seeker.lacks in places:
-                seeker.found_on(places[seeker.lacks])
-
-    def close(self) -> None:
-        """Looks no more."""
-        self._timer.cancel()
-        if self._worker:
-            self._worker.close()

@@ -7,24 +7,20 @@ import contextlib
 import dataclasses
 from typing import Callable, Optional, Sequence
 
-from live.board.advice import WHERE
-from live.board.attended import Attended, LooksFrom, News, StartShown, unwritten_of
-from live.board.attending import Attending, Ended, Hears, Past, Told
-from live.board.playing import End, Playing
-from live.board.state import Standing, mend_of, trouble_of
-from live.child.lines import Answer, Differs, Event, Picture, line_of
-from live.game.files import LARGEST, NO_ROOM, Capture, Paths, put_in_place, remove
-from live.game.game import Game, put_options
-from live.game.log import Screen
+from live.board.plan import LooksFrom, Means, News, StartShown
+from live.board.playing import Attended, End, Playing, unwritten_of
+from live.board.state import WHERE, Standing, mend_of, trouble_of
+from live.child.lines import Answer, Differs, Event, Picture
+from live.game.attending import Attending, Ended, Hears, Past, Reader, Told
+from live.game.files import LARGEST, NO_ROOM, Paths, put_in_place, remove
+from live.game.game import Course, Game, put_options
+from live.game.kept import Capture
 from live.game.looks import Alarms, FromTheStart, Look, Looks, carry_over, is_read_anew, is_set_up, keep_looks, kept_looks, next_begins, went_on
 from live.game.making_pgn import Made, Text
-from live.game.options import Options
-from live.game.reading import Course, Reader
-from live.game.tags import today
+from live.game.options import Options, today
 from live.game.times import BEGIN, HEARD
 from live.game.typed import NO_RESULT, dump_at_end, reached
 from live.line.protocol import DUMP_BEGINS
-from live.run.loop import Guard
 from live.run.refused import reason_of
 from live.words.message import Message, linked
 
@@ -44,9 +40,9 @@ class Watched:
 
     standing = None
 
-    def __init__(self, guard: Guard, screen: Screen, game: Game, course: Course, alarms: Optional[Alarms], end: Optional[int]) -> None:
+    def __init__(self, means: Means, game: Game, course: Course, alarms: Optional[Alarms], end: Optional[int]) -> None:
         self._result, self._plies = course.result, len(course.plies)
-        self.attended = Attended(guard, screen, game, None, alarms)
+        self.attended = Attended(means, game, None, alarms)
         self._last = reached(course.plies)
         is_at_start = course.result == NO_RESULT or not course.plies
         self._from_the_start = FromTheStart(self._last, course.result) if is_at_start else None
@@ -104,18 +100,18 @@ class Watched:
             attended.game.times.wake()
         for told, answer in attended.counts_late():
             self._says(told, answer)
-        if self.attended.screen.shows_time:
+        if self.attended.means.screen.shows_time:
             self._shows()
 
     def _shows(self) -> None:
         """That the game is over, and what somebody must look at."""
         looks = self.attended.alarms.looks
         over = Message("state.over_no_result") if self._result == NO_RESULT else Message("state.over_with", result=self._result)
-        self.attended.screen.over(linked("semicolon", (looks.short, over)) if looks.open else over)
+        self.attended.means.screen.over(linked("semicolon", (looks.short, over)) if looks.open else over)
 
     def _says(self, told: Told, answer: Answer) -> None:
-        for line in filter(None, map(line_of, answer.report)):
-            event, offset = line.event, self._reads_from + line.offset
+        for byte, event in ((byte, event) for byte, events, _ in answer.events for event in events):
+            offset = self._reads_from + byte
             if offset < self._end:
                 continue
             if self._from_the_start:
@@ -168,7 +164,7 @@ class Watched:
         def ended() -> None:
             game, looks = self.attended.game, self.attended.alarms.looks
             if looks.open:
-                self.attended.screen.say(Message("look.in_text", pgn=game.paths.pgn, looks=looks.all))
+                self.attended.means.screen.say(Message("look.in_text", pgn=game.paths.pgn, looks=looks.all))
             done(unwritten_of(game, Made()))
 
         self.attended.settle(ended)
@@ -184,10 +180,10 @@ class SettingUp:
     The next game's capture begins with a dump of the start, as the program makes it of what was shown, followed by all that came
     after the byte that completed the start. So a first move that is made at once is in it."""
 
-    def __init__(self, guard: Guard, screen: Screen, game: Game, course: Course, alarms: Optional[Alarms], end: int) -> None:
+    def __init__(self, means: Means, game: Game, course: Course, alarms: Optional[Alarms], end: int) -> None:
         self._course, self._end = course, end
-        self.standing = Standing(guard, screen, game.options.rotated, played=False)
-        self.attended = Attended(guard, screen, game, self.standing, alarms)
+        self.standing = Standing(means.guard, means.screen, game.options.rotated, played=False)
+        self.attended = Attended(means, game, self.standing, alarms)
         self._from = end  # the byte with which reading begins
         self._after: Optional[Afterwards] = None
         self._is_paused = self._is_unbegun = False  # whether the start was shown, and the next game couldn't begin
@@ -223,7 +219,7 @@ class SettingUp:
         game = self.attended.game
         if self._course.result != NO_RESULT:
             past = Past(game.capture, 0, game.times, reader)
-            attending = Attending(self.attended.guard, game.program, game.options.of_live(), past, lambda told, answer: None)
+            attending = Attending(self.attended.means.guard, game.program, game.options.of_live(), past, lambda told, answer: None)
             self._after = Afterwards(attending, self._course, 0, self.look_at)
 
     def came(self, sent: bytes) -> None:
@@ -248,11 +244,11 @@ class SettingUp:
 
     def _says(self, told: Told, answer: Answer) -> None:
         pictures = []
-        for line in filter(None, map(line_of, answer.report)):
-            if isinstance(line.event, Differs):
-                self.standing.board.differs = line.event.squares
-            elif isinstance(line.event, Picture):
-                pictures.append((self._from + line.offset, line.event.placement))
+        for byte, event in ((byte, event) for byte, events, _ in answer.events for event in events):
+            if isinstance(event, Differs):
+                self.standing.board.differs = event.squares
+            elif isinstance(event, Picture):
+                pictures.append((self._from + byte, event.placement))
         begins = next_begins(pictures, self._end, self.attended.game.options.start)
         if begins is not None:
             self.attended.goes_up(StartShown(begins))

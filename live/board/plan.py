@@ -1,18 +1,20 @@
-"""What to record on a board: a device, and a game or a series of games; why a game is over, and what becomes of its board then."""
+"""What to record on a board: a device, and a game or a series of games; why a game is over, and what becomes of its board then; and what
+goes up from a session to its board, and from that to whoever has it, as values which are taken in the same turn, in order."""
 
 from __future__ import annotations
 
 import enum
 import os
 from dataclasses import dataclass
-from typing import Callable, List, Optional
+from typing import Callable, List, NamedTuple, Optional, Sequence, Union
 
-from live.board.advice import Owner
+from live.board.state import Owner, Return
 from live.game.files import Paths
+from live.game.game import Course
 from live.game.log import Screen
 from live.game.opening import Opening
-from live.game.reading import Course
-from live.run.refused import DGT_LIVE
+from live.run.loop import Guard, Worker
+from live.run.refused import DGT_LIVE, Answer as Reply, Refused
 from live.words.message import Message
 
 
@@ -127,11 +129,42 @@ class Plan:
 
 
 @dataclass(frozen=True)
+class Means:
+    """With what a board is recorded: its guard, who works beside the loop, and its screen."""
+
+    guard: Guard
+    worker: Worker
+    screen: Screen
+
+
+@dataclass(frozen=True)
 class Wanted:
     """What is to be recorded, and how its game is opened."""
 
     plan: Plan
     opening: Callable[[], Opening]
+
+
+@dataclass
+class Next:
+    """The game before this one, and how the next one begins: whether the start begins this one anew, and why none can be begun, as it was
+    said."""
+
+    before: Optional[Paths]
+    is_anew: bool = False
+    why_not: str = ""
+
+
+@dataclass
+class Ends:
+    """How it ends: why its game is over, and whether that is just being closed; whether it ends itself, or is to end once nothing is held any
+    more, and the reason if that was an error."""
+
+    reason: Optional[Reason] = None
+    is_closing: bool = False
+    is_ending: bool = False
+    is_put_off: bool = False
+    refused: Optional[Refused] = None
 
 
 @dataclass(frozen=True)
@@ -141,3 +174,102 @@ class Others:
 
     owner: Callable[[str], Optional[Owner]]
     takes: Callable[[str, bytes], bool]
+
+
+@dataclass
+class Among:
+    """What it is among the boards of a round: how it is called; which have its serial number, told before it was recorded; when it was away
+    last, and heard again."""
+
+    called: str = ""
+    alike: Sequence[int] = ()
+    back: Optional[Return] = None
+
+
+# What goes up.
+
+
+class News(enum.Enum):
+    """What goes up without more."""
+
+    RESTORED = enum.auto()  # the capture was removed, and is written again
+    SET_UP = enum.auto()  # the pieces were set up again after a game
+    PLACED = enum.auto()  # a new text of the game is in place, or its alarms have changed
+    OVER = enum.auto()  # the game is over, and its board is watched for more moves
+    REOPENED = enum.auto()  # a game that was over goes on
+    MISSING = enum.auto()  # its board, whose serial number is known, isn't on its cable any more
+
+
+class Ended(NamedTuple):
+    """The game has ended."""
+
+    reason: Reason
+
+
+class BeginsBehind(NamedTuple):
+    """The game begins only now: so many bytes of the capture belong to the set-up."""
+
+    size: int
+
+
+class StartShown(NamedTuple):
+    """The pieces are at the start with this byte of the capture: the next game begins."""
+
+    offset: int
+
+
+class LooksFrom(NamedTuple):
+    """Another child looks for the start, from this byte of the capture on."""
+
+    offset: int
+
+
+class CameBack(NamedTuple):
+    """The board, which was unplugged or silent and had been heard last then, if it was, is heard again. The recorder may have slept too."""
+
+    heard_at: Optional[float]
+    has_slept: bool
+
+
+class Numbered(NamedTuple):
+    """The serial number of its board has just become known. It is kept once that is taken: so it is news only once, and a kill costs no
+    alarm."""
+
+    number: str
+
+
+class Asked(NamedTuple):
+    """Another call asks for this, and gets the answer."""
+
+    text: str
+    answered: Callable[[Reply], None]
+
+
+class Stopped(NamedTuple):
+    """The recording has ended; with the reason if that was an error."""
+
+    refused: Optional[Refused]
+
+
+Up = Union[News, Ended, BeginsBehind, StartShown, LooksFrom, CameBack, Numbered, Asked, Stopped]
+
+
+class Change(enum.Enum):
+    """What has happened at a board, for whoever has it."""
+
+    SHOWN = enum.auto()  # what it shows has changed
+    REMADE = enum.auto()  # the text of its game has changed
+    CAME_BACK = enum.auto()  # it was away, and is there again
+    NUMBERED = enum.auto()  # its serial number has just become known
+    MISSING = enum.auto()  # it isn't on its cable any more, and its serial number is known
+
+
+@dataclass
+class NotRecorded:
+    """Its recording has ended, or couldn't begin, for this reason; None if its game is over. Whoever has it says whether it is tried again."""
+
+    why: Optional[Exception]
+    is_tried_again: bool = True
+
+
+BoardUp = Union[Change, NotRecorded]

@@ -1,31 +1,277 @@
-"""The stage in which a game is played, from its first byte to its text: what is reported is printed first, then it counts, and NAME.pgn is made
-anew if the game has changed."""
+"""A game whose board the program attends, and the stage in which it is played, from its first byte to its text: what the program keeps goes into
+the capture first; what is reported is printed then, and counts; and NAME.pgn is made anew if the game has changed. What can't be written ends
+nothing: it is tried again, and each error is reported once."""
 
 from __future__ import annotations
 
 import os
 from dataclasses import dataclass, field
-from typing import Callable, List, Optional, Sequence
+from typing import Callable, Iterator, List, Optional, Sequence, Tuple
 
-from live.board.advice import Moves, told_of_exchange
-from live.board.attended import PATIENCE, Attended, BeginsBehind, CameBack, Ended, News, unwritten_of
-from live.board.attending import Ended as ChildEnded, Hears, Told
-from live.board.plan import SAID, Reason, Rules
-from live.board.state import Standing, lasting, mend_of, trouble_of
-from live.child.lines import NEWS, STOOD, SUSPECT, Answer, Differs, Doubt, Event, Fault, Line, Move, Over, Picture, Recovered, Result, by_byte, event_of
+from live.board.plan import SAID, BeginsBehind, CameBack, Ended, Means, News, Reason, Rules, Up
+from live.board.state import DISK_FULL, IN_MEMORY, Moves, Standing, lasting, mend_of, told_of, told_of_exchange, trouble_of
+from live.child.lines import STOOD, SUSPECT, Answer, Differs, Doubt, Event, Fault, Line, Move, Over, Picture, Reported, Result
 from live.game import times
-from live.game.files import text_of
+from live.game.attending import Attending, Ended as ChildEnded, Hears, Past, Reader, Told
+from live.game.files import folder_of, text_of, unwritten
 from live.game.game import Game, forget_question, front_of, largest, mark_end, mebibytes
+from live.game.kept import Capture
 from live.game.log import Screen
-from live.game.looks import Look, byte_of, corrected, look_of, name_of, unheard
+from live.game.looks import Alarms, Look, acknowledged, byte_of, corrected, look_of, name_of, unheard
 from live.game.making_pgn import Made, Maker, told_of_edit
 from live.game.opening import Opened
-from live.game.times import ADDED, BACK, BEGIN, HEARD, OVER, REOPENED
-from live.run.loop import Guard, Resume, Steps, Worker
+from live.game.times import ADDED, BACK, BEGIN, HEARD, LOOKED, OVER, REOPENED
+from live.run.loop import Callback, Resume, Steps, Timer
 from live.words.message import Message, linked
 
+PATIENCE = 5.0  # seconds that the last answers may take
 LARGE = 48 * 1024 * 1024  # bytes of a capture, at which somebody may still look at its board
 STANDS = 10  # seconds that a result stands before the program says that it ends a game
+
+
+class Disk:
+    """Appends to a capture, tries failed writes again, and reports each error once. Where no state is shown nothing is reported."""
+
+    def __init__(self, screen: Screen, standing: Optional[Standing], capture: Capture) -> None:
+        self._screen, self._standing, self._capture = screen, standing, capture
+        self.text = ""  # what keeps the text from being written, in the words of a state
+        self._not_restored = ""
+        self._told = ""  # why the capture can't be written, as it was reported
+
+    def append(self, sent: bytes) -> int:
+        """Appends what the board has sent or somebody has added. Returns how many bytes of it are kept."""
+        lost = self._capture.lost
+        kept = self._capture.append(sent)
+        if self._standing is None:
+            return kept
+        if self._capture.trouble or self._told:
+            self.look()
+        if self._capture.lost and not lost and not self._capture.at_limit:
+            self._screen.say(Message("disk.lost", path=self._capture.path))
+        return kept
+
+    def try_again(self) -> bool:
+        """Tries again what has failed. Call this each second. Returns whether the capture was removed, and is written again."""
+        is_restored = self._standing is not None and self.restore()
+        if self._capture.waits:
+            self._capture.write()
+        self.look()
+        return is_restored
+
+    def look(self) -> None:
+        """Reports changes, also those of the text."""
+        if self._standing is None:
+            return
+        before, why, full = self._standing.trouble, self._capture.trouble, self._capture.full
+        trouble = trouble_of(full) if self._capture.waits else self.text
+        if trouble == before and why == self._told:
+            return
+        self._told = why
+        if self._capture.waits:
+            told = Message("disk.unwritten", trouble=trouble, path=self._capture.path, why=why, mend=mend_of(full))
+            self._screen.say(told, IN_MEMORY)
+        elif not trouble:
+            self._capture.lost = 0
+            self._screen.say(Message("disk.room_again") if before == DISK_FULL else Message("disk.all_written"))
+        self._standing.disk(trouble)
+
+    def restore(self) -> bool:
+        """If the capture was removed, writes it again as a whole: the open file still has its bytes. Returns whether it was."""
+        path = self._capture.path
+        if os.path.lexists(path) or not os.path.isdir(folder_of(path)):
+            return False
+        try:
+            self._capture.renew(self._capture.bytes())
+        except OSError as error:
+            if text_of(error) != self._not_restored:
+                self._screen.say(Message("disk.not_restored", path=path, why=text_of(error)))
+            self._not_restored = text_of(error)
+            return False
+        self._not_restored = ""
+        self._screen.say(Message("disk.restored", path=path))
+        return True
+
+
+def unwritten_of(game: Game, made: Made) -> str:
+    """That the capture or the text of a game can't be written, and why; empty if both are."""
+    if game.capture.waits:
+        return unwritten(game.capture.path, game.capture.trouble, game.capture.full)
+    return made.told(game.paths.pgn) if made.trouble else ""
+
+
+class Attended:
+    """The game, its alarms, and the child that attends its board: at each stage of the game another one, or the same."""
+
+    attending: Attending
+
+    def __init__(
+        self, means: Means, game: Game, standing: Optional[Standing] = None, alarms: Optional[Alarms] = None
+    ) -> None:
+        self.means, self.game = means, game
+        self.standing = standing  # None if the board may stand as it likes
+        self.disk = Disk(means.screen, standing, game.capture)
+        self.alarms = alarms or Alarms(game.paths)
+        self.moves: Callable[[], Moves] = Moves  # the plies of the game, as far as advice needs them
+        self._late: List[Tuple[Told, Answer]] = []  # what is said of bytes that wait to be written
+        self._is_news = False  # whether the state may be another one than the one that is shown
+        self._settling: Optional[Timer] = None  # how long it still has to be settled, if it ends
+        self.is_handed_over = self.is_closed = self._is_ending = False
+
+    def attend(
+        self, hears: Hears, ended: ChildEnded, words: Tuple[str, ...], start: int = 0,
+        with_times: bool = False, known: int = 0, reader: Optional[Reader] = None
+    ) -> None:  # fmt: skip
+        """The program reads what is kept, from an offset on, unless a child has read it. The first `known` lines of its report are left
+        out."""
+        self._late.clear()
+        self.game.capture.lacks = False
+        past = Past(self.game.capture, start, self.game.times if with_times else None, reader)
+        self.attending = Attending(self.means.guard, self.game.program, words, past, hears, ended, known)
+
+    def take_over(self, before: Attended) -> None:
+        """The child that attends this game goes on for another stage of it."""
+        self.attending, self._late = before.hand_over(), before._late
+
+    def hand_over(self) -> Attending:
+        """The child goes on for another stage."""
+        self.is_handed_over = True
+        return self.attending
+
+    # What is kept.
+
+    def append(self, sent: bytes, what: str = HEARD) -> None:
+        """The capture gets this. Its line in the game's times is written here, unless the program is told of it: then it comes with that."""
+        kept = self.disk.append(sent)
+        if kept and (what == HEARD or not self.attending.notes):
+            self.game.times.happened(what, kept)
+
+    # What counts.
+
+    def counts(self, told: Told, answer: Answer) -> bool:
+        """Whether something is said of the game in this answer, and counts now. Its bytes may wait to be written: then it counts later."""
+        if not (answer.report or answer.doubts or answer.over or answer.played or answer.begins):
+            return False
+        self._is_news = True
+        if self.game.capture.pending or self._late:
+            self._late.append((told, answer))
+            return False
+        return True
+
+    def counts_late(self) -> Iterator[Tuple[Told, Answer]]:
+        """Call this now and then: what has waited, and counts now."""
+        if self.alarms.trouble:
+            self._keep_looks()
+        self.attending.wake()
+        if self.game.capture.waits:
+            return
+        if self.game.capture.lacks:
+            self.game.capture.lacks = False
+            self.attending.unreported(sum(len(answer.report) for _, answer in self._late))
+            self._late.clear()
+            self.attending.restart()
+        late, self._late = self._late, []
+        for told, answer in late:
+            if not self.is_closed:
+                yield told, answer
+        if late and self.standing:
+            self.standing.show()
+
+    def goes_up(self, up: Up) -> None:
+        """This goes up, to whoever has the session."""
+        self.means.guard.ups.append(up)
+
+    @property
+    def is_late(self) -> bool:
+        """Whether something waits to count."""
+        return bool(self._late)
+
+    def stands_as(self, told: Told, answer: Answer) -> None:
+        """What is said of its clock, and of how the board stands. As a call begins, nothing is said of a clock that isn't stopped."""
+        if self.standing is None or self._is_ending:
+            return
+        if told.what == BEGIN or answer.clock_stopped is not None:
+            self._is_news = self.standing.clock(bool(answer.clock_stopped)) or self._is_news
+        if answer.stood:
+            self._is_news = True
+            self.standing.stands(told.at, answer.stood)
+
+    def shows(self) -> None:
+        """All is said of what was told last: the state is shown if it may be news."""
+        if self._is_news and self.standing and self.attending.is_settled:
+            self._is_news = False
+            self.standing.show()
+
+    # What somebody must look at.
+
+    def look_at(self, look: Look, byte: int = 0) -> bool:
+        """Somebody must look at this, which is about a ply that came with this byte, if about any. It is said if it is new, and what to
+        do. One that is open, and only counts more moves now, is noted in the log. Returns whether it is new."""
+        counts_on = any(look.counts_on(one) for one in self.alarms.looks.open)
+        if not self.alarms.add(look, byte):
+            return False
+        if counts_on:
+            self.means.screen.note(look.text)
+        else:
+            self.means.screen.say(*told_of(look, self.means.screen.typed, self.moves()))
+        self.look_again()
+        return True
+
+    def look_again(self) -> None:
+        """The alarms have changed."""
+        if self.standing:
+            self.standing.look(self.alarms.looks.short)
+        if self.alarms.trouble:
+            self.means.screen.say(Message("file.unwritten_again", path=self.game.paths.look, why=text_of(self.alarms.trouble)))
+
+    def acknowledge(self) -> str:
+        """Acknowledges the alarms. Returns the answer. A child that attends the game later hears of it too."""
+        seen = acknowledged(self.alarms.acknowledge())
+        self.means.screen.say(seen)
+        if self.attending.notes:
+            self.attending.tell(LOOKED)
+        else:
+            self.game.times.happened(LOOKED)
+        self.look_again()
+        return seen
+
+    def _keep_looks(self) -> None:
+        """Tries again to keep the alarms beside the game."""
+        self.alarms.keep()
+        if not self.alarms.trouble:
+            self.means.screen.say(Message("file.is_written", path=self.game.paths.look))
+
+    # How it ends.
+
+    def settle(self, done: Callback) -> None:
+        """Calls this once all is answered, or after a while: then what has no answer is kept too, if what came before was."""
+
+        def late() -> None:
+            self._settling = None
+            keeps, left = self.attending.board.keeps, self.attending.take()
+            if left and keeps:
+                self.append(left)
+            done()
+
+        def ended() -> None:
+            if self._settling:
+                self._settling.cancel()
+                self._settling = None
+                done()
+
+        self._is_ending = True  # that the line is closed now is no state of the board
+        self._settling = self.means.guard.after(PATIENCE, late)
+        self.attending.then(ended)
+
+    def close(self) -> bytes:
+        """Ends everything under way. The capture stays open. Returns what the board has sent, and the program hasn't taken, unless the child
+        goes on."""
+        self.is_closed = True
+        if self._settling:
+            self._settling.cancel()
+            self._settling = None
+        if self.standing:
+            self.standing.close()
+        return b"" if self.is_handed_over else self.attending.take()
 
 
 @dataclass
@@ -73,23 +319,22 @@ class Playing:
     """A game on a board. What came before this call was reported then."""
 
     def __init__(
-        self, guard: Guard, worker: Worker, screen: Screen, opened: Opened, rules: Rules, before: Optional[Attended] = None
+        self, means: Means, opened: Opened, rules: Rules, before: Optional[Attended] = None
     ) -> None:
         self._rules, game, self.course = rules, opened.game, opened.old.course
-        has_shown = before is not None and before.attending.has_shown
-        stood = before.standing if before and has_shown and before.is_played else None
-        self.standing = Standing(guard, screen, game.options.rotated, has_shown=has_shown, before=stood)
+        has_shown = before is not None and before.attending.board.has_shown
+        stood = before.standing if before and has_shown and before.standing and before.standing.is_played else None
+        self.standing = Standing(means.guard, means.screen, game.options.rotated, has_shown=has_shown, before=stood)
         self.standing.was_away = bool(opened.old.lines)  # what it showed before this call is long ago
-        self.attended = Attended(guard, screen, game, self.standing)
-        self.attended.is_played = True
+        self.attended = Attended(means, game, self.standing)
         self.attended.moves = lambda: Moves([ply.short for ply in self.course.plies])
         self.standing.board.look = self.attended.alarms.looks.short
         self._old = opened.old.size  # bytes from before this call
-        self.end, self._by_hand, self._heard = End(), ByHand(), LastHeard(guard.away.seconds)
+        self.end, self._by_hand, self._heard = End(), ByHand(), LastHeard(means.guard.away.seconds)
         self._faults: List[str] = []
         self._is_large = False  # and that was said
         self._suspected: List[int] = []  # the boards with which its cable may have been exchanged, until somebody has looked
-        self._maker = Maker(guard, worker, game, self.attended.ask_text, self._made)
+        self._maker = Maker(means.guard, means.worker, game, self._made)
         game.capture.limit = largest(game.options)
         if opened.old.lines:
             self._tell_old()
@@ -101,7 +346,8 @@ class Playing:
         game, known = self.attended.game, opened.old.lines
         self.attended.attend(hears, ended, game.options.of_live(), with_times=True, known=known, reader=opened.reader)
         attending = self.attended.attending
-        attending.has_shown = before is not None and before.attending.has_shown
+        self._maker.asks = attending.ask_text
+        attending.board.has_shown = before is not None and before.attending.board.has_shown
         if known:
             attending.then(lambda: self._hear_result(self.course.result))
         if self._old == front_of(game.paths, game.capture) != 0:  # nothing has come since plies were taken off
@@ -126,7 +372,7 @@ class Playing:
             self._by_hand.bytes = times.added_last(self.attended.game.times.content())
             self._by_hand.result = self.course.result if self.course.result_at in self._by_hand.bytes else ""
         for news in self.course.news:
-            self.attended.screen.told(news.shown, True)
+            self.attended.means.screen.told(news.shown, True)
         self.course.news.clear()
         for event in self.course.standing():
             self._stands(event)
@@ -136,14 +382,14 @@ class Playing:
 
     def keeps(self, sent: bytes, what: str = HEARD, at: Optional[float] = None) -> None:
         """The board has sent this, and it is the game's."""
-        unheard, heard = self.attended.guard.away.seconds - self._heard.away, self._heard
+        unheard, heard = self.attended.means.guard.away.seconds - self._heard.away, self._heard
         if self.standing.was_away or unheard:
-            heard.away = self.attended.guard.away.seconds
+            heard.away = self.attended.means.guard.away.seconds
             heard.before, heard.has_slept = heard.at, unheard > 0
             if unheard:
-                self.attended.screen.say(Message("board.slept", time=lasting(unheard)))
+                self.attended.means.screen.say(Message("board.slept", time=lasting(unheard)))
             heard.is_back, self.standing.was_away = True, False
-        heard.at = self.attended.guard.now() if at is None else at
+        heard.at = self.attended.means.guard.now() if at is None else at
         self._append(sent, what)
 
     def _append(self, sent: bytes, what: str) -> None:
@@ -152,7 +398,7 @@ class Playing:
         if game.capture.size >= LARGE and not self._is_large:
             self._is_large = True
             most = mebibytes(game.options)
-            self.attended.screen.say(
+            self.attended.means.screen.say(
                 Message("file.large", path=game.capture.path, mebibytes=most),
                 Message("file.large_ends", mebibytes=most),
             )
@@ -170,7 +416,7 @@ class Playing:
         self._maker.wake()
         if self._faults:
             more = len(self._faults) - 1
-            self.attended.screen.note(Message("board.faults", fault=self._faults[0], count=more) if more else self._faults[0])
+            self.attended.means.screen.note(Message("board.faults", fault=self._faults[0], count=more) if more else self._faults[0])
             self._faults.clear()
         self.standing.lasts()
 
@@ -196,44 +442,45 @@ class Playing:
             self.attended.goes_up(BeginsBehind(answer.begins))
         if answer.over:
             self._ends_with(answer.over, told.what == BEGIN)
-        if not self.end.is_heard:
-            for offset, lines in by_byte(answer.report):
-                self._hear(told.at, offset, lines)
+        if answer.events and not self.end.is_heard and not self.end.begins_anew:
+            self._hear(told.at, answer.events)
         self._doubts(answer.doubts)
         if answer.over and not self.attended.is_closed:
             self._is_over_by(answer.over)
         if answer.played and not self.attended.is_closed:
             self.end.played = answer.played
 
-    def _hear(self, came: float, offset: int, lines: Sequence[str]) -> None:
-        """Takes the words of the lines of a byte, which came then. What changes the game is printed first, before the others are read,
-        since somebody waits for it."""
-        if self.end.begins_anew:
-            return
-        is_changed, end = False, self.end
-        if end.size is not None and offset >= end.size:  # the game is over with this many bytes
-            events = [event_of(words) for words in lines]
-            end.dropped += [event for event in events if isinstance(event, Move)]
-            lines = [words for words, event in zip(lines, events) if isinstance(event, Picture)]
-            end.is_set_up = end.is_set_up or any(map(self._shows_start, events))
-        for words in lines:
-            event = event_of(words) if words.startswith(NEWS) else None
-            if isinstance(event, (Move, Result, Recovered)):
-                self.attended.screen.told(event.shown, offset < self._old)
-                is_changed = offset >= self._maker.made_of
-        if is_changed:
-            self._maker.want()
-            os.sched_yield()  # whoever reads these lines need not wait for what follows
-        self._take(offset, [event for event in map(event_of, lines) if event], came)
+    def _hear(self, came: float, report: Sequence[Reported]) -> None:
+        """Takes what is reported of bytes that came then. What changes the game is printed first, also before what was reported just before
+        is taken, since somebody waits for it."""
+        left: List[Line] = []
+        for offset, events, shown in report:
+            if self.end.size is not None and offset >= self.end.size:  # the game is over with this many bytes
+                events, shown = self._behind_the_end(events), []
+            left += [Line(offset, event) for event in events]
+            if not shown:
+                continue
+            for text in shown:
+                self.attended.means.screen.told(text, offset < self._old)
+            if offset >= self._maker.made_of:
+                self._maker.want()
+                os.sched_yield()  # whoever reads these lines need not wait for what follows
+            self._take(left, came)
+            left.clear()
+        self._take(left, came)
 
-    def _shows_start(self, event: Optional[Event]) -> bool:
-        return isinstance(event, Picture) and event.placement == self.attended.game.options.start
+    def _behind_the_end(self, events: Sequence[Event]) -> List[Event]:
+        """Those of a byte behind the end that count."""
+        self.end.dropped += [event for event in events if isinstance(event, Move)]
+        pictures: List[Event] = [event for event in events if isinstance(event, Picture)]
+        self.end.is_set_up = self.end.is_set_up or Picture(self.attended.game.options.start) in pictures
+        return pictures
 
-    def _take(self, offset: int, events: Sequence[Event], came: float) -> None:
-        """Takes the events of a byte that came then."""
-        for event in events:
-            self.course.take(Line(offset, event), came)
-        for event in events:
+    def _take(self, lines: Sequence[Line], came: float) -> None:
+        """Takes the events of bytes that came then."""
+        for line in lines:
+            self.course.take(line, came)
+        for offset, event in lines:
             if isinstance(event, Fault) and offset >= self._old:
                 self._faults.append(Message("board.fault", fault=event.words, offset=offset))
             self._stands(event)
@@ -252,11 +499,11 @@ class Playing:
         if result == "*" or self.end.is_over or self.end.size is not None:  # the game was over before
             return
         if result == self._by_hand.result:
-            self.attended.screen.say(linked("semicolon", filter(None, (Message("over.ends_in", seconds=STANDS), self.attended.screen.mistyped()))))
+            self.attended.means.screen.say(linked("semicolon", filter(None, (Message("over.ends_in", seconds=STANDS), self.attended.means.screen.mistyped()))))
         elif self.course.is_given:
-            self.attended.screen.say(Message("over.ends_soon_kings", seconds=STANDS, reopens=self.attended.screen.reopens()))
+            self.attended.means.screen.say(Message("over.ends_soon_kings", seconds=STANDS, reopens=self.attended.means.screen.reopens()))
         else:
-            self.attended.screen.say(Message("over.ends_soon", seconds=STANDS))
+            self.attended.means.screen.say(Message("over.ends_soon", seconds=STANDS))
 
     # What is doubtful.
 
@@ -305,13 +552,13 @@ class Playing:
         attended.disk.text = trouble_of(made.full) if made.trouble else ""
         if not made.trouble:
             if made.edited:
-                self.attended.screen.say(told_of_edit(paths.pgn, made.edited))
+                self.attended.means.screen.say(told_of_edit(paths.pgn, made.edited))
             attended.disk.look()
             attended.goes_up(News.PLACED)
         elif attended.disk.restore():
             attended.goes_up(News.RESTORED)  # the capture was gone, and is there again
         else:
-            self.attended.screen.say(
+            self.attended.means.screen.say(
                 Message("text.unwritten", pgn=paths.pgn, why=made.trouble, capture=paths.capture, mend=mend_of(made.full)),
                 Message("text.tried_again"),
             )
@@ -331,7 +578,7 @@ class Playing:
         """Waits until the program has reported what was added last. Returns whether the game has it: what came before it may have
         ended the game."""
         if self._by_hand.is_put is None:
-            timer = self.attended.guard.after(PATIENCE, lambda: self._put_ends(not self.end.is_over))
+            timer = self.attended.means.guard.after(PATIENCE, lambda: self._put_ends(not self.end.is_over))
             yield self._wait_for_put
             timer.cancel()
         return bool(self._by_hand.is_put)
@@ -373,14 +620,14 @@ class Playing:
             known = [ply for ply, at in zip(self.course.plies, self.course.ends) if at >= end.size]
             dropped = [*known, *end.dropped]
             if dropped:
-                self.attended.screen.say(Message("over.dropped", plies="; ".join(ply.words for ply in dropped)))
+                self.attended.means.screen.say(Message("over.dropped", plies="; ".join(ply.words for ply in dropped)))
         if reason is Reason.CORRECTED and end.dropped:
             self.look_at(corrected(end.dropped[0].short))
         elif over.why == STOOD and not over.sure:
             if not end.was_over:
                 self.look_at(unheard(name_of(len(self.course.plies), self.course.plies)))
         elif not over.sure:
-            self.attended.screen.say(Message("over.end_not_sure", pgn=self.attended.game.paths.pgn))
+            self.attended.means.screen.say(Message("over.end_not_sure", pgn=self.attended.game.paths.pgn))
         self._end(reason)
 
     def _end(self, reason: Reason) -> None:
@@ -413,18 +660,17 @@ class Playing:
                 mark_end(game.paths, game.capture, game.capture.size if end.size is None else end.size)
                 self._note_end()
             except OSError as error:
-                self.attended.screen.say(Message("file.unwritten_so", path=game.paths.end, why=text_of(error)))
+                self.attended.means.screen.say(Message("file.unwritten_so", path=game.paths.end, why=text_of(error)))
         if end.has_ended and not end.is_marked:
             self._note_end()
         if self.course.recovered:
             pairs = "; ".join(pair.replace("recovered ", "") for pair in self.course.recovered)
-            self.attended.screen.say(Message("text.recovered", pgn=game.paths.pgn, pairs=pairs))
+            self.attended.means.screen.say(Message("text.recovered", pgn=game.paths.pgn, pairs=pairs))
         if looks.open and not is_watched:
-            self.attended.screen.say(Message("look.in_text", pgn=game.paths.pgn, looks=looks.all))
+            self.attended.means.screen.say(Message("look.in_text", pgn=game.paths.pgn, looks=looks.all))
         if self._by_hand.result not in ("", self.course.result):
-            self.attended.screen.say(Message("text.other_result", pgn=game.paths.pgn, result=self._by_hand.result))
-        self._maker.limit = end.size
-        self._maker.finish(lambda written: done(unwritten_of(game, Made() if written else self._maker.last)))
+            self.attended.means.screen.say(Message("text.other_result", pgn=game.paths.pgn, result=self._by_hand.result))
+        self._maker.finish(lambda written: done(unwritten_of(game, Made() if written else self._maker.last)), end.size)
 
     def _note_end(self) -> None:
         capture, attending = self.attended.game.capture, self.attended.attending

@@ -8,11 +8,10 @@ import os
 from dataclasses import dataclass
 from typing import Callable, Optional, Tuple
 
-from live.board.advice import Moves, all_of
 from live.board.board import Board
-from live.board.connection import Finder
-from live.board.plan import Plan, Wanted
-from live.board.state import Kind
+from live.board.finder import Finder
+from live.board.plan import BoardUp, Change, NotRecorded, Plan, Wanted
+from live.board.state import Kind, Moves, all_of
 from live.child.lines import listed
 from live.child.program import Program
 from live.game.files import Paths, size_of
@@ -39,6 +38,21 @@ class Choice:
     is_unseen: bool = False
 
 
+@dataclass
+class Shown:
+    """What whoever shows the game to others has called: when its recording has ended, when somebody ends it, and when it is recorded again; at
+    each change of what it shows; once, when it has been opened. And what is printed once it is recorded, with a line that has a password
+    after that."""
+
+    over: Callback
+    asked: Callback
+    goes_on: Callback = lambda: None
+    changed: Callback = lambda: None
+    opened: Callback = lambda: None
+    greeting: Tuple[str, ...] = ()
+    secret: str = ""
+
+
 class Single:
     """The only board. If it can't begin, the call ends; after a later error it is tried again."""
 
@@ -46,19 +60,16 @@ class Single:
 
     def __init__(self, loop: Loop, program: Program, screen: Screen, plan: Plan, choice: Choice) -> None:
         self._loop, self._program, self._screen, self._plan, self._choice = loop, program, screen, plan, choice
-        screen.on_change = self.changed
-        self.board = Board(loop, program, self._screen, plan.paths, self)
+        self.board = Board(loop, program, self._screen, plan.paths, self._wanted, self._hears)
         self.refused: Optional[Refused] = None
-        self.on_change: Optional[Callback] = None
-        self.over: Callback = loop.stop  # called when its recording has ended
-        self.asked: Callback = loop.stop  # and when somebody ends it
-        self.goes_on: Optional[Callback] = None  # and when it is recorded again
-        self.opened: Optional[Callback] = None  # called once, when its game has been opened
-        self.greeting: Tuple[str, ...] = ()  # what to print once it is recorded
-        self.secret = ""  # a line with a password, to print after that
+        self._shown = Shown(loop.stop, loop.stop)
         self.is_open = False  # whether its game has been opened
         self._is_faulty = False  # whether an error has ended its recording
         self._finder: Optional[Finder] = None  # looks for it, once it was missing
+
+    def is_shown(self, shown: Shown) -> None:
+        """From now on its game is shown to others."""
+        self._shown, self._screen.on_change = shown, shown.changed
 
     def begin(self) -> None:
         """Records it."""
@@ -70,9 +81,9 @@ class Single:
 
     def _stop(self) -> None:
         self.refused = self.board.refused
-        self.asked()
+        self._shown.asked()
 
-    def wanted(self) -> Wanted:
+    def _wanted(self) -> Wanted:
         """What the command line says."""
         plan, choice = self._plan, self._choice
         paths = plan.paths
@@ -94,27 +105,23 @@ class Single:
 
         return Wanted(dataclasses.replace(plan, shows=shows), lambda: Opening(self._program, paths, prepares))
 
-    def changed(self) -> None:
-        """What it shows has changed."""
-        if self.board.is_recorded:
-            if not self.is_open or self.secret:
-                self._opened()
-            self._is_faulty = False
-            if self.goes_on:
-                self.goes_on()
-        if self.on_change:
-            self.on_change()
+    def _hears(self, up: BoardUp) -> None:
+        """This has happened at its board. There is no other one."""
+        if isinstance(up, NotRecorded):
+            up.is_tried_again = self._is_tried_again(up.why)
+        elif up is Change.MISSING:
+            if self._finder is None:
+                self._finder = Finder(self._loop, self._program, lambda: [self.board], self.trouble)
+        elif up in (Change.SHOWN, Change.REMADE):
+            if up is Change.SHOWN and self.board.is_recorded:
+                self._is_recorded()
+            self._shown.changed()
 
-    def came_back(self) -> None:
-        """There is no other board."""
-
-    def numbered(self) -> None:
-        """There is no other board."""
-
-    def missing(self) -> None:
-        """Its board, whose serial number is known, isn't on its cable: it is looked for from now on."""
-        if self._finder is None:
-            self._finder = Finder(self._loop, self._program, lambda: [self.board], self.trouble)
+    def _is_recorded(self) -> None:
+        if not self.is_open:
+            self._opened()
+        self._is_faulty = False
+        self._shown.goes_on()
 
     def close(self) -> None:
         """The loop has ended: the board isn't looked for any more."""
@@ -123,24 +130,18 @@ class Single:
 
     def _opened(self) -> None:
         """Its game is open."""
-        if self.opened and not self.is_open:
-            self.opened()
-        self.is_open = True
         self._choice = Choice(Options(), (), self._choice.is_unseen)  # what was given is kept beside the game by now
-        greeting, self.greeting = self.greeting, ()
-        for line in greeting:
+        if self.is_open:
+            return
+        self._shown.opened()
+        self.is_open = True
+        for line in self._shown.greeting:
             self._screen.say(line)
-        if self.secret:
-            self._screen.secret(self.secret)
-        self.secret = ""
+        if self._shown.secret:
+            self._screen.secret(self._shown.secret)
 
-    def remade(self) -> None:
-        """The text of its game has changed."""
-        if self.on_change:
-            self.on_change()
-
-    def ended(self, why: Optional[Exception]) -> bool:
-        """Its recording has ended, or couldn't begin. Returns whether to try again."""
+    def _is_tried_again(self, why: Optional[Exception]) -> bool:
+        """Its recording has ended, or couldn't begin. Whether to try again."""
         if why is None:
             self._opened()
         elif self.is_open and (self._is_faulty or isinstance(why, Broken) or not isinstance(why, Refused)):
@@ -148,11 +149,8 @@ class Single:
             self._screen.state(Message("state.not_recorded"), why)
             return True
         self.refused = why if isinstance(why, Refused) or why is None else Refused(FAILED, reason_of(why))
-        self.over()
+        self._shown.over()
         return False
-
-    def owner(self, number: str) -> Optional[Board]:
-        """There is no other board."""
 
     def typed(self, text: str) -> None:
         """A line of the terminal."""

@@ -34,17 +34,6 @@ class NoAnswer(ValueError):
     """A line that stands in no answer."""
 
 
-def entry(at: int, what: str, count: Optional[int] = None, sent: bytes = b"") -> bytes:
-    """The line about something that happens, at so many milliseconds of this call, and the bytes behind it."""
-    return f"{at} {what}{'' if count is None else f' {count}'}\n".encode() + sent
-
-
-def pieces(lines: bytes, start: int, end: int) -> List[Tuple[int, int]]:
-    """The parts in which the program is told a capture, from one offset to another; only one if it is told with the lines of its times."""
-    size = end - start if lines else PIECE
-    return [(at, min(at + size, end)) for at in range(start, end, size or PIECE)]
-
-
 class Stood(NamedTuple):
     """How the board stands: a word; for how many milliseconds, if that is known; the squares that differ, and a hint."""
 
@@ -94,6 +83,11 @@ class Answer:
     played: int = 0  # moves that were made since, if that is news
     begins: int = 0  # bytes of the capture that belong to the set-up, if the game began only then
     due: Optional[int] = None  # wake in so many milliseconds; None: never
+    events: List[Reported] = field(default_factory=list)  # its report, once it is read
+
+    def read(self) -> None:
+        """Reads its report."""
+        self.events = by_byte(self.report)
 
 
 class Answers:
@@ -342,7 +336,6 @@ class Recovered:
         return self.text
 
 
-NEWS = ("move ", "correction ", "result ", "recovered")  # how the words begin of what changes the game
 Change = Union[Move, Result]
 News = Union[Move, Result, Recovered]
 Event = Union[Move, Result, Differs, Agrees, Fault, Picture, Position, Clock, Recovered]
@@ -367,17 +360,30 @@ def is_offset(word: str) -> bool:
     return word.isascii() and word.isdigit() and len(word) < 16
 
 
-def by_byte(texts: Sequence[str]) -> List[Tuple[int, List[str]]]:
-    """The lines of a report, byte by byte: its offset, and the words behind it of each line."""
-    found: List[Tuple[int, List[str]]] = []
+class Reported(NamedTuple):
+    """What is reported of a byte: its offset, the events, and how those are shown that change the game."""
+
+    offset: int
+    events: List[Event]
+    shown: List[str]
+
+
+def by_byte(texts: Sequence[str]) -> List[Reported]:
+    """The lines of a report, byte by byte."""
+    found: List[Reported] = []
     before: Optional[str] = None
     for text in texts:
         offset, _, words = text.partition(" ")
-        if offset == before:
-            found[-1][1].append(words)
-        elif is_offset(offset):
-            found.append((int(offset), [words]))
+        if offset != before:
+            if not is_offset(offset):
+                continue
+            found.append(Reported(int(offset), [], []))
             before = offset
+        event = event_of(words)
+        if event:
+            found[-1].events.append(event)
+            if isinstance(event, (Move, Result, Recovered)):
+                found[-1].shown.append(event.shown)
     return found
 
 

@@ -8,11 +8,12 @@ import os
 import time
 from typing import Callable, Optional, Sequence, Tuple
 
-from live.board.single import QUITS, Single
+from live.board.single import QUITS, Shown, Single
 from live.child.program import Program
 from live.doors.dgt_live import Call
-from live.game.files import LOCK_PATIENCE, Paths, open_regular
+from live.game.files import Paths, open_regular
 from live.game.game import end_mark, has_delay, kept_tags
+from live.game.kept import LOCK_PATIENCE
 from live.game.options import Options
 from live.out.again import is_unseen
 from live.out.broadcast import Broadcast
@@ -50,7 +51,7 @@ class Audience:
 
     def join(self, single: Single) -> None:
         """From now on the game of this board is shown. The call ends when spectators have seen it."""
-        call, paths, out = self._call, self._paths, self._out
+        self._single, call, paths, out = single, self._call, self._paths, self._out
         goes_out = out.delay or out.command or self._given.tags or kept_tags(paths) or os.path.lexists(paths.broadcast)
         place, event = paths.broadcast if goes_out else None, os.path.basename(call.name)
         self._broadcast = broadcast = Broadcast(
@@ -75,15 +76,13 @@ class Audience:
             if not single.board.is_new:
                 broadcast.changed()
 
-        single.opened, single.on_change = opened, changed
         self._leaving = leaving = Leaving(self._loop, broadcast, single.say)
 
         def over() -> None:
             if single.refused or not call.shows:  # a game that is only shown is shown until somebody ends it
                 leaving.over()
 
-        single.over, single.asked, single.goes_on = over, leaving.asked, leaving.goes_on
-        single.greeting, single.secret = self._greeting(), self._pages.secret
+        single.is_shown(Shown(over, leaving.asked, leaving.goes_on, changed, opened, self._greeting(), self._pages.secret))
 
     def _greeting(self) -> Tuple[str, ...]:
         """What is printed once the game is recorded."""
@@ -97,9 +96,10 @@ class Audience:
             greeting.append(Message("delay.as_before", delay=late) if self._call.out.delay is None else late)
         return (*greeting, *self._told)
 
-    def hears(self, text: str) -> bool:
-        """Whether a typed line still counts: while the last text is being published, only lines that end the call do."""
-        return not self._leaving.ends or text in QUITS
+    def typed(self, text: str) -> None:
+        """A line of the terminal. While the last text is being published, only one that ends the call counts."""
+        if not self._leaving.ends or text in QUITS:
+            self._single.typed(text)
 
     def close(self) -> Tuple[Sequence[str], str]:
         """Shows nothing further. Returns what was wrong at the end, and what to do if spectators haven't seen all moves."""

@@ -22,8 +22,7 @@ from live.game.options import Options
 from live.run.loop import Loop, Signals
 from live.run.refused import BACK, DGT_LIVE, DONE, FAILED, Refused
 from live.show.address import Pages
-from live.show.terminal import Terminal
-from live.show.typed import Typed
+from live.show.terminal import Terminal, Typed
 from live.words.message import Message, linked
 
 HELP = """\
@@ -128,14 +127,9 @@ def record_in(call: Call, program: Program, signals: Signals) -> Outcome:
     single = Single(loop, program, Screen(terminal), plan, choice)
     if audience:
         audience.join(single)
-
-    def typed(text: str) -> None:
-        if audience is None or audience.hears(text):
-            single.typed(text)
-
     single.begin()
     signals.tell(loop, single.end)
-    reader = Typed(loop, typed, single.refuses, shows=terminal if terminal.in_place else None, interrupted=single.end)
+    reader = Typed(loop, audience.typed if audience else single.typed, single.refuses, shows=terminal if terminal.in_place else None, interrupted=single.end)
     loop.run()
     reader.close()
     single.close()

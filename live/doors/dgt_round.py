@@ -10,8 +10,9 @@ from typing import List, Optional, Sequence, Tuple
 
 from live.child.program import Program
 from live.doors.options import ROUNDS, SEE_HELP, Outcome, Outgoing, out_given, pages_given, read, through, with_values
-from live.game.files import LOCK_PATIENCE, Paths, text_of
+from live.game.files import Paths, text_of
 from live.game.game import ROUND, is_of_an_output, keep_options, kept_options
+from live.game.kept import LOCK_PATIENCE
 from live.game.opening import recordable, turned, unknown
 from live.game.options import RECOVER, STRICT, UNKNOWN, Options, as_typed, assigned
 from live.out.delay import GoingOut, delay_of, in_home, keep_out, kept_out, told_of_kept as told_of_kept_out

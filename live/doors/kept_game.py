@@ -5,21 +5,21 @@ from __future__ import annotations
 import os
 from typing import List
 
-from live.board import typed_lines
+from live.board import calls
 from live.board.connection import Asked, ask, listing, told_of_shut
 from live.board.plan import last_number, numbered
 from live.child.program import Program
 from live.doors.dgt_live import Call
 from live.doors.options import Outcome
-from live.game import files, packing
+from live.game import packing
 from live.game.changing import add_by_name, publish_now, told_of_round, told_of_series
-from live.game.files import LOCK_PATIENCE, Paths
+from live.game.files import Paths
 from live.game.game import check_name, has_delay
+from live.game.kept import LOCK_PATIENCE, Recorded
 from live.game.log import log_once
 from live.game.making_pgn import first_time
 from live.game.opening import Opening, checked, is_recorded, read_otherwise
-from live.game.options import Options, line_of
-from live.game.tags import today
+from live.game.options import Options, line_of, today
 from live.line.line import devices, login_name
 from live.out.again import is_hidden
 from live.run.loop import Loop
@@ -59,14 +59,14 @@ def remake(call: Call, program: Program) -> Outcome:
     line = line_of(call.options)
     device_first = Message("name.device_first", dgt_live=DGT_LIVE, name=call.name)
     paths = existing_game(call.name, *([device_first] if line else []))
-    asked = typed_lines.ask(paths.capture, line) if line else None
+    asked = calls.ask(paths.capture, line) if line else None
     if asked:
         return answered(asked)
     given = checked(program, call.options)
     try:
         opened = Opening(program, paths, lambda: read_otherwise(given)).open(Loop.now(), today())
-    except files.Recorded:
-        raise Refused(REFUSED, *is_recorded(paths.name, typed_lines.board_of(paths.capture), call.options)) from None
+    except Recorded:
+        raise Refused(REFUSED, *is_recorded(paths.name, calls.board_of(paths.capture), call.options)) from None
     opened.game.capture.close()
     assert opened.reader
     opened.reader.close()
@@ -95,7 +95,7 @@ def add(call: Call, program: Program) -> Outcome:
     """Changes a game that is recorded, or one that is over, line by line. The first refused line ends this."""
     paths, asked = existing_game(call.name), None
     for line in call.typed:
-        asked = typed_lines.ask(paths.capture, line)
+        asked = calls.ask(paths.capture, line)
         answered(asked or add_by_name(program, paths, line, LOCK_PATIENCE))
         if not asked:
             publish_anew(paths)

@@ -14,19 +14,18 @@ from typing import Callable, Optional, Sequence, Tuple
 
 from live.child.lines import Move, Picture, line_of
 from live.child.program import Program
-from live.game.files import Capture, Paths, existing, not_written, open_game, put_in_place, sync_folder
-from live.game.forfeits import Forfeit, drop_forfeit, forfeit_of, keep_forfeit, kept_forfeit, read_typed, refuse_played, told_to_readers
-from live.game.game import ROUND, Game, end_mark, forget_question, is_unplayed, keep_front, keep_options, kept_options, mark_end, result_in, unmark_end
+from live.game.attending import read_game
+from live.game.files import Paths, existing, not_written, put_in_place, sync_folder
+from live.game.game import ROUND, Course, Game, end_mark, forget_question, game_of, is_unplayed, keep_front, keep_options, kept_options, mark_end, result_in, unmark_end
+from live.game.kept import Capture, Times, open_game
 from live.game.log import log_once
 from live.game.looks import acknowledge, keep_looks, kept_looks
 from live.game.making_pgn import Made, Text, told_of_edit, told_of_result
 from live.game.opening import Chooses, named
 from live.game.options import Options, is_naming
-from live.game.reading import Course, game_of, read_game
 from live.game.tags import published
-from live.game.timed import Times
 from live.game.times import ADDED, BACK, LOOKED, OVER, REOPENED
-from live.game.typed import ALL, ANEW, AS_IT_IS, BOARD, CUT, NO_RESULT, PLACED, PLIES, SIGNED, STILL_SHOWN, WAYS, Acknowledged, Back, Nothing, Quit, Reopened, Said, Way, ask_to_add, ask_to_go_back, asked_of, dump_at_end, meaning, not_added, not_back, nothing_goes, place_of, played_since, result_typed, stays_of, taken_up, way_of
+from live.game.typed import ALL, ANEW, AS_IT_IS, BOARD, CUT, NO_RESULT, PLACED, PLIES, SIGNED, STILL_SHOWN, WAYS, Acknowledged, Back, Changes, Forfeit, Instead, Nothing, Quit, Reopened, Said, Way, ask_for_way, ask_to_add, ask_to_go_back, asked_of, drop_forfeit, dump_at_end, forfeit_of, keep_forfeit, kept_forfeit, meaning, not_added, not_back, not_instead, nothing_goes, place_of, played_since, read_typed, refuse_played, result_typed, stays_of, taken_up, told_to_readers, way_of
 from live.run.refused import DGT_LIVE, DONE, FAILED, Answer, Asked, NotDone, Refused, refusal
 from live.words.message import Message, linked
 
@@ -103,6 +102,23 @@ def _settle(paths: Paths, way: Way) -> str:
 
 
 # Games that nobody records, or that are over.
+
+
+def change_closed(game: Game, typed: Changes, listens: bool = False, may_stay: bool = False) -> str:
+    """Changes a game that nobody records now, and makes its text, as the next two do."""
+    return go_back_closed(game, typed.to, listens, may_stay) if isinstance(typed, Back) else put_instead_closed(game, typed, listens)
+
+
+def put_instead_closed(game: Game, typed: Instead, listens: bool) -> str:
+    """Puts moves in place of the last plies of a game that nobody records now, and makes its text. A game that was over goes on, with the
+    board as it is now if the board is watched. Returns what was done. Refused if it can't be."""
+    mark, course = end_mark(game.paths), course_of(game)
+    said = ask_for_way(game.program, game.options, game.capture.bytes(0, None if listens else mark), typed)
+    way = way_of(said, course.plies if not listens else read_game(game, None).course.plies, typed.line)
+    if way is None:
+        raise not_instead(said, typed.line, game.options.fen, course.plies)
+    ask_first(game.paths, way)
+    return _put_closed(game, way)
 
 
 def go_back_closed(game: Game, to: str, listens: bool = False, may_stay: bool = False) -> str:
@@ -350,8 +366,8 @@ def add_by_name(program: Program, paths: Paths, text: str, patience: float) -> A
             drop_forfeit(paths)
             log_once(paths, told)
             return DONE, told
-        if isinstance(typed, Back):
-            done = go_back_closed(game, typed.to)
+        if isinstance(typed, (Back, Instead)):
+            done = change_closed(game, typed)
             drop_forfeit(paths)
             log_once(paths, done)
             return DONE, linked("colon", (paths.name, done))

@@ -1,25 +1,20 @@
-"""The files of a game: the capture, which only grows, and files that are replaced as a whole."""
+"""The files of a game: where they are, and how one is replaced as a whole."""
 
 from __future__ import annotations
 
 import contextlib
 import errno
-import fcntl
 import functools
 import os
 import stat
 from dataclasses import dataclass
 from typing import List, Optional, Union
 
-from live.run.refused import FAILED, REFUSED, Refused, recorded_elsewhere
-from live.run.system import locked
 from live.words.message import Message
 
 LARGEST = 64 * 1024 * 1024  # bytes of a capture: the program reads no more
-MEMORY = 1024 * 1024  # bytes that are kept in memory while they can't be written
 NO_SUCH_FILE = (errno.ENOENT, errno.ENOTDIR, errno.ENAMETOOLONG)  # no file can have this name, and nothing is kept under it
 NO_ROOM = (errno.ENOSPC, errno.EDQUOT, errno.EFBIG)
-LOCK_PATIENCE = 3.0  # seconds: a call that was just killed may still have the lock
 AnyPath = Union[str, "os.PathLike[str]"]
 
 
@@ -228,18 +223,19 @@ def put_in_place(path: AnyPath, content: bytes) -> None:
         os.replace(new, path)
         sync_folder(folder_of(path))
     except BaseException:
-        _drop(new)
+        drop(new)
         raise
 
 
 def remove(path: AnyPath) -> None:
     """Removes a file, if it is there, also from the disk."""
     if os.path.lexists(path):
-        _drop(path)
+        drop(path)
         sync_folder(folder_of(path))
 
 
-def _drop(path: AnyPath) -> None:
+def drop(path: AnyPath) -> None:
+    """Removes a file, if it is there."""
     with contextlib.suppress(FileNotFoundError):
         os.unlink(path)
 
@@ -258,156 +254,6 @@ def unwritten(path: AnyPath, why: str, full: bool) -> str:
     """The same, given the reason in words, and whether there is no room: a file may also be larger than a process may write."""
     asks = full and why != os.strerror(errno.EFBIG)
     return Message("file.unwritten_full", path=path, why=why) if asks else Message("file.unwritten", path=path, why=why)
-
-
-class Recorded(Refused):
-    """Another process records this game."""
-
-
-class Capture:
-    """NAME.dgt, open and locked. What can't be written is kept in memory, and tried again."""
-
-    def __init__(self, path: str, number: int) -> None:
-        self.path = path
-        self.number = number
-        self.size = os.fstat(number).st_size
-        self.pending = b""
-        self._written, self._written_at = b"", -1  # what was written last, and where it begins
-        self.lost = 0  # bytes that were dropped because the memory for them was full
-        self.limit: Optional[int] = LARGEST
-        self.trouble = ""  # why something waits, in the system's words
-        self.full = False  # and whether that is for want of room
-
-    @staticmethod
-    def open(path: str, patience: float = LOCK_PATIENCE) -> Capture:
-        """Refused if it can't be written, or if another process records it."""
-        try:
-            while True:
-                number = open_regular(path, os.O_RDWR | os.O_APPEND | os.O_CREAT)
-                try:
-                    if not locked(number, patience):
-                        raise Recorded(REFUSED, Message("name.recorded_elsewhere", recorded=recorded_elsewhere(path)))
-                    if _has_name(number, path):
-                        if not os.fstat(number).st_size:
-                            sync_folder(folder_of(path))  # it may be new: no other file of the game is there without it
-                        return Capture(path, number)
-                except BaseException:
-                    os.close(number)
-                    raise
-                os.close(number)  # the last owner of the lock has put a new file in its place
-        except OSError as error:
-            if isinstance(error, PermissionError):
-                raise Refused(FAILED, Message("name.no_right", path=path, why=text_of(error))) from None
-            raise Refused(FAILED, Message("name.unwritable", path=path, why=text_of(error))) from None
-
-    @staticmethod
-    def begin(path: str, content: bytes) -> Capture:
-        """A new capture with this content, put in place at once: so it never exists without it."""
-        new = new_of(path)
-        number = open_new(new, os.O_RDWR | os.O_APPEND)
-        try:
-            fcntl.flock(number, fcntl.LOCK_EX | fcntl.LOCK_NB)
-            write_all(number, content)
-            capture = Capture(path, number)
-            os.replace(new, path)
-            with contextlib.suppress(OSError):  # it is in place, even if a later step fails
-                sync_folder(folder_of(path))
-            return capture
-        except BaseException:
-            os.close(number)
-            _drop(new)
-            raise
-
-    def renew(self, content: bytes) -> None:
-        """Replaces the file's content at once. On an OSError the file stays as it was."""
-        new = Capture.begin(self.path, content)
-        os.close(self.number)
-        self.number, self.size, self._written_at = new.number, new.size, -1
-
-    def take_back(self, kept: AnyPath) -> None:
-        """If another file has taken this one's place, the `kept` one takes it at once, which has the same content: so this needs no room.
-        Raises OSError on failure."""
-        if _has_name(self.number, self.path):
-            return
-        number = open_regular(kept, os.O_RDWR | os.O_APPEND)
-        try:
-            fcntl.flock(number, fcntl.LOCK_EX | fcntl.LOCK_NB)
-            os.replace(kept, self.path)
-        except BaseException:
-            os.close(number)
-            raise
-        os.close(self.number)
-        self.number, self.size, self._written_at = number, os.fstat(number).st_size, -1
-        sync_folder(folder_of(self.path))
-
-    @property
-    def waits(self) -> bool:
-        """Whether something waits in memory."""
-        return bool(self.pending)
-
-    @property
-    def total(self) -> int:
-        """The bytes of the file, and those that wait in memory."""
-        return self.size + len(self.pending)
-
-    @property
-    def at_limit(self) -> bool:
-        return self.limit is not None and self.size >= self.limit
-
-    def has_room(self, count: int) -> bool:
-        """Whether so many bytes more are within the limit."""
-        return self.limit is None or self.size + count < self.limit
-
-    def append(self, sent: bytes) -> int:
-        """Appends to the file, or keeps this for the next try if that fails. What is past the limit is dropped. Returns how many bytes
-        aren't."""
-        room = (MEMORY if self.limit is None else min(MEMORY, self.limit - self.size)) - len(self.pending)
-        count = len(sent)
-        if count > room:
-            kept = max(0, room)
-            self.lost += count - kept
-            sent, count = sent[:kept], kept
-        self.pending += sent
-        self.write()
-        return count
-
-    def write(self) -> None:
-        """Writes what waits, as far as possible."""
-        try:
-            while self.pending:
-                count = os.write(self.number, self.pending)
-                self._written, self._written_at = self.pending[:count], self.size
-                self.size, self.pending = self.size + count, self.pending[count:]
-            self.trouble, self.full = "", False
-        except OSError as error:
-            self.trouble, self.full = text_of(error), error.errno in NO_ROOM
-
-    def read(self, offset: int, count: int) -> bytes:
-        """At most this many bytes, from an offset on. What was just written is still in memory."""
-        if offset == self._written_at and count >= len(self._written):
-            return self._written
-        return os.pread(self.number, count, offset)
-
-    def bytes(self, start: int = 0, end: Optional[int] = None) -> bytes:
-        """The file's bytes from one offset to another."""
-        return part_of(self.number, start, self.size if end is None else end)
-
-    def sync(self) -> None:
-        os.fsync(self.number)
-
-    def close(self) -> None:
-        try:
-            fcntl.flock(self.number, fcntl.LOCK_UN)  # even if the close fails, this process keeps no lock
-        finally:
-            os.close(self.number)
-
-
-def _has_name(number: int, path: str) -> bool:
-    """Whether this open file still has that name."""
-    try:
-        return os.path.samestat(os.fstat(number), os.stat(path))
-    except FileNotFoundError:
-        return False
 
 
 def beginning(path: AnyPath, most: int) -> bytes:
@@ -450,15 +296,3 @@ def size_of(path: AnyPath) -> int:
         return os.stat(path).st_size if os.path.isfile(path) else 0
     except OSError:
         return 0
-
-
-def open_game(paths: Paths, patience: float = LOCK_PATIENCE) -> Capture:
-    """The capture of a game, new or old."""
-    if not os.path.isdir(paths.folder):
-        raise Refused(FAILED, Message("name.no_folder", folder=paths.folder))
-    try:
-        if os.path.exists(paths.pgn) and not os.path.exists(paths.capture):
-            raise Refused(REFUSED, Message("name.text_alone", pgn=paths.pgn, capture=paths.capture))
-    except OSError as error:
-        raise Refused(FAILED, Message("name.unwritable", path=paths.capture, why=text_of(error))) from None
-    return Capture.open(paths.capture, patience)

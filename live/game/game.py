@@ -1,5 +1,6 @@
-"""An open game, and what is kept beside its capture: its options, its board's number, the mark of its end, how many bytes a way
-back has made at its beginning, and a question; the names that its files may have, and to what else it may belong by its name."""
+"""An open game, its course as the program reports it, and what is kept beside its capture: its options, its board's number, the mark of its end,
+how many bytes a way back has made at its beginning, and a question; the names that its files may have, and to what else it may belong by its
+name. The course is pure: lines and times are passed in."""
 
 from __future__ import annotations
 
@@ -9,13 +10,15 @@ import re
 import stat
 import zlib
 from dataclasses import dataclass, field
-from typing import List, Optional, Tuple
+from typing import List, Optional, Sequence, Tuple
 
-from live.child.program import Program
-from live.game.files import LARGEST, NO_SUCH_FILE, Capture, Paths, beginning, existing, not_written, plain, put_in_place, remove, size_of, sync_folder, text_of
+from live.child.lines import Agrees, Change, Clock, Differs, Event, Fault, Line, Move, News, Picture, Position, Recovered, Result, codes_of, event_of, line_of
+from live.child.program import Program, told_of_ending
+from live.game.files import LARGEST, NO_SUCH_FILE, Paths, beginning, existing, not_written, plain, put_in_place, remove, size_of, sync_folder, text_of
+from live.game.kept import Capture, Times
 from live.game.options import Options
 from live.game.tags import Tags
-from live.game.timed import Times
+from live.line.protocol import differing
 from live.run.refused import ARGUMENTS, FAILED, REFUSED, Refused
 from live.words.message import Message
 
@@ -244,3 +247,160 @@ def owners_of(paths: Paths) -> List[Paths]:
 def has_delay(paths: Paths) -> bool:
     """Whether a delay was given for a game, or for the round or series to which it may belong."""
     return any(os.path.lexists(owner.delay) for owner in owners_of(paths))
+
+
+@dataclass
+class Shown:
+    """What the board shows: its pieces, and its last state; its clocks, if they were reported, and when that came."""
+
+    placement: str = ""
+    stands: Optional[Event] = None
+    clock: Optional[Clock] = None
+    clock_at: float = 0.0
+
+
+class Course:
+    """The moves of a game with their positions, its result, and what the board shows."""
+
+    def __init__(self, start: str) -> None:
+        self.start = start
+        self.plies: List[Move] = []
+        self.fens: List[str] = []  # of the start and after each ply, as far as they are reported
+        self.result = "*"
+        self.result_at = 0  # the offset of the line that gave it
+        self.recovered: List[str] = []  # the pairs that were recovered
+        self.shown = Shown()
+        self.ends: List[int] = []  # the offsets of the lines that gave the plies
+        self.began = 0  # the offset of the line that gave the first ply first
+        self.news: List[News] = []  # the reported lines of the game: its changes, and the pairs before them
+
+    def take(self, line: Line, at: float) -> None:
+        """Takes the next line, which came at this time."""
+        offset, event = line
+        if isinstance(event, Picture):
+            self.shown.placement = event.placement
+        elif isinstance(event, Position):
+            del self.fens[len(self.plies) :]
+            self.fens.append(event.fen)
+        elif isinstance(event, Clock):
+            self.shown.clock, self.shown.clock_at = event, at
+        elif isinstance(event, Recovered):
+            self.recovered.append(event.text)
+            self.news.append(event)
+        elif not isinstance(event, Fault):
+            self.shown.stands = event
+            if isinstance(event, (Move, Result)):
+                self._take_change(event, offset)
+
+    def _take_change(self, change: Change, offset: int) -> None:
+        self.news.append(change)
+        if isinstance(change, Result):
+            self.result, self.result_at = change.outcome, offset
+            return
+        if change.corrects and self.plies:
+            self.plies.pop()
+            del self.fens[len(self.plies) + 1 :]
+        self.plies.append(change)
+        del self.ends[len(self.plies) - 1 :]
+        self.ends.append(offset)
+        self.began = self.began or offset
+
+    def end(self, size: int, result: str) -> List[Move]:
+        """The game has so many bytes and this result. Returns the plies behind them, which it has no more."""
+        kept = sum(at < size for at in self.ends)
+        gone = self.plies[kept:]
+        del self.plies[kept:], self.ends[kept:], self.fens[kept + 1 :]
+        self.result = result
+        return gone
+
+    @property
+    def is_given(self) -> bool:
+        """Whether it has a result that its last move didn't give."""
+        return self.result != "*" and self.result_at not in self.ends[-1:]
+
+    def standing(self) -> Sequence[Event]:
+        """The fewest lines that give the board's state."""
+        last: List[Event] = [*self.plies[-1:]]
+        if self.result != "*":
+            last.append(Result(self.result))
+        if self.shown.stands and self.shown.stands not in last:
+            last.append(self.shown.stands)
+        return last
+
+
+def clocks_of(plies: Sequence[Move]) -> Tuple[str, str]:
+    """The clock times of White and of Black, each after its last move."""
+    white = next((ply.clock for ply in reversed(plies) if ply.clock and not ply.number.endswith("...")), "")
+    black = next((ply.clock for ply in reversed(plies) if ply.clock and ply.number.endswith("...")), "")
+    return white, black
+
+
+ONE_MOVE = 4  # squares that a move changes, at most
+
+
+@dataclass(frozen=True)
+class Old:
+    """What a capture had when it was opened: its bytes, the number of their lines in the report, the course of the game, and its text."""
+
+    size: int
+    lines: int
+    course: Course
+    text: bytes = b""
+
+
+def new_course(options: Options) -> Course:
+    """The course of a game without a report yet."""
+    return Course(options.start)
+
+
+def nothing_old(options: Options, size: int) -> Old:
+    """A capture whose bytes are still to be reported."""
+    return Old(size, 0, new_course(options))
+
+
+def whole(program: Program, options: Options, sent: bytes) -> bytes:
+    """The bytes from which a game is read: what the board sent, with the pairs that `recover` adds, if requested. Raises
+    OSError on failure."""
+    if not options.recover:
+        return sent
+    answer = program.run("recover", *options.of_board(), given=sent)
+    if answer.returncode != 0:
+        raise OSError(told_of_ending("recover", answer.returncode))
+    return answer.stdout
+
+
+def game_of(program: Program, options: Options, sent: bytes) -> Course:
+    """The course of a game of these bytes."""
+    sent = whole(program, options, sent)
+    course = new_course(options)
+    for text in program.lines("watch", *options.of_board(), given=sent):
+        line = line_of(text)
+        if line:
+            course.take(line, 0.0)
+    return course
+
+
+def wanted(texts: Sequence[str], start: str) -> Sequence[str]:
+    """Those of some consecutive lines that a course needs. If nothing has changed the game and no picture is far from the start,
+    a square may have chattered, and these are: the first lines that give the board's state, the last one that agrees with the
+    one after it, and the last; the first picture of each kind with the line after it, and the last; the last clock times.
+    Otherwise it needs all."""
+    words = [text.partition(" ")[2] for text in texts]
+    kinds = {word: event_of(word) for word in set(words)}
+    if not all(isinstance(event, (Picture, Differs, Agrees, Clock)) for event in kinds.values()):
+        return texts
+    pictures = [event for event in kinds.values() if isinstance(event, Picture)]
+    if any(len(differing(event.codes, codes_of(start))) > ONE_MOVE for event in pictures):
+        return texts
+    stands = [at for at, word in enumerate(words) if word[0] in "ad"]
+    last = [*stands[-1:], *_last(words, "p"), *_last(words, "c")]
+    first = {words.index(f"picture {event.placement}") for event in pictures}
+    kept = {*stands[:3], *last, *first, *(at + 1 for at in first if at + 1 < len(texts))}
+    for agrees in _last(words, "a"):
+        kept |= {agrees, *[at for at in stands if at > agrees][:1]}
+    return [texts[at] for at in sorted(kept)]
+
+
+def _last(words: Sequence[str], letter: str) -> Sequence[int]:
+    """The index of the last word that begins with this letter, if any."""
+    return next(([at] for at in range(len(words) - 1, -1, -1) if words[at][0] == letter), [])

@@ -276,4 +276,4 @@ class Screen:
 
     def _write(self, now: float, text: str) -> None:
         if self._log:
-            self._log.write(logged_at(now), printable(text))
+            self._log.write(logged_at(now), text if text.isprintable() else printable(text))

@@ -16,9 +16,8 @@ from typing import Callable, Iterator, List, Optional, Sequence, Tuple
 from live.child.lines import Move, Result, line_of
 from live.child.program import Program, told_of_ending, wake
 from live.game.files import LARGEST, NO_ROOM, AnyPath, Opened, Paths, content_of, existing, new_of, open_new, open_regular, put_in_place, sync_folder, text_of, unwritten, write_all
-from live.game.game import Game
+from live.game.game import Game, whole
 from live.game.options import Options
-from live.game.reading import whole
 from live.run.loop import Guard, Timer, Worker
 from live.words.message import Message
 
@@ -161,19 +160,31 @@ class Text:
 
     def put(self, text: bytes) -> Made:
         """Makes it of this text, which the program has given. Returns the outcome."""
-        return self._make(functools.partial(_written, text))
+        return self._make(functools.partial(write_all, content=text))
 
-    def _make(self, write: Callable[[int], Made]) -> Made:
+    def _make(self, write: Callable[[int], Optional[Made]]) -> Made:
+        """Has it written, and puts it in place. Somebody may have edited the text that is there, or save it meanwhile: so that is read last.
+        Its file stays open until it is replaced: the system takes a millisecond to remove a file that nobody has open, and readers
+        would wait for the new one."""
         if self._closed:
             return Made()
+        paths, before = self._game.paths, b""
         try:
-            target = open_new(self._new, os.O_RDWR)
-            try:
-                made = write(target)
+            with Opened() as opened:
+                target = opened.keep(open_new(self._new, os.O_RDWR))
+                made = write(target) or Made()
                 if not made.trouble and not self._closed:
-                    return Made(edited=self._put_in_place(target))
-            finally:
-                os.close(target)
+                    os.fsync(opened.keep(os.open(paths.capture, os.O_RDONLY)))
+                    os.fsync(target)
+                    text = content_of(target, LARGEST)
+                    with contextlib.suppress(OSError):
+                        before = content_of(opened.keep(open_regular(paths.pgn, os.O_RDONLY)), LARGEST)
+                    if before and before not in (text, *(self._game.written.last or ())[:1]):
+                        made = Made(edited=keep_edited(paths, before))
+                    os.replace(self._new, paths.pgn)
+                    self._game.written.last = text, self._game.options
+                    sync_folder(paths.folder)
+                    return made
         except OSError as error:
             made = Made.of_error(error)
         with contextlib.suppress(OSError):
@@ -234,61 +245,50 @@ class Text:
                 child.kill()
                 child.wait()
 
-    def _put_in_place(self, target: int) -> Optional[str]:
-        """Puts the new text, open as `target`, in its place. Returns where the old text is kept, if somebody had edited it."""
-        paths, edited = self._game.paths, None
-        with Opened() as opened:
-            capture = opened.keep(os.open(paths.capture, os.O_RDONLY))
-            os.fsync(capture)
-            os.fsync(target)
-            text, before = content_of(target, LARGEST), self._before(opened)  # read last: somebody may save it meanwhile
-            if before and before not in (text, *(self._game.written.last or ())[:1]):
-                edited = keep_edited(paths, before)
-            os.replace(self._new, paths.pgn)
-            self._game.written.last = text, self._game.options
-            sync_folder(paths.folder)
-        return edited
 
-    def _before(self, opened: Opened) -> bytes:
-        """The text that is there; empty if it can't be read. Its file stays open until it is replaced: the system takes a
-        millisecond to remove a file that nobody has open, and readers would wait for the new one."""
-        with contextlib.suppress(OSError):
-            return content_of(opened.keep(open_regular(self._game.paths.pgn, os.O_RDONLY)), LARGEST)
-        return b""
+Asks = Callable[[Callable[[bytes], None]], None]  # for the text: the program that attends the board gives it
 
 
-def _written(text: bytes, target: int) -> Made:
-    write_all(target, text)
-    return Made()
+@dataclass
+class UnderWay:
+    """Whether the text is asked for; whether it is being made, and how many bytes of the capture it will have; whether it is wanted anew."""
+
+    asks: bool = False
+    runs: bool = False
+    covers: int = 0
+    wants: bool = False
 
 
-Asks = Callable[[Callable[[Optional[bytes]], None]], None]  # for the text: the program that attends the board gives it, or None
+@dataclass
+class LastTime:
+    """Whom to tell once it was made a last time, if it is; of how many bytes, if not of all; and how many tries are left."""
+
+    done: Optional[Callable[[bool], None]] = None
+    limit: Optional[int] = None
+    tries: int = 0
 
 
 class Maker:
     """Makes NAME.pgn again and again, and a last time of the capture or of its first `limit` bytes. A worker does it, so the loop
-    never waits for it. `made` gets the outcome: each text that is in place, and each new reason why it can't be made. None in the place of
-    a text says that it may have bytes that the capture lacks."""
+    never waits for it. `made` gets the outcome: each text that is in place, and each new reason why it can't be made."""
 
-    def __init__(self, guard: Guard, worker: Worker, game: Game, asks: Asks, made: Callable[[Made], None]) -> None:
-        self._guard, self._worker, self._capture, self._asks, self._made = guard, worker, game.capture, asks, made
+    asks: Asks
+
+    def __init__(self, guard: Guard, worker: Worker, game: Game, made: Callable[[Made], None]) -> None:
+        self._guard, self._worker, self._capture, self._made = guard, worker, game.capture, made
         self._text = Text(game)
         self._next: Optional[Text] = None  # of the same game with other tags
-        self._asking = self._running = self._closed = False
-        self._covers = 0
-        self._wanted = False
-        self._idle: Optional[Callable[[bool], None]] = None
-        self._tries = 0
+        self._now, self._ends = UnderWay(), LastTime()
+        self._closed = False
         self._timer: Optional[Timer] = None
-        self.limit: Optional[int] = None
         self.made_of = game.capture.size  # bytes of the capture that NAME.pgn surely has: it was made when this began
         self.last = Made()  # the outcome of the last call
-        self._stop = guard.opened(lambda: self._text.close())
+        guard.opened(lambda: self._text.close())
 
     def want(self) -> None:
         """The game has changed. Makes it anew, now or after the text under way."""
-        self._wanted = True
-        if not self._asking and not self._running and self._timer is None:
+        self._now.wants = True
+        if not self._now.asks and not self._now.runs and self._timer is None:
             self._start()
 
     def makes(self, game: Game) -> None:
@@ -296,34 +296,34 @@ class Maker:
         self._next = Text(game)
         self.want()
 
-    def finish(self, done: Callable[[bool], None], tries: int = 3) -> None:
-        """Makes it a last time, of the capture, and reports whether that succeeded within this many tries."""
-        self._idle, self._tries, self._asking = done, tries, False
-        if self._timer and not self._running:
+    def finish(self, done: Callable[[bool], None], limit: Optional[int], tries: int = 3) -> None:
+        """Makes it a last time, of the capture or of its first `limit` bytes, and reports whether that succeeded within this many tries."""
+        self._ends, self._now.asks = LastTime(done, limit, tries), False
+        if self._timer and not self._now.runs:
             self._timer.cancel()
             self._timer = None
         self.want()
 
     def _start(self) -> None:
-        self._wanted = False
-        if not self._idle:
-            self._asking = True
-            self._asks(self._take)
+        self._now.wants = False
+        if not self._ends.done:
+            self._now.asks = True
+            self.asks(self._take)
             return
-        text, limit, size = self._newest(), self.limit, self._capture.size
-        self._running, self._covers = True, size if limit is None else min(limit, size)
+        text, limit, size = self._newest(), self._ends.limit, self._capture.size
+        self._now.runs, self._now.covers = True, size if limit is None else min(limit, size)
         self._timer = self._guard.after(SLOWEST, text.kill)
         self._worker.do(lambda: text.make(limit), self._ended)
 
-    def _take(self, given: Optional[bytes]) -> None:
-        """The program has given the text of the game as it is now; or None."""
-        if not self._asking or self._closed:
+    def _take(self, given: bytes) -> None:
+        """The program has given the text of the game as it is now. It may have bytes that the capture lacks: then it is asked again."""
+        if not self._now.asks or self._closed:
             return
-        self._asking = False
-        if given is None:
+        self._now.asks = False
+        if self._capture.pending or self._capture.lacks:
             self._timer = self._guard.after(AGAIN, self._again)
             return
-        self._wanted, self._running, self._covers = False, True, self._capture.size
+        self._now.wants, self._now.runs, self._now.covers = False, True, self._capture.size
         self._worker.do(functools.partial(self._newest().put, given), self._ended)
 
     def _newest(self) -> Text:
@@ -333,27 +333,27 @@ class Maker:
     def _ended(self, made: Made) -> None:
         if self._closed:
             return
-        self._running = False
+        self._now.runs = False
         if self._timer:
             self._timer.cancel()
             self._timer = None
         before, self.last = self.last, made
         if not made.trouble:
-            self.made_of = self._covers
+            self.made_of = self._now.covers
             self._made(made)
-            if self._wanted:
+            if self._now.wants:
                 self._start()
-            elif self._idle:
-                self._idle(True)
+            elif self._ends.done:
+                self._ends.done(True)
             return
         if made != before:
             self._made(made)
-        if self._idle:
-            self._tries -= 1
-            if self._tries <= 0:
-                self._idle(False)
+        if self._ends.done:
+            self._ends.tries -= 1
+            if self._ends.tries <= 0:
+                self._ends.done(False)
                 return
-        self._timer = self._guard.after(0.2 if self._idle else AGAIN, self._again)
+        self._timer = self._guard.after(0.2 if self._ends.done else AGAIN, self._again)
 
     def _again(self) -> None:
         self._timer = None
@@ -368,7 +368,7 @@ class Maker:
         if self._timer:
             self._timer.cancel()
         self._closed = True
-        self._stop()
+        self._text.close()
 
 
 def source_of(game: Game, limit: Optional[int]) -> int:

@@ -10,13 +10,13 @@ from dataclasses import dataclass
 from typing import Callable, Dict, List, Optional, Sequence, Tuple
 
 from live.child.program import Program
-from live.game.files import LOCK_PATIENCE, Capture, Paths, open_game, size_of
-from live.game.game import Game, end_mark, is_full, keep_options, kept_options, result_in, result_of
+from live.game.attending import Reader, words_of
+from live.game.files import Paths, size_of
+from live.game.game import Game, Old, end_mark, is_full, keep_options, kept_options, result_in, result_of
+from live.game.kept import LOCK_PATIENCE, Capture, Times, open_game
 from live.game.making_pgn import Made, Text, told_of_edit, told_of_reading, told_of_result
 from live.game.options import PUBLISHED, SEE_HELP, UNKNOWN, Options, as_typed, read_names, told_of_names
-from live.game.reading import Old, Reader, words_of
 from live.game.tags import LONGEST, Unreadable, ascii_name, cleaned, is_seen, pgn_date
-from live.game.timed import Times
 from live.run.loop import Callback
 from live.run.refused import DGT_LIVE, FAILED, REFUSED, Refused
 from live.words.message import Message, linked
@@ -162,7 +162,6 @@ class Opened:
     told: Tuple[str, ...] = ()  # about its options
     read_anew: Tuple[str, ...] = ()  # if its capture is read in another way than before
     results: Tuple[str, ...] = ()  # if its result has changed
-    close: Optional[Callback] = None  # closes its capture, unless that is done already
     is_reopened: bool = False  # whether an arbiter has just said that it isn't over
     reader: Optional[Reader] = None  # the child that has read it
 

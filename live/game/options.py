@@ -5,6 +5,7 @@ from __future__ import annotations
 
 import dataclasses
 import re
+import time
 from dataclasses import dataclass
 from typing import Callable, Dict, List, Mapping, Optional, Sequence, Tuple
 
@@ -301,6 +302,11 @@ class Options:
         """The message about values that were changed to what PGN allows."""
         pairs = [(option, typed.value(option), self.value(option)) for option in VALUED]
         return [Message("tag.written_as", option=option, old=old, new=new) for option, old, new in pairs if old != new]
+
+
+def today() -> str:
+    """Today's local date, as PGN has it."""
+    return time.strftime("%Y.%m.%d")
 
 
 def with_help(message: str, see_help: str = SEE_HELP) -> str:

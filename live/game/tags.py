@@ -7,7 +7,6 @@ pairs that are written anew, in UTF-8."""
 from __future__ import annotations
 
 import re
-import time
 import unicodedata
 from dataclasses import dataclass, replace
 from typing import Callable, Dict, List, Mapping, Match, Optional, Sequence, Tuple
@@ -297,11 +296,6 @@ def pgn_date(text: str) -> str:
         if match:
             return _date(text, match)
     raise Unreadable(Message("date.unreadable", text=repr(_shown(text))))
-
-
-def today() -> str:
-    """Today's local date, as PGN has it."""
-    return time.strftime("%Y.%m.%d")
 
 
 def _date(text: str, match: Match[str]) -> str:

@@ -1,17 +1,21 @@
 """What somebody types in a line: commands, which the recorder itself obeys; moves and results, which the program reads, and what it answers;
-how a game goes back. All in words: what is added or goes, what is asked first, and why it can't be."""
+how a game goes back. And games that aren't played because a player doesn't come.
+All in words: what is added or goes, what is asked first, and why it can't be."""
 
 from __future__ import annotations
 
+import contextlib
 import re
 from dataclasses import dataclass
-from typing import List, Optional, Sequence, Tuple, Union
+from typing import Dict, List, Mapping, Optional, Sequence, Tuple, Union
 
 from live.child.lines import Move
 from live.child.program import Program, told_of_ending
+from live.game.files import Paths, beginning, existing, put_in_place, remove
+from live.game.game import is_unplayed, result_of
 from live.game.options import RECOVER, Options
 from live.line.protocol import DUMP_BEGINS, DUMP_SIZE
-from live.run.refused import BACK, HELPS, NO_TEXT, OK, REOPENS, Helped, NotDone
+from live.run.refused import BACK, HELPS, INSTEAD, NO_TEXT, OK, REOPENS, Helped, NotDone
 from live.words.message import Message, linked, plural
 
 WAYS = Message("typed.ways")
@@ -19,10 +23,11 @@ ALL_WAYS = Message("typed.all_ways")
 QUITS = (["q"], ["quit"])
 MOVES, MESSAGES = "moves", "messages"  # lists the moves of a game; what was said before
 NOUGHTS = "0-0"  # a result, or castling typed with noughts
-BOTH_LOSE = Message("typed.noughts", noughts=NOUGHTS)
+NO_SCORE = Message("typed.noughts", noughts=NOUGHTS)
 ABSENT = Message("typed.absent")
 ONE_BOARD = (ABSENT, Message("typed.way_of_names"), Message("typed.way_of_lists"), Message("typed.way_of_q"))  # what can be typed there too
 WHICH_PLY = Message("back.which_ply")
+WHICH_MOVES = Message("instead.which_moves")
 OF_A_PLY = re.compile(r"(\d{1,4})((?: ?\.)+) ?", re.ASCII)  # its number, and one full stop for White or more for Black
 
 
@@ -56,11 +61,19 @@ class Back:
 
 
 @dataclass(frozen=True)
+class Instead:
+    """Moves come in place of the last plies: all from the number of the first move on."""
+
+    line: str
+
+
+@dataclass(frozen=True)
 class Nothing:
     """An empty line."""
 
 
-Typed = Union[Added, Acknowledged, Reopened, Back, Quit, Nothing]
+Changes = Union[Back, Instead]  # makes the capture anew
+Typed = Union[Added, Acknowledged, Reopened, Back, Instead, Quit, Nothing]
 
 
 def read_words(text: str) -> Typed:
@@ -77,10 +90,12 @@ def read_words(text: str) -> Typed:
         return Reopened()
     if words[0].lower() == BACK:
         return Back(ply_of(" ".join(words[1:])))
+    if words[0].lower() == INSTEAD:
+        return Instead(moves_from(" ".join(words[1:])))
     if words[0].lower() in HELPS:
         raise Helped(ALL_WAYS)
-    if NOUGHTS in map(with_a_hyphen, (*words, "".join(words))):
-        raise NotDone(BOTH_LOSE)
+    if with_a_hyphen("".join(words)) == NOUGHTS:
+        raise NotDone(NO_SCORE)
     return Added(text.strip())
 
 
@@ -94,6 +109,15 @@ def ply_of(text: str) -> str:
         return text
     stops = "." if found[2].count(".") == 1 else "..."
     return f"{int(found[1])}{stops} {text[found.end() :]}".strip()
+
+
+def moves_from(text: str) -> str:
+    """What follows `instead`, as the program takes it: the number of its first move says where."""
+    text = text.replace("…", "...")
+    found = OF_A_PLY.match(text)
+    if found is None:
+        raise NotDone(WHICH_MOVES)
+    return f"{found[1]}{found[2].replace(' ', '')} {text[found.end() :]}".strip()
 
 
 def numbered(to: str) -> bool:
@@ -177,6 +201,13 @@ def result_typed(program: Program, line: str) -> str:
 def ask_to_go_back(program: Program, options: Options, sent: bytes, to: str) -> Said:
     """What it answers if the game of these bytes is to go back so far. Raises OSError if it fails."""
     return _asked(program, options, sent, "back", f"--to={to}")
+
+
+def ask_for_way(program: Program, options: Options, sent: bytes, typed: Changes) -> Said:
+    """What it answers if the game of these bytes is to change so. Raises OSError if it fails."""
+    if isinstance(typed, Back):
+        return ask_to_go_back(program, options, sent, typed.to)
+    return _asked(program, options, sent, "instead", f"--line={typed.line}")
 
 
 def dump_at_end(program: Program, options: Options, sent: bytes) -> bytes:
@@ -286,6 +317,11 @@ def first_half(fen: Optional[str]) -> int:
     return 2 * number + (fields[1:2] == ["b"])
 
 
+def half_of(number: str) -> int:
+    """The half-move with a number, as `14.` or `14...`."""
+    return 2 * int(number.rstrip(".")) + number.endswith("..")
+
+
 def number_of(half: int) -> str:
     """The number of a half-move, as `14.` or `14...`."""
     return f"{half // 2}{'...' if half % 2 else '.'}"
@@ -306,12 +342,14 @@ def stays_of(said: Said) -> int:
 
 @dataclass(frozen=True)
 class Way:
-    """The plies of a game, how many of them stay, the result that goes, and the capture with those that stay."""
+    """The plies of a game, how many of them stay, the result that goes, the new capture; and the moves that come, and how many they are."""
 
     plies: Sequence[Move]
     stays: int
     result: str
     content: bytes
+    line: str = ""
+    come: int = 0
 
     @property
     def gone(self) -> Sequence[Move]:
@@ -321,19 +359,23 @@ class Way:
     @property
     def changes_nothing(self) -> bool:
         """Whether nothing goes."""
-        return not self.gone and self.result == NO_RESULT
+        return not self.gone and not self.line and self.result == NO_RESULT
 
     @property
     def question(self) -> str:
-        """The question before so many plies go; empty if they may go at once."""
-        many = len(self.gone) > WITHOUT_A_QUESTION
-        return Message("back.asks", count=len(self.gone), ply=self.gone[0].short) if many else ""
+        """The question before so many plies go and no others come; empty if they may go at once."""
+        gone = self.gone[self.come :]
+        return Message("back.asks", count=len(gone), ply=gone[0].short) if len(gone) > WITHOUT_A_QUESTION else ""
 
     @property
     def words(self) -> str:
-        """What was done: `back to 14. Bxf6; taken off: 14... Qd7 15. Rd1`."""
-        parts: List[str] = [Message("back.done", ply=reached(self.plies[: self.stays]))]
-        parts.append(Message("back.taken_off", plies=moves_of(self.gone)) if self.gone else Message("back.none_off"))
+        """What was done: `back to 14. Bxf6; taken off: 14... Qd7 15. Rd1`, `now 14... Nd7; taken off: 14... Qd7`."""
+        done = Message("instead.done", moves=self.line) if self.line else Message("back.done", ply=reached(self.plies[: self.stays]))
+        parts: List[str] = [done]
+        if self.gone:
+            parts.append(Message("back.taken_off", plies=moves_of(self.gone)))
+        elif not self.line:
+            parts.append(Message("back.none_off"))
         if self.result != NO_RESULT:
             parts.append(Message("back.result_gone", result=self.result))
         return linked("semicolon", parts)
@@ -348,12 +390,14 @@ class Way:
         return [*(Message("look.at", ply=ply) for ply in gone), *(Message("look.since", ply=ply) for ply in since)]
 
 
-def way_of(said: Said, plies: Sequence[Move]) -> Optional[Way]:
-    """The way back that the program has answered, in a game with these plies; None if it has refused, or has counted others."""
-    if said.kind != PLIES or len(said.words) != 5:
+def way_of(said: Said, plies: Sequence[Move], line: str = "") -> Optional[Way]:
+    """The way that the program has answered, in a game with these plies, where the moves of this line come, if any; None if it has refused,
+    or has counted others."""
+    if said.kind != PLIES:
         return None
-    stays, gone, result = stays_of(said), int(said.words[2].rstrip(",")), said.words[4]
-    return Way(plies, stays, result, said.put) if stays + gone == len(plies) else None
+    counts = [int(word[:-1]) for word in said.words if word.endswith(",")]
+    come = counts[2] if line else 0
+    return Way(plies, counts[0], said.words[-1], said.put, line, come) if counts[0] + counts[1] == len(plies) else None
 
 
 def not_back(said: Said, to: str, plies: Sequence[Move]) -> NotDone:
@@ -378,6 +422,31 @@ def not_back(said: Said, to: str, plies: Sequence[Move]) -> NotDone:
         return NotDone(Message("back.capture_full"))
     shows = Message("back.still_shown", moves=rest) if said.kind == MOVED else Message("typed.would_change")
     return NotDone(linked("stop", (shows, hint(kept))))
+
+
+OLD = "old"  # the board shows the end of the old moves
+
+
+def not_instead(said: Said, line: str, fen: Optional[str], plies: Sequence[Move]) -> NotDone:
+    """Why a game with these plies doesn't get the moves of this line in place of its last ones, and what to do."""
+    number = NUMBER.findall(line)[0]
+    if said.kind in (NEAREST, NO_PLY):
+        return NotDone(Message("instead.no_ply", number=number, next=number_of(first_half(fen) + len(plies))))
+    if said.kind == OLD:
+        return NotDone(Message("instead.old", ply=reached(plies)))
+    if said.kind == MOVED:
+        return NotDone(Message("instead.moved", moves=" ".join(said.words[1:])))
+    if said.kind == BOARD:
+        return NotDone(Message("instead.board"))
+    if said.kind in (SIGNED, UNSEEN, LONG):
+        return not_back(said, "", plies)
+    before = plies[: max(half_of(number) - first_half(fen), 0)]
+    return not_added(said, line, place_of(said, fen, [ply.san for ply in before], line))
+
+
+def no_way(said: Said, typed: Changes, fen: Optional[str], plies: Sequence[Move]) -> NotDone:
+    """Why a game with these plies doesn't change so."""
+    return not_back(said, typed.to, plies) if isinstance(typed, Back) else not_instead(said, typed.line, fen, plies)
 
 
 def hint(kept: Sequence[Move]) -> str:
@@ -444,3 +513,140 @@ def which_game(plies: int, is_before_unended: Optional[bool]) -> str:
     if plies == 0:
         return UNPLAYED
     return UNENDED if is_before_unended else THIS
+
+
+WHITE, BLACK, BOTH = "+-", "-+", "--"  # White wins, Black wins, nobody does
+SCORES: Dict[str, str] = {WHITE: "1-0", BLACK: "0-1", BOTH: NOUGHTS}
+TERMINATION = "rules infraction"
+SPELT: Dict[str, str] = {"+--": WHITE, "--+": BLACK}  # +:- and + - -, as pairing programs write them
+MARKED = re.compile(r"([01])F?-([01])(?:F|FF|K|FORFEIT)|([01])F-([01])F", re.IGNORECASE)
+BOTH_LOSE = Message("forfeit.both_lose")
+
+
+@dataclass(frozen=True)
+class Forfeit:
+    """The game isn't played."""
+
+    kind: str
+
+    @property
+    def words(self) -> str:
+        """What it comes to."""
+        return Message("forfeit.words", score=SCORES[self.kind])
+
+    @property
+    def result(self) -> str:
+        """The result in PGN."""
+        return NO_RESULT if self.kind == BOTH else SCORES[self.kind]
+
+
+def score_of(kind: str) -> str:
+    """The score of a forfeit; empty if there is none."""
+    return SCORES.get(kind, "")
+
+
+def in_one_word(text: str) -> str:
+    """Without blanks, and with one kind of dash."""
+    return re.sub("[–—−:]", "-", "".join(text.split()))
+
+
+def in_a_table(text: str) -> str:
+    """The forfeit that a table has; empty if it has none. Dashes alone, and 0-0, may mean that nothing was played yet."""
+    word = in_one_word(text)
+    word = SPELT.get(word, word)
+    if word in (WHITE, BLACK):
+        return word
+    marked = MARKED.fullmatch(word)
+    if not marked:
+        return ""
+    score = "-".join(filter(None, marked.groups()))
+    return next((kind for kind, known in SCORES.items() if known == score), "")
+
+
+def typed_forfeit(text: str) -> str:
+    """The forfeit that was typed in a line of its own; empty if it is something else."""
+    return BOTH if in_one_word(text) in (BOTH, "---") and len(text.split()) < 4 else in_a_table(text)
+
+
+def read_typed(text: str, name: str = "") -> Union[Forfeit, Typed]:
+    """What was typed in one line. Refused if it makes no sense."""
+    refuse_no_text(text)
+    kind = typed_forfeit(text)
+    if kind:
+        return Forfeit(kind)
+    if in_one_word(text) == NOUGHTS:
+        raise NotDone(Message("forfeit.noughts", no_score=NO_SCORE, both=BOTH))
+    words = text.split()
+    if len(words) > 1 and name and text.strip().endswith(f" {name}"):
+        named = in_a_table(" ".join(words[: -len(name.split())]))
+        if named:
+            raise NotDone(Message("forfeit.alone", score=SCORES[named]))
+    return read_words(text)
+
+
+def fits(kind: str, result: str, pgn: bytes) -> bool:
+    """Whether a game with this text and this result is the one that was forfeited: it has no move, and no other result was typed."""
+    return kind in SCORES and Forfeit(kind).result == result and is_unplayed(pgn)
+
+
+def told_to_readers(kind: str) -> Mapping[str, str]:
+    """The tag of what is published of a forfeited game."""
+    return {"Termination": TERMINATION} if kind else {}
+
+
+def refuse_played(plies: int, result: str, typed: Forfeit) -> None:
+    """Refused if a game with so many plies and this result can't be the one that is forfeited: it has a result as others have."""
+    if plies:
+        how = BOTH_LOSE if typed.kind == BOTH else Message("forfeit.type_the_result", result=typed.result)
+        raise NotDone(Message("forfeit.has_moves", how=how))
+    if typed.result == NO_RESULT and result != NO_RESULT:
+        raise NotDone(Message("forfeit.has_result", result=result, reopens=REOPENS))
+
+
+LONGEST_KEPT = 16  # bytes of the file, whoever wrote it
+
+
+def _words(paths: Paths) -> List[str]:
+    try:
+        return beginning(paths.forfeit, LONGEST_KEPT).decode("ascii", "replace").split()
+    except OSError:
+        return []
+
+
+def kept_forfeit(paths: Paths) -> str:
+    """What was kept, as far as it can be read."""
+    return "".join(_words(paths)[:1])
+
+
+def forfeited_after(paths: Paths) -> Optional[int]:
+    """How many bytes the capture had when the game was forfeited; None if that isn't known."""
+    sizes = [int(word) for word in _words(paths)[1:2] if word.isdecimal()]
+    return sizes[0] if sizes else None
+
+
+def forfeit_of(paths: Paths, pgn: bytes) -> str:
+    """How the game with this text was forfeited; empty if it wasn't."""
+    kind = kept_forfeit(paths) if is_unplayed(pgn) else ""
+    if not kind:
+        return ""
+    return kind if fits(kind, result_of(pgn), pgn) else ""
+
+
+def is_unended(paths: Paths) -> bool:
+    """Whether a game has no result, as far as its text can be read, and wasn't forfeited by both players."""
+    try:
+        pgn = existing(paths.pgn)
+    except OSError:
+        return True
+    return result_of(pgn) == "*" and not forfeit_of(paths, pgn)
+
+
+def keep_forfeit(paths: Paths, kind: str, size: int) -> None:
+    """Keeps it, and how many bytes the capture has now. Raises OSError on failure."""
+    put_in_place(paths.forfeit, f"{kind} {size}\n".encode("ascii"))
+
+
+def drop_forfeit(paths: Paths) -> None:
+    """The game is played after all."""
+    with contextlib.suppress(OSError):
+        remove(paths.forfeit)

@@ -17,16 +17,17 @@ import threading
 from dataclasses import astuple, dataclass, replace
 from typing import AbstractSet, Any, Callable, Iterator, List, Mapping, Optional, Sequence, Tuple
 
-from live.child.lines import CAPTURE, PIECE, TEXT, Answer, Answers, Move, Recovered, Result, entry, line_of
+from live.child.lines import CAPTURE, PIECE, TEXT, Answer, Answers, Move, Recovered, Result, line_of
 from live.child.program import CHUNK, Program, told_of_ending
-from live.game import timed, times
+from live.game import times
+from live.game.attending import entry
 from live.game.files import NO_SUCH_FILE, AnyPath, Opened, Paths, existing, open_regular, part_of, put_in_place
-from live.game.forfeits import forfeit_of, forfeited_after, told_to_readers
-from live.game.game import end_mark, has_delay, kept_options, kept_tags, result_of
+from live.game.game import end_mark, has_delay, kept_options, kept_tags, new_course, result_of, wanted
+from live.game.kept import milliseconds, times_of
 from live.game.options import Options
-from live.game.reading import new_course, wanted
 from live.game.tags import published
 from live.game.times import HEADED, OF_BYTES, OVER, Began, Begin, Call, Part, as_written, read_began, this_start
+from live.game.typed import forfeit_of, forfeited_after, told_to_readers
 from live.out.delay import Said, delay_of
 from live.out.spectators import STANDS, Clocks, Paired, Played, Player, Ply, Shot, Shots, SpectatorBoard, round_pgn
 from live.run.loop import Turns, Worker
@@ -124,7 +125,7 @@ def said_again(program: Program, games: Sequence[Paths], delay: float, now: Call
                 if kept is None:
                     continue
                 if until is None:  # whatever was read is older
-                    until = timed.milliseconds()
+                    until = milliseconds()
                     ahead, since = now() - until / 1000, until - int((delay + MARGIN) * 1000)
                 found = kept.came(until)
                 if not found:
@@ -163,7 +164,7 @@ class Kept:
     def of(paths: Paths, capture: str, opened: Opened) -> Optional[Kept]:
         """None if the capture isn't there, or is a link, which nobody records. The times are read first: so nothing is younger than
         they say."""
-        lines, began, is_last = _content(timed.times_of(capture)), _content(paths.began), capture == paths.capture
+        lines, began, is_last = _content(times_of(capture)), _content(paths.began), capture == paths.capture
         try:
             source = opened.keep(open_regular(capture, os.O_RDONLY | os.O_NOFOLLOW))
         except OSError:
@@ -204,7 +205,7 @@ class Told:
 
         def shot(at: float) -> Shot:
             """The game now; in place of its text it has the number of that."""
-            return shots.take(Played(course.plies, course.fens, course.result, b"%d" % (len(changed) - 1), "", course.clock, course.clock_at), at)
+            return shots.take(Played(course.plies, course.fens, course.result, b"%d" % (len(changed) - 1), "", course.shown.clock, course.shown.clock_at), at)
 
         def stood(until: float) -> None:
             """The clocks may have stopped before this time."""
@@ -307,7 +308,7 @@ def is_hidden(paths: Paths) -> bool:
             return False
         if forfeit and result == "*":
             return True  # nobody knows when that was typed
-        return youngest(paths) > timed.milliseconds() - delay * 1000
+        return youngest(paths) > milliseconds() - delay * 1000
     except OSError as error:
         return error.errno not in NO_SUCH_FILE
     except Refused:
@@ -318,7 +319,7 @@ def youngest(paths: Paths) -> int:
     """When the last byte of its game came."""
     with Opened() as opened:
         kept = Kept.of(paths, paths.capture, opened)
-        now = timed.milliseconds()
+        now = milliseconds()
         found = kept.came(now) if kept else []
         return found[-1].at if found else now
 

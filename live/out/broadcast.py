@@ -17,9 +17,8 @@ from live.out.again import Keeper, WentOut, games_before, read_shown, said_again
 from live.out.delay import GoingOut, OneGame, Said, Waiting
 from live.out.publish import Published, Publisher
 from live.out.spectators import UNKNOWN, Game, Paired, Shot, SpectatorBoard, round_pgn, said_of_matches
-from live.run.loop import Guard, Loop, Timer, Worker, traced
+from live.run.loop import Guard, Loop, Restarted, Timer, Worker, traced
 from live.run.refused import Refused
-from live.run.restarted import Restarted
 from live.words.message import Message, linked
 
 GATHERED = 0.05  # seconds in which changes are gathered if a page shows them

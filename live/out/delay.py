@@ -15,10 +15,10 @@ from dataclasses import dataclass, field
 from typing import Iterable, List, Optional, Sequence, Tuple
 
 from live.game.files import NO_SUCH_FILE, Paths, beginning, existing, not_written, put_in_place, remove, text_of
-from live.game.forfeits import told_to_readers
 from live.game.game import has_delay, owners_of
 from live.game.options import PLAYERS
 from live.game.tags import SIDES, published
+from live.game.typed import told_to_readers
 from live.out.spectators import NOTHING, OTHER, Game, Player, Shot, Shots, SpectatorBoard, played
 from live.run.refused import ARGUMENTS, FAILED, REFUSED, Refused
 from live.words.message import Message, linked

@@ -25,8 +25,7 @@ from typing import Callable, Iterable, List, NamedTuple, Optional, Sequence, Tup
 from live.board.state import trouble_of
 from live.game.files import AnyPath, put_in_place
 from live.game.making_pgn import Made
-from live.run.loop import ENDING, Guard, Timer, Turns, Worker
-from live.run.restarted import Restarted
+from live.run.loop import ENDING, Guard, Restarted, Timer, Turns, Worker
 from live.words.message import Message
 
 EACH = 5.0  # least seconds between the beginnings of two runs

@@ -16,10 +16,10 @@ from typing import Dict, FrozenSet, Iterable, List, Mapping, NamedTuple, Optiona
 
 from live.board.board import Board
 from live.child.lines import Clock, Move
-from live.game.forfeits import score_of
+from live.game.game import clocks_of
 from live.game.options import Options
-from live.game.reading import clocks_of
 from live.game.tags import Tags, pairs_of
+from live.game.typed import score_of
 from live.words.message import Message, linked, plural
 
 RESULT = re.compile(rb'^\[Result "[^"]*"\]$', re.MULTILINE)

@@ -8,9 +8,8 @@ from dataclasses import dataclass
 from typing import Callable, Optional, Sequence
 
 from live.child.program import Program
-from live.game.forfeits import typed_forfeit
 from live.game.options import IN_A_TABLE, Options, is_naming
-from live.game.typed import ABSENT, ALL_WAYS, ILLEGAL, MEANT, MOVES, OK_NUMBERED, RESULT, UNKNOWN, Acknowledged, Back, Reopened, Said, ask_to_add, moves_in, read_words
+from live.game.typed import ABSENT, ALL_WAYS, ILLEGAL, MEANT, MOVES, OK_NUMBERED, RESULT, UNKNOWN, Acknowledged, Back, Reopened, Said, ask_to_add, moves_in, read_words, typed_forfeit
 from live.out.delay import clock_in
 from live.out.outputs import Outputs
 from live.run.loop import Turns

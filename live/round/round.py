@@ -11,28 +11,28 @@ import time
 from types import MappingProxyType
 from typing import Callable, Dict, List, Mapping, Optional, Sequence, Set, Tuple, Union
 
-from live.board.advice import may_be_exchanged, same_number
 from live.board.board import Board
-from live.board.connection import Finder
+from live.board.finder import Finder
+from live.board.plan import Change
+from live.board.state import may_be_exchanged, same_number
 from live.child.lines import listed
 from live.game.files import size_of, text_of
-from live.game.forfeits import score_of, typed_forfeit
 from live.game.game import ROUND
 from live.game.log import Log, logged_at
 from live.game.options import PLAYERS
-from live.game.typed import MESSAGES, MOVES, NO_RESULT, UNKNOWN, Said, refuse_no_text
+from live.game.typed import MESSAGES, MOVES, NO_RESULT, UNKNOWN, Said, refuse_no_text, score_of, typed_forfeit
 from live.out.broadcast import Broadcast
 from live.out.delay import clock_in
 from live.out.outputs import Outputs
 from live.out.publish import FORFEIT, Published, Result
 from live.out.spectators import UNKNOWN as NOT_KNOWN, Paired, matches_of, round_pgn, told_of_matches
 from live.round.commands import Leaving, all_ways, is_command, said_of, told_of_answer, ways
-from live.round.row import Earlier, Hall, Line, News, Row, earlier_game, was_forfeited
+from live.round.row import Earlier, Hall, Line, Row, earlier_game, was_forfeited
 from live.round.tournament import another_folder
 from live.run.loop import Loop, Worker, traced
 from live.run.refused import DGT_ROUND, DONE, FAILED, HELPS, REFUSED, Answer, NotDone, Refused, printable, refusal, shown
 from live.show.table import NOT_RECORDED, Display, RowView, boards_are, boards_counted, lines_are_wrong
-from live.show.typed import Typed
+from live.show.terminal import Typed
 from live.table.encoding import is_question
 from live.table.hall import Source, not_plugged_in, with_some, without_twice
 from live.table.pairings import Pairing, Pairings, Wrong, told_of_wrong
@@ -282,17 +282,17 @@ class Round:
         pairs = ((number, pairing) for number, pairing in sorted(found.items()) if number not in self.rows)
         return [Paired(number, pairing.teams if pairing else ("", ""), pairing.result if pairing else NOT_KNOWN, False) for number, pairing in pairs]
 
-    def _hears(self, number: int, news: Union[News, Line]) -> None:
+    def _hears(self, number: int, news: Union[Change, Line]) -> None:
         """What has happened at the board with this number."""
         if isinstance(news, Line):
             (self.say_of_table if news.is_of_table else self.say)(news.text)
-        elif news is News.CHANGED:
+        elif news is Change.SHOWN:
             self.changed(number)
-        elif news is News.REMADE:
+        elif news is Change.REMADE:
             self.remade(number)
-        elif news is News.CAME_BACK:
+        elif news is Change.CAME_BACK:
             self._is_back(number)
-        else:
+        elif news is Change.NUMBERED:
             self._numbered(number)
 
     def _of_number(self, number: str) -> Optional[Board]:
@@ -462,7 +462,7 @@ class Round:
         self._typed.close()
         if self._asker:
             self._asker.close()
-        complaints = [linked("colon", (row.board.called, row.board.trouble)) for row in self.boards() if row.board.trouble]
+        complaints = [linked("colon", (row.board.among.called, row.board.trouble)) for row in self.boards() if row.board.trouble]
         unwritten = self._published.close()
         complaints += filter(None, [unwritten])
         left = self.outputs.hidden_for

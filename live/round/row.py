@@ -2,24 +2,21 @@
 
 from __future__ import annotations
 
-import enum
 import functools
 from dataclasses import dataclass
 from typing import Callable, List, NamedTuple, Optional, Tuple, Union
 
-from live.board.advice import Moves, all_of
 from live.board.board import Board
-from live.board.plan import Plan, Rules, Wanted
-from live.board.state import OTHER_BOARD, Kind, State
+from live.board.plan import BoardUp, Change, NotRecorded, Plan, Rules, Wanted
+from live.board.state import OTHER_BOARD, Kind, Moves, State, all_of
 from live.child.program import Program
 from live.game import files
 from live.game.files import Paths
-from live.game.forfeits import Forfeit, forfeit_of
-from live.game.game import end_mark, kept_options, result_in
+from live.game.game import clocks_of, end_mark, game_of, kept_options, result_in
 from live.game.log import Screen
 from live.game.opening import Chooses, Opening, checked, of_a_line, recordable, turned
 from live.game.options import IN_A_TABLE, PLAYERS, UNKNOWN, Options, is_naming
-from live.game.reading import clocks_of, game_of
+from live.game.typed import Forfeit, forfeit_of
 from live.line.line import check
 from live.line.protocol import SQUARES
 from live.out.delay import GoingOut
@@ -54,15 +51,6 @@ class Hall:
     outputs: Tuple[Output, ...] = ()  # beside that
 
 
-class News(enum.Enum):
-    """What has happened at a board, for its round."""
-
-    CHANGED = enum.auto()  # what its row shows has changed
-    REMADE = enum.auto()  # the text of its game has changed
-    CAME_BACK = enum.auto()  # it was away, and is there again
-    NUMBERED = enum.auto()  # its serial number has just become known
-
-
 class Line(NamedTuple):
     """A line for the screen; one that is about the table is in the round's log too."""
 
@@ -70,7 +58,7 @@ class Line(NamedTuple):
     is_of_table: bool = False
 
 
-Tells = Callable[[int, Union[News, Line]], None]  # gets what happens at the board with this number
+Tells = Callable[[int, Union[Change, Line]], None]  # gets what happens at the board with this number
 
 
 class RowScreen(Screen):
@@ -79,8 +67,8 @@ class RowScreen(Screen):
     def __init__(self, number: int, terminal: Optional[Terminal], tells: Tells) -> None:
         super().__init__(terminal)
         self._number = number
-        self.tells: Callable[[Union[News, Line]], None] = functools.partial(tells, number)
-        self.on_change = functools.partial(tells, number, News.CHANGED)
+        self.tells: Callable[[Union[Change, Line]], None] = functools.partial(tells, number)
+        self.on_change = functools.partial(tells, number, Change.SHOWN)
         self._has_table = terminal is None
         self._held: Optional[List[Tuple[str, ...]]] = None  # what is said while a typed line is obeyed
         self._of_table = False  # whether that line is a result of the table
@@ -243,13 +231,13 @@ class Row:
     """A board of the round. `of_number` finds the one that has a serial number."""
 
     def __init__(self, loop: Turns, hall: Hall, pairing: Pairing, tells: Tells, of_number: Callable[[str], Optional[Board]]) -> None:
-        self._loop, self._hall, self._of_number = loop, hall, of_number
+        self._loop, self._hall = loop, hall
         self.pairing = pairing
         paths = Paths(f"{hall.folder}/{pairing.file_name}")
         self._screen = RowScreen(pairing.board, hall.terminal, tells)
         self._screen.needs_board = self._is_played
-        self.board = Board(loop, hall.program, self._screen, paths, self)
-        self.board.called = Message("round.board", board=pairing.board)
+        self.board = Board(loop, hall.program, self._screen, paths, self._wanted, self._hears, of_number)
+        self.board.among.called = Message("round.board", board=pairing.board)
         self._screen.is_settled = lambda: bool(self.board.forfeit) or self.board.result == self.pairing.result
         self._device = ""  # the line's device when the recording began
         self._wants_result = True
@@ -288,11 +276,11 @@ class Row:
         """Ends its recording in order, then calls this."""
         self.board.end(done)
 
-    def wanted(self) -> Wanted:
+    def _wanted(self) -> Wanted:
         """What to record, as its line says."""
         pairing, hall = self.pairing, self._hall
-        has_cable = self.board.cable and pairing.device == self._device
-        device = self.board.cable if has_cable else pairing.device
+        has_cable = self.board.left.cable and pairing.device == self._device
+        device = self.board.left.cable if has_cable else pairing.device
         self._device, self._lacks_names = pairing.device, False
 
         def prepares() -> Chooses:
@@ -305,40 +293,19 @@ class Row:
         plan = Plan(device, f"{hall.folder}/{pairing.file_name}", Rules(listens=True), board=str(pairing.board), serial=pairing.serial)
         return Wanted(plan, lambda: Opening(hall.program, plan.paths, prepares, 0))
 
-    def changed(self) -> None:
-        """What it shows has changed."""
-        if self._wants_result and self.board.is_recorded:
-            self._loop.after(0, self._apply_result)
-        if self._begun_with and not self.board.is_new:
-            self._loop.after(0, self._begun_with)
-            self._begun_with = None
-        self._screen.tells(News.CHANGED)
-
-    def remade(self) -> None:
-        """The text of its game has changed."""
-        self._screen.tells(News.REMADE)
-
-    def ended(self, why: Optional[Exception]) -> bool:
-        """Its recording has ended, or couldn't begin. It is tried again unless the game is over."""
-        if why is None:
-            self._loop.after(0, self._apply_result)
-        return True
-
-    def came_back(self) -> None:
-        """Its board was away, and is there again."""
-        self._screen.tells(News.CAME_BACK)
-
-    def numbered(self) -> None:
-        """The serial number of its board has just become known."""
-        self._screen.tells(News.NUMBERED)
-
-    def missing(self) -> None:
-        """The round looks for all boards anyway."""
-
-    def owner(self, number: str) -> Optional[Board]:
-        """The other board that has this serial number."""
-        board = self._of_number(number)
-        return None if board is self.board else board
+    def _hears(self, up: BoardUp) -> None:
+        """This has happened at its board. If it isn't recorded, that is tried again unless the game is over."""
+        if isinstance(up, NotRecorded):
+            if up.why is None:
+                self._loop.after(0, self._apply_result)
+            return
+        if up is Change.SHOWN:
+            if self._wants_result and self.board.is_recorded:
+                self._loop.after(0, self._apply_result)
+            if self._begun_with and not self.board.is_new:
+                self._loop.after(0, self._begun_with)
+                self._begun_with = None
+        self._screen.tells(up)
 
     # Its line is read again.
 

@@ -1,6 +1,6 @@
 """One loop for all boards: file descriptors that are ready, timers that are due, signals that end it; a guard between the loop and each
-part of the recorder: an error in one board or one reader ends only that one; a thread beside it, for jobs that wait for the disk, or for a
-program to start; and what is done in steps, each of which waits for a job or for what the loop brings."""
+part of the recorder: an error in one board or one reader ends only that one, and some parts begin again then; a thread beside it, for jobs
+that wait for the disk, or for a program to start; and what is done in steps, each of which waits for a job or for what the loop brings."""
 
 from __future__ import annotations
 
@@ -9,7 +9,6 @@ import contextlib
 import functools
 import heapq
 import itertools
-import math
 import os
 import queue
 import select
@@ -19,6 +18,7 @@ import threading
 import time
 from dataclasses import dataclass
 from typing import Callable, Deque, Dict, Generator, List, NoReturn, Optional, Set, Tuple, TypeVar, Union, cast
+
 
 Callback = Callable[[], None]
 ENDING = (signal.SIGINT, signal.SIGTERM, signal.SIGHUP)
@@ -197,19 +197,6 @@ class Loop:
             _, _, timer = heapq.heappop(self._timers)
             if not timer.cancelled:
                 self._call(timer.callback)
-
-
-class Counting:
-    """The time in milliseconds, by a clock that counts on while the computer sleeps, and otherwise goes as the loop's. It never goes
-    back."""
-
-    def __init__(self) -> None:
-        self._slept = -math.inf  # the seconds by which it is ahead of the loop's clock, which stands still while the computer sleeps
-
-    def __call__(self) -> int:
-        now = Loop.now()
-        self._slept = max(self._slept, Loop.counting() - now)
-        return int((now + self._slept) * 1000)
 
 
 def time_away(seconds: float, waited: float) -> float:
@@ -479,3 +466,34 @@ def walk(steps: Steps[Result], done: Callable[[Union[Result, Exception]], None])
         done(result)
 
     resume(lambda: None)
+
+
+class Restarted:
+    """A part that begins again, with another guard, some seconds after an error has ended it. `trouble` gets each error."""
+
+    def __init__(self, loop: Turns, begins: Callable[[Guard], None], trouble: Callable[[str], None], pause: float) -> None:
+        self._loop, self._begins, self._trouble, self._pause = loop, begins, trouble, pause
+        self.closed = False
+        self._begin()
+
+    def _begin(self) -> None:
+        self.guard = Guard(self._loop, self._broke, lambda error: self._trouble(traced(error)))
+        self._begins(self.guard)
+
+    def _broke(self, error: Exception) -> None:
+        self._trouble(traced(error))
+        self._loop.after(self._pause, self._begin_again)
+
+    def _begin_again(self) -> None:
+        if self.closed:
+            return
+        try:
+            self._begin()
+        except Exception as error:
+            self.guard.end()
+            self._broke(error)
+
+    def end(self) -> None:
+        """Ends it for good."""
+        self.closed = True
+        self.guard.end()

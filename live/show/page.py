@@ -26,9 +26,8 @@ from typing import Any, Callable, Dict, List, Optional, Sequence, Tuple
 
 from live.out.broadcast import Broadcast
 from live.out.spectators import json_text, pgn_path, round_pgn, round_text
-from live.run.loop import Guard, Loop, Timer, Turns
+from live.run.loop import Guard, Loop, Restarted, Timer, Turns
 from live.run.refused import Refused
-from live.run.restarted import Restarted
 from live.show.address import HERE, HIGHEST_PORT, Address, Door, Names, Pages
 from live.show.serving import PART, Content, Server
 from live.show.view import ArbiterView, Board, RoundView

@@ -21,9 +21,8 @@ from live.game.making_pgn import Made
 from live.out.broadcast import Broadcast
 from live.out.publish import outcome
 from live.out.spectators import SpectatorBoard, json_text, pgn_path, printed, round_pgn, round_text
-from live.run.loop import Guard, Turns, Worker
+from live.run.loop import Guard, Restarted, Turns, Worker
 from live.run.refused import REFUSED, Refused
-from live.run.restarted import Restarted
 from live.show.page import FOLDER, SPECTATORS, Title, index_of
 from live.show.view import RoundView
 from live.words.message import Message

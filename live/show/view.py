@@ -5,9 +5,9 @@ from __future__ import annotations
 from dataclasses import dataclass, field, replace
 from typing import Callable, Dict, Iterable, Mapping, Optional, Protocol, Tuple, Union
 
-from live.board.advice import wants_a_line
+from live.board.state import wants_a_line
+from live.game.game import clocks_of
 from live.game.options import PLAYERS
-from live.game.reading import clocks_of
 from live.game.tags import SIDES
 from live.out.spectators import Game, Player, Ply, SpectatorBoard, board_text, json_text, pgn_path, players_of, sheet_of
 from live.run.loop import traced

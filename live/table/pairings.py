@@ -6,11 +6,10 @@ import re
 from dataclasses import dataclass, field, replace
 from typing import Dict, List, Optional, Sequence, Tuple, Union
 
-from live.game.forfeits import BLACK as FORFEIT_OF_WHITE, BOTH as BOTH_ABSENT, WHITE as FORFEIT_OF_BLACK, in_a_table, in_one_word, score_of
 from live.game.game import OF_A_GAME, OF_A_ROUND
 from live.game.options import FEN, FIRST, PLAYERS, RECOVER, STRICT, TAG, assigned
 from live.game.tags import OTHERS, Malformed, cleaned, is_seen, value_of
-from live.game.typed import NOUGHTS
+from live.game.typed import BLACK as FORFEIT_OF_WHITE, BOTH as BOTH_ABSENT, NOUGHTS, WHITE as FORFEIT_OF_BLACK, in_a_table, in_one_word, score_of
 from live.line.line import HOW, is_network, read_address
 from live.line.protocol import SERIAL_LENGTH
 from live.run.refused import DGT_LIVE, REFUSED, Refused

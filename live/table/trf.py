@@ -13,8 +13,8 @@ import re
 from dataclasses import dataclass
 from typing import Dict, List, Optional, Tuple
 
-from live.game.forfeits import BLACK, BOTH, WHITE
 from live.game.tags import Malformed, cleaned, value_of
+from live.game.typed import BLACK, BOTH, WHITE
 from live.run.refused import ARGUMENTS, REFUSED, Refused
 from live.table.encoding import loose_text, text_of
 from live.table.pairings import MOST_UNKNOWN, NO, YES, Pairing, Pairings, Wrong, more_lines, shown

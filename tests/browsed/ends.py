@@ -294,7 +294,7 @@ def back_into_a_pair(folder: pathlib.Path) -> None:
         until_over(stage, page)
         page.type("back")
         stage.until(lambda: not page.text("#answer").startswith("added"), "an answer")
-        told = "refused: the board still shows 3. Bb5: it would come back at once. If other moves were played, lift a king"
+        told = "refused: the board still shows 3. Bb5: it would come back at once. If another move was played, wait for the next one"
         assert page.text("#answer").startswith(told), page.text("#answer")
         same((page.text("#state"), page.moves), ("over", RUY_SANS[:5]))
         same(movetext_of(stage.saved(page, "#save-game")), "1. e4 e5 2. Nf3 Nc6 3. Bb5 1-0")

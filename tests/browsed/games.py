@@ -217,7 +217,7 @@ def typed(folder: pathlib.Path) -> None:
         page.type("Nf3 Nc6")
         stage.until_moves(page, RUY_SANS[:4])
         play(stage, page, port, RUY[4:6], RUY_SANS[4:6])
-        answered(stage, page, "back", "the board still shows 3... a6: it would come back at once. If other moves were played, lift a king")
+        answered(stage, page, "back", "the board still shows 3... a6: it would come back at once. If another move was played, wait for the next one")
         port.board.play("a6a7")
         stage.until_dumped(page, port)
         answered(stage, page, "back", "back to 3. Bb5; taken off: 3... a6")

@@ -56,7 +56,7 @@ def help_is_given(folder: pathlib.Path) -> None:
         answered(stage, page, "back 0", "back 0: the game has no move")
         answered(stage, page, "back", "back: the game has no move")
         answered(stage, page, "back 1", "which ply? Type it as the screen printed it")
-        for text in ("nf3", "g1f3"):
+        for text in ("nf3", "Ng1f3"):
             answered(stage, page, text, "write Nf3")
         for text in ("5 Nf3", "5 1-0", "5 +-", "1 ok"):
             answered(stage, page, text, f"refused: {text}: leave out the number in front. Type 1-0")

@@ -9,8 +9,8 @@ import tempfile
 from typing import Dict, List, Optional, Tuple
 
 from live.game import times
-from live.game.files import Capture, Opened, Paths, existing
-from live.game.timed import Times, milliseconds
+from live.game.files import Opened, Paths, existing
+from live.game.kept import Capture, Times, milliseconds
 from live.game.times import Began, BeganFile, Begin, as_written, began_line, part_line, read_began, sum_of, summed, this_start
 from live.out.again import Came, Kept, calls_of, came, games_before, over_at, within
 

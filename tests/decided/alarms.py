@@ -4,8 +4,8 @@ import math
 from types import SimpleNamespace
 from typing import Any, List, Tuple
 
-from live.board.advice import Moves, if_not
 from live.board.over import Afterwards
+from live.board.state import Moves, if_not
 from live.child.lines import SINCE, Doubt, Move, line_of
 from live.game.looks import FromTheStart, look_of
 

@@ -5,7 +5,7 @@ import dataclasses
 import json
 from typing import Any, Dict
 
-from live.game.typed import ALL_WAYS, BOTH_LOSE, WAYS, WHICH_PLY, Back, Said, Typed, meaning, not_added, place_of, read_answer, read_words, with_more
+from live.game.typed import ALL_WAYS, NO_SCORE, WAYS, WHICH_MOVES, WHICH_PLY, Back, Said, Typed, meaning, not_added, place_of, read_answer, read_words, with_more
 from live.run.refused import NO_TEXT, REFUSED, Asked, Helped, NotDone, refusal
 from live.words.message import Message
 
@@ -31,11 +31,13 @@ def commands() -> None:
     for text, expected in cases("answers", "typed"):
         same(repr(text), told(read_words(text)), expected)
     for text in cases("answers", "noughts"):
-        same(text, refused(text, NotDone, read_words, text), BOTH_LOSE)
+        same(text, refused(text, NotDone, read_words, text), NO_SCORE)
     for text, to in cases("answers", "plies"):
         same(f"back {text}", read_words(f"back {text}"), Back(to))
     for text in cases("answers", "which ply"):
         same(text, refused(text, NotDone, read_words, text), WHICH_PLY)
+    for text in cases("answers", "which moves"):
+        same(text, refused(text, NotDone, read_words, text), WHICH_MOVES)
     for text in ("Nf3 \udcff", "\udcc3", "1-0\0", "\0"):
         same(repr(text), refused(repr(text), NotDone, read_words, text), NO_TEXT)
     same("the start of it is shown", refusal("e4 \x1b[2J" + 99 * "N", NotDone("why")), (REFUSED, "refused: e4 ?[2J" + 53 * "N" + ": why"))

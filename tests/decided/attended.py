@@ -2,7 +2,8 @@
 
 from typing import List
 
-from live.child.lines import PIECE, Answer, Answers, Doubt, NoAnswer, Over, Stood, entry, pieces
+from live.child.lines import PIECE, Answer, Answers, Doubt, NoAnswer, Over, Stood
+from live.game.attending import entry, pieces
 from live.game.times import ANSWERED, CALLED, GONE, OPENED, TOOK, line_after
 
 from decided.table import refused, same

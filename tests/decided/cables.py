@@ -4,11 +4,12 @@ from types import SimpleNamespace
 from typing import Any, Iterable, List, Tuple
 
 from live.board import cable as cable_module
-from live.board.attending import Told
 from live.board.board import Board
 from live.board.cable import Cable, Foreign, FromCable
 from live.board.connection import Happened
+from live.board.plan import Among, Plan, Rules
 from live.child.lines import Answer
+from live.game.attending import Told
 from live.game.times import HEARD
 
 from decided.table import same
@@ -64,8 +65,8 @@ def in_flight() -> None:
     try:
         for name, steps, expected in WHOSE:
             game, unused = Game(), _nothing()
-            asked: Any = SimpleNamespace(connection=None)
-            cable = Cable(unused, unused, unused, "board1", False, "00001", unused, unused, asked)
+            means: Any = SimpleNamespace(guard=None)
+            cable = Cable(means, unused, Plan("board1", "game", Rules()), "00001", unused, unused)
             game.takes(cable.plays_elsewhere())
             for who, sent, answer in steps:
                 game.takes((cable.answered if who == OWN else cable.of_another)(Told(0.0, HEARD, sent), answer, None))
@@ -80,10 +81,9 @@ def _nothing() -> Any:
 
 def without_a_number() -> None:
     """A number that isn't known is no board's, though other boards have none."""
-    other: Any = SimpleNamespace(called="board 2", plies=[], takes=lambda sent: True)
-    hears: Any = SimpleNamespace(owner=lambda number: other)
+    other: Any = SimpleNamespace(among=Among("board 2"), plies=[], takes=lambda sent: True)
     board = object.__new__(Board)
-    board._hears = hears
+    setattr(board, "_of_number", lambda number: other)
     same("a number", (board.lends("00002", b"a"), bool(board.owner("00002"))), (True, True))
     same("none", (board.lends("", b"a"), board.owner("")), (False, None))
 

@@ -32,7 +32,7 @@ NO_SENTENCES: Dict[str, Tuple[str, ...]] = {
     "live/run/loop.py": ("Traceback", '  File "'),  # as Python prints where an error was raised
     "live/show/site.py": ("default-src", "<link"),  # HTML
     "live/round/tournament.py": ("# The settings of the tournament", "board;white;"),  # files that are made
-    "live/show/typed.py": ("to the end", "to the start"),
+    "live/show/terminal.py": ("to the end", "to the start"),
     "live/show/page/message.js": ("the catalogue has no {}",),
     "live/show/http.py": ("Method Not", "Content Too", "URI Too", "Request Header", "HTTP Version", "default-src"),  # as HTTP has them
     # Where there is no catalogue.

@@ -4,8 +4,7 @@ from typing import List
 from unittest import mock
 
 from live.show import terminal
-from live.show.terminal import part_shown, width_of
-from live.show.typed import KEPT, Entered, Line, after
+from live.show.terminal import KEPT, Entered, Line, after, part_shown, width_of
 
 from decided.table import same
 

@@ -1,6 +1,6 @@
 """Whether the cables of two boards may have been exchanged, though nothing shows it; which boards have one number; and what is said then."""
 
-from live.board.advice import Return, Returned, came_back, may_be_exchanged, same_number, told_of_exchange, told_of_same_number
+from live.board.state import Return, Returned, came_back, may_be_exchanged, same_number, told_of_exchange, told_of_same_number
 
 from decided.cases import cases
 from decided.table import same

@@ -2,9 +2,8 @@
 
 from typing import Dict
 
-from live.game.forfeits import Forfeit, fits, in_a_table, read_typed, refuse_played, typed_forfeit
 from live.game.game import is_unplayed
-from live.game.typed import Added
+from live.game.typed import Added, Forfeit, fits, in_a_table, read_typed, refuse_played, typed_forfeit
 from live.run.refused import NotDone
 from live.table.pairings import read_pairings, result_of
 from live.table.trf import outcome_of

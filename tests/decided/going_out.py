@@ -13,8 +13,8 @@ from typing import Callable, List, Optional, Tuple
 from live.child.lines import Clock
 from live.game import times
 from live.game.files import Paths
+from live.game.kept import milliseconds
 from live.game.tags import published
-from live.game.timed import milliseconds
 from live.game.times import Began, began_line, part_line, summed, this_start
 from live.out.again import is_hidden, is_unseen
 from live.out.delay import (

@@ -11,14 +11,15 @@ import sys
 import tempfile
 from typing import Callable, Dict, List, Tuple, cast
 
-from live.board.attended import Disk
 from live.board.connection import Asked, listing, told_of_shut
+from live.board.playing import Disk
 from live.board.state import DISK_FULL, NOT_WRITTEN, Standing
 from live.child.program import Program
 from live.doors import dgt_round
-from live.game import files, log as log_file
-from live.game.files import Capture, not_written, open_regular, plain
+from live.game import kept, log as log_file
+from live.game.files import not_written, open_regular, plain
 from live.game.game import check_name
+from live.game.kept import Capture
 from live.game.log import Log, Screen
 from live.game.making_pgn import Made
 from live.game.opening import is_recorded, reason
@@ -129,16 +130,16 @@ def no_names() -> None:
 def no_right() -> None:
     """Files and folders that this user may not write."""
     with tempfile.TemporaryDirectory() as folder:
-        path, real = f"{folder}/game.dgt", files.open_regular
+        path, real = f"{folder}/game.dgt", open_regular
 
         def denied(*_: object) -> int:
             raise PermissionError(errno.EACCES, os.strerror(errno.EACCES))
 
-        setattr(files, "open_regular", denied)
+        setattr(kept, "open_regular", denied)
         try:
             said = refused("a capture", Refused, Capture.open, path)
         finally:
-            setattr(files, "open_regular", real)
+            setattr(kept, "open_regular", real)
         same("a capture", said, f"{path} can't be written (Permission denied): get the right to, or choose another name")
         for number, why in (
             (errno.EACCES, "(Permission denied): put that right"), (errno.EFBIG, "(File too large): put that right"),

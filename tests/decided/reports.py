@@ -3,12 +3,12 @@
 import dataclasses
 import json
 import random
-from typing import Any, Dict, List, Optional, Sequence
+from typing import Any, Dict, List, Optional, Sequence, Tuple
 
-from live.child.lines import NEWS, Line, Move, Recovered, Result, by_byte, line_of
+from live.child.lines import Agrees, Line, Move, Picture, Position, Recovered, Result, by_byte, line_of
+from live.game.game import Course, clocks_of, wanted
 from live.game.options import Options
-from live.game.reading import Course, clocks_of, wanted
-from live.line.protocol import SQUARES, picture_of_placement
+from live.line.protocol import SQUARES
 from live.run.refused import Refused
 
 from decided.cases import cases
@@ -44,23 +44,24 @@ def lines() -> None:
 
 
 def news() -> None:
-    """What changes the game is known by how its words begin, before they are read; and the lines of a byte stay together."""
+    """What changes the game is shown, and nothing else; and the lines of a byte stay together."""
     for text, line in cases("reports", "lines"):
         if line is not None:
             changes = isinstance(a_line(text).event, (Move, Result, Recovered))
-            same(text[:60], text.partition(" ")[2].startswith(NEWS), changes)
-    for report, expected in [
+            same(text[:60], [bool(reported.shown) for reported in by_byte([text])], [changes])
+    reports: List[Tuple[str, List[Any]]] = [
         ("", []),
-        ("0 position start", [(0, ["position start"])]),
-        ("9 picture a\n9 move 1. e4\n12 agrees", [(9, ["picture a", "move 1. e4"]), (12, ["agrees"])]),
-        ("9 agrees\nrest 5\n9 agrees\n12\n", [(9, ["agrees", "agrees"]), (12, [""])]),
-    ]:
+        ("0 position start", [(0, [Position("start")], [])]),
+        ("9 picture a\n9 move 1. e4\n12 agrees", [(9, [Picture("a"), Move("1.", "e4")], ["1. e4"]), (12, [Agrees()], [])]),
+        ("9 agrees\nrest 5\n9 agrees\n12\n", [(9, [Agrees(), Agrees()], []), (12, [], [])]),
+    ]
+    for report, expected in reports:
         same(f"{report!r}", by_byte(report.split("\n")), expected)
 
 
 def course_of(texts: Sequence[str], seconds: float = 1.0) -> Course:
     """The course of a game that begins at the start, of lines that come one after the other."""
-    course = Course(picture_of_placement(START))
+    course = Course(START)
     for number, text in enumerate(texts):
         line = line_of(text)
         if line:
@@ -105,7 +106,7 @@ def ends() -> None:
 
 def seen(course: Course) -> object:
     """What the course of a game comes to."""
-    return course.placement, course.clock, course.result, course.standing()
+    return course.shown.placement, course.shown.clock, course.result, course.standing()
 
 
 def enough() -> None:
@@ -130,7 +131,7 @@ def enough() -> None:
             if chance.random() < 0.3:
                 part.append(f"{offset} move 2. Nf3")
             parts.append(part)
-        few = [text for part in parts for text in wanted(part, picture_of_placement(START))]
+        few = [text for part in parts for text in wanted(part, START)]
         fewer += sum(map(len, parts)) - len(few)
         all_of = course_at([*texts, *(text for part in parts for text in part)])
         same(f"trial {trial}", seen(course_at([*texts, *few])), seen(all_of))
@@ -139,7 +140,7 @@ def enough() -> None:
 
 def course_at(texts: Sequence[str]) -> Course:
     """As lines of which each comes at the time of its byte."""
-    course = Course(picture_of_placement(START))
+    course = Course(START)
     for text in texts:
         line = a_line(text)
         course.take(line, line.offset / 50)

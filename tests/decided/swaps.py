@@ -2,15 +2,15 @@
 
 from typing import Iterable, List
 
-from live.board.attended import Numbered
-from live.board.attending import Told
 from live.board.cable import Cable, Foreign, FromCable, Gone, OtherBoard, OwnIsBack
-from live.board.connection import PLUGGED, Happened
+from live.board.connection import PLUGGED, Connection, Happened
+from live.board.plan import Means, Numbered, Plan, Rules
 from live.child.lines import KEEP, OTHER, Answer
 from live.child.program import Program
+from live.game.attending import Told
 from live.game.log import Screen
 from live.game.times import HEARD
-from live.run.loop import Guard, Loop
+from live.run.loop import Guard, Loop, Worker
 
 from decided.table import same
 
@@ -41,7 +41,10 @@ def word_of(one: FromCable) -> str:
 def cable_of(number: str) -> Cable:
     """The cable of a board with this number, whose line is open."""
     guard = Guard(Loop(), lambda error: None, lambda error: None)
-    cable = Cable(guard, NO_PROGRAM, Screen(None), "/dev/none", False, number, lambda it: None, lambda told, answer: None)
+    plan, worker = Plan("/dev/none", "game", Rules()), Worker(guard)
+    guard.opened(worker.close)
+    connection = Connection(guard, NO_PROGRAM, plan.device, lambda it: None)
+    cable = Cable(Means(guard, worker, Screen(None)), NO_PROGRAM, plan, number, connection, lambda told, answer: None)
     same("its line is open", words_of(cable.happens(Happened(PLUGGED), None)), [])
     return cable
 
@@ -60,7 +63,7 @@ def told_at_once() -> None:
         ("its own still", cable.answered, own, is_own, [], ""),
     ):
         said = words_of(hears_it(message, answer, None))
-        same(f"{name}: told, and the board on it", (said, cable.other), (told, on_it))
+        same(f"{name}: told, and the board on it", (said, cable.another.number), (told, on_it))
 
 
 def its_own_number() -> None:

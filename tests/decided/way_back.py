@@ -3,7 +3,7 @@ screen prints."""
 
 from live.child.lines import Move
 from live.game.looks import OVER, Look, Looks
-from live.game.typed import Said, Way, asked_of, not_back, nothing_goes, numbered, played_since, read_answer, stays_of, taken_up, way_of
+from live.game.typed import Said, Way, asked_of, not_back, not_instead, nothing_goes, numbered, played_since, read_answer, stays_of, taken_up, way_of
 
 from decided.cases import cases
 from decided.table import same
@@ -29,6 +29,16 @@ def answers() -> None:
     for count, to, expected in cases("way_back", "nothing"):
         same(f"{to} of {count}", str(nothing_goes(Way(PLIES[:count], count, "*", b""), to)), expected)
     same("numbered", [numbered(to) for to in ("14. Bxf6", "14.", "14... Qd7", "Bxf6", "14 Bxf6", "", "all")], [True, True, True, False, False, False, False])
+
+
+def instead() -> None:
+    """Other moves come in place of the last ones."""
+    for text, line, told, asked in cases("way_back", "instead"):
+        way = way_of(read_answer("instead", 0, f"instead: {text}\n", b"new"), PLIES, line)
+        same(f"{text}, {line}", way and [way.words, way.question, way.changes_nothing, way.content], [told, asked, False, b"new"])
+    for text, line, expected in cases("way_back", "no instead"):
+        said = read_answer("instead", 1, f"instead: {text}\n", b"")
+        same(f"{text}, {line}", [str(not_instead(said, line, None, PLIES)), way_of(said, PLIES, line)], [expected, None])
 
 
 def plies() -> None:
@@ -60,4 +70,4 @@ def taken_up_again() -> None:
         same(expected, played_since(PLIES[:count], now), expected)
 
 
-TABLES = [answers, plies, looks, taken_up_again]
+TABLES = [answers, instead, plies, looks, taken_up_again]

@@ -1,7 +1,7 @@
 """Whose board is on a cable: what it says of itself, and whether what comes from it is the game's, by the rules in Python that `live` is
 compared with; and what is said of another board."""
 
-from live.board.advice import Owner, another, back, changing, may_take
+from live.board.state import Owner, another, back, changing, may_take
 
 from attending.whose_rules import Whose
 from decided.cases import cases

@@ -21,6 +21,9 @@ export function words(counts, cases) {
   for (const [text, to] of cases("plies")) {
     counts.same(`back ${text}`, readWords(`back ${text}`), { kind: "back", to });
   }
+  for (const text of cases("which moves")) {
+    counts.same(text, counts.refused(text, "Refused", () => readWords(text)).startsWith("the number of the first move"), true);
+  }
   for (const text of cases("which ply")) {
     counts.same(text, counts.refused(text, "Refused", () => readWords(text)).startsWith("which ply? Type it as"), true);
   }

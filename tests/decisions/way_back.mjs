@@ -1,6 +1,6 @@
 /** The way back: what is asked and told. The program finds the ply and makes the capture anew. */
 import { Looks, OVER } from "/web/game/alarms.js";
-import { askedOf, playedSince, question, readBack, refuseBack, refuseNothing, settled, takenUp, wordsOfBack } from "/web/game/typed.js";
+import { askedOf, playedSince, question, readBack, readInstead, refuseBack, refuseInstead, refuseNothing, settled, takenUp, wordsOfBack, wordsOfInstead } from "/web/game/typed.js";
 
 const moveOf = ([number, san, clock]) => ({ kind: "move", number, san, clock, corrects: false });
 const read = (status, said) => readBack({ status, errors: new TextEncoder().encode(`${said}\n`), output: new Uint8Array(2) });
@@ -22,6 +22,21 @@ export function plies(counts, cases) {
   }
   counts.same("a result goes", refuseNothing(game, 12, "1-0", "*"), undefined);
   counts.same("a ply goes", refuseNothing(game, 11, "*", ""), undefined);
+}
+
+/** Other moves come in place of the last ones. */
+export function instead(counts, cases) {
+  const game = cases("plies").map(moveOf);
+  const say = (status, said) => readInstead({ status, errors: new TextEncoder().encode(`instead: ${said}\n`), output: new Uint8Array(2) });
+  for (const [said, line, told, asked] of cases("instead")) {
+    const { stays, come, put } = say(0, said);
+    counts.same(`${said}: put`, put.length, 2);
+    counts.same(`${said}: asked`, question(game.slice(stays + come)), asked);
+    counts.same(`${said}: told`, wordsOfInstead(game, stays, line, said.split(" ").pop()), told);
+  }
+  for (const [said, line, expected] of cases("no instead")) {
+    counts.same(said, refuseInstead(say(1, said), line, null, game).message, expected);
+  }
 }
 
 export function looks(counts, cases) {

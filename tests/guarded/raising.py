@@ -180,14 +180,14 @@ def selves(frame: Optional[types.FrameType]) -> Iterator[object]:
 def named(one: object) -> str:
     """The part that an object is, or that it is of."""
     kind = type(one)
-    for part in (one, getattr(one, "_hears", None)):
+    for part in (one, getattr(getattr(one, "_tells", None), "__self__", None)):
         board = getattr(getattr(part, "pairing", None), "board", None)
         if board is not None:
             return f"board {board}"
     begins = type(getattr(getattr(one, "_begins", None), "__self__", None))  # what is begun again
     if PAGES & {kind.__module__, begins.__module__}:
         return "page"
-    return "typed" if (kind.__module__, kind.__name__) == ("live.show.typed", "Typed") else ""
+    return "typed" if (kind.__module__, kind.__name__) == ("live.show.terminal", "Typed") else ""
 
 
 def put_back_at_each_turn(raising: Raising) -> None:

@@ -112,30 +112,28 @@ def typed_nonsense(folder: pathlib.Path) -> None:
 
 
 def typed_in_other_letters(folder: pathlib.Path) -> None:
-    """Moves in small letters, in those of another language, or with both squares: the answer says how they are written."""
+    """Moves in small letters, in those of another language, or with the piece and both squares: the answer says how they are written. Both
+    squares alone are a move."""
     board, live = begin_game(folder, typed=True)
     board.play("g1f3")
     until_game(live.name, "1. e4 e5 2. Nf3 *")
     asked = {
         "nf6": "refused: nf6: write Nf6",
         "Sf6": "refused: Sf6: write Nf6",
-        "g8f6": "refused: g8f6: write Nf6",
         "Ng8f6": "refused: Ng8f6: write Nf6",
-        "Nf6 f3e5 Dxe5": "refused: Nf6 f3e5 Dxe5: f3e5: write Nxe5",
         "Nf6 Dxe5": "Dxe5 is no legal move: White is to move, after 2... Nf6",
-        "Nf6 f3e5": "refused: Nf6 f3e5: f3e5: write Nxe5, the piece's letter and where it goes. Nothing was added",
-        "Nf6 Bc4 Bc5 e1g1": "e1g1: write O-O, with letters. Nothing was added",
+        "Nf6 Nf3e5": "refused: Nf6 Nf3e5: Nf3e5: write Nxe5, the piece's letter and where it goes. Nothing was added",
         "f7f8": "refused: f7f8 is no legal move",
         "Nf6 bb5": "bb5: write Bb5",
         "e5e4": "refused: e5e4 is no legal move",
-        "g8-f6": "refused: g8-f6: write Nf6, the piece's letter and where it goes",
+        "Ng8-f6": "refused: Ng8-f6: write Nf6, the piece's letter and where it goes",
     }
     for text, part in asked.items():
         said = len(live.lines())
         live.type(text)
         until(lambda: live.lines()[said:].count("\n"), f"an answer to {text}")
         assert part in live.lines()[said:], live.lines()[said:]
-    live.type("Nf6")
+    live.type("g8f6")
     until_game(live.name, "1. e4 e5 2. Nf3 Nf6 *")
     same(stop(live), 0)
 

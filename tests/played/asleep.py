@@ -12,14 +12,19 @@ from played.boards import Board
 from played.recorder import Live
 from played.stage import begin_game, rest, same, stop, until_dumped, until_game, until_line
 
-# Starts the recorder with a clock of the case's: its seconds are in a file.
+# Starts the recorder with a clock that is ahead by as many seconds as a file says. Its turns are told apart by these alone: a slow machine
+# is no time away.
 CLOCK = """
-import pathlib, runpy, sys
+import pathlib, runpy, sys, time
 sys.dont_write_bytecode = True
 file, sys.argv = pathlib.Path(sys.argv[1]), sys.argv[2:]
 sys.path.insert(0, {top!r})
 from live.run import loop
-loop.Loop.counting = staticmethod(lambda: float(file.read_text()))
+ahead, begins = lambda: float(file.read_text()), loop.Loop.__init__
+def begin(self):
+    self.counting = ahead
+    begins(self)
+loop.Loop.__init__, loop.Loop.counting = begin, staticmethod(lambda: time.monotonic() + ahead())
 runpy.run_path(sys.argv[0], run_name="__main__")
 """
 THERE_AND_BACK = ["g1f3", "g8f6", "f3g1", "f6g8"]  # four plies after which the pieces stand as before
@@ -30,7 +35,7 @@ NOTHING_HAPPENED, LOOK = "LOOK after 1... e5", "LOOK"
 
 class Clock:
     """The clock by which a recorder sees that it was away: it counts on while the computer sleeps, and that of all timers doesn't.
-    It stands still until it is put forward."""
+    It is put forward."""
 
     def __init__(self, folder: pathlib.Path) -> None:
         self._file, script = folder / "clock", folder / "clock.py"

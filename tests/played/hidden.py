@@ -15,12 +15,11 @@ QUEUED = "queued"  # a folder beside the games
 # folder what spectators see of each game, and what waits, whenever that has changed.
 NOTES = """
 import json, os, pathlib, time
-from live.game import timed
 from live.out import delay
 from live.run import loop
 loop.Loop.now = staticmethod(lambda: time.monotonic() + float(ahead.read_text()))
-timed.milliseconds = lambda: int((loop.Loop.counting() + float(ahead.read_text())) * 1000)
-loop.Counting.__call__ = lambda self: timed.milliseconds()
+loop.Loop.counting = staticmethod(lambda: time.clock_gettime(time.CLOCK_BOOTTIME) + float(ahead.read_text()))
+loop.Loop._turned = lambda self, waited=0.0: None  # that they are put forward is no time away
 def notes(name):
     real, noted = getattr(delay.OneGame, name), {}
     def called(self, *words):

@@ -36,7 +36,7 @@ NOBODY = 65534
 IMPOSTOR = """
 import os, socket, sys
 sys.path.insert(0, {top!r})
-from live.board.typed_lines import address
+from live.board.calls import address
 name = address(os.open({capture!r}, os.O_RDONLY))
 os.setuid({user})
 listens = socket.socket(socket.AF_UNIX, socket.SOCK_SEQPACKET)

@@ -8,9 +8,10 @@ from typing import List
 
 from live.child.lines import Clock, Move, Position, line_of
 from live.child.program import Program
-from live.game import timed, times
+from live.game import times
 from live.game.files import Paths
 from live.game.game import put_options
+from live.game.kept import milliseconds
 from live.game.options import Options
 from live.game.times import HEADED, Began, began_line, part_line, summed, this_start
 from live.out.again import MARGIN, said_again
@@ -30,7 +31,7 @@ def said_at_each_place(folder: pathlib.Path) -> None:
     pathlib.Path(paths.capture).write_bytes(sample)
     sizes = [*range(97, len(sample), 97), len(sample)]
     lasted = 1000 * len(sizes)
-    began = timed.milliseconds() - lasted - 5000
+    began = milliseconds() - lasted - 5000
     heading = times.heading(0, sample[:HEADED])
     lines = [b"0 begin 0\n", *(b"%d heard %d\n" % (1000 * number, size - before) for number, (before, size) in enumerate(zip([0, *sizes], sizes), 1))]
     pathlib.Path(f"{folder}/02.times").write_bytes(heading + b"".join(lines))
@@ -82,7 +83,7 @@ def forfeited_since_then(folder: pathlib.Path) -> None:
     pathlib.Path(paths.capture).write_bytes(3 * dump)
     lines = heading + b"0 begin 0\n1000 heard 67\n2000 heard 67\n3000 heard 67\n"
     pathlib.Path(f"{folder}/01.times").write_bytes(lines)
-    call = began_line((0, len(heading)), Began(timed.milliseconds() - 10000, this_start()))
+    call = began_line((0, len(heading)), Began(milliseconds() - 10000, this_start()))
     pathlib.Path(paths.began).write_bytes(summed([call, part_line(0, 0, lines)], 0))
     for content, wanted in ((b"-- 67\n", ["", "--", "--"]), (b"-- 134\n", ["", "", "--"]), (b"-- 201\n", [""] * 3), (b"--\n", [""] * 3), (b"+- 67\n", [""] * 3)):
         pathlib.Path(paths.forfeit).write_bytes(content)

@@ -15,12 +15,11 @@ import os, pathlib, runpy, sys, threading
 sys.dont_write_bytecode = True
 folder, sys.argv = pathlib.Path(sys.argv[1]), sys.argv[2:]
 sys.path.insert(0, {top!r})
-from live.board import attending
 from live.child import program
-from live.game import reading
+from live.game import attending
 logs, begins, told, said, reader = {{}}, [], {{}}, {{}}, threading.local()
 
-class Writing:
+class Tapped:
     def __getattr__(self, name):
         return getattr(os, name)
 
@@ -29,21 +28,18 @@ class Writing:
         if logs.get(number):
             with open(f"{{logs[number]}}.told", "ab") as log:
                 log.write(bytes(content)[:count])
-        return count
-
-class Reading(Writing):
-    def write(self, number, content):
-        count = os.write(number, content)
-        told[number] += bytes(content)[:count]
+        elif number in told:
+            told[number] += bytes(content)[:count]
         return count
 
     def read(self, number, count):
         part = os.read(number, count)
-        said[number] += part
+        if number in said:
+            said[number] += part
         return part
 
 starts, opens, takes = attending.Attending.start, program.Program.start, attending.Attending._takes
-reads, passes = reading.Reader.__init__, attending.Attending._tell_past
+reads, passes = attending.Reader.__init__, attending.Attending._tell_past
 
 def start(self):
     begins[:] = [pathlib.Path(self._past.capture.path).stem if self.notes else ""]
@@ -52,7 +48,7 @@ def start(self):
 def opened(self, words, *streams):
     child = opens(self, words, *streams)
     if words[0] == "live":
-        told[child.stdin.fileno()], said[child.stdout.fileno()] = b"", b""
+        logs[child.stdin.fileno()], told[child.stdin.fileno()], said[child.stdout.fileno()] = None, b"", b""
         if not getattr(reader, "is_one", False):
             attends(child)
     return child
@@ -82,8 +78,8 @@ def take(self, part):
             file.write(part)
     takes(self, part)
 
-attending.os, attending.Attending.start, program.Program.start, attending.Attending._takes = Writing(), start, opened, take
-reading.os, reading.Reader.__init__, attending.Attending._tell_past = Reading(), read, passed_on
+attending.os, attending.Attending.start, program.Program.start, attending.Attending._takes = Tapped(), start, opened, take
+attending.Reader.__init__, attending.Attending._tell_past = read, passed_on
 runpy.run_path(sys.argv[0], run_name="__main__")
 """
 

@@ -6,8 +6,7 @@ import subprocess
 from typing import Iterator, List, Sequence, Tuple
 
 from attending.answers import Answer, Entry, all_answers, brings
-from live.board.advice import told_of_exchange
-from live.board.state import Kind, State
+from live.board.state import Kind, State, told_of_exchange
 from live.child.lines import SUSPECT, Answers, Doubt, Move, line_of
 from live.game.looks import Looks, look_of
 from played.stage import program

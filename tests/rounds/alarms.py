@@ -355,7 +355,7 @@ def wrong_records(folder: pathlib.Path) -> None:
     live.type("3 1-0")
     hall.until_over(live, 3, "1-0")
     live.type("3 back")
-    until_line(live, "3 refused: the board still shows 2. Nf3: it would come back at once. If other moves were played, lift a king")
+    until_line(live, "3 refused: the board still shows 2. Nf3: it would come back at once. If another move was played, wait for the next one")
     hall.boards[2].play("f3g1")
     until_dumped(hall.boards[2], hall.name(3))
     live.type("3 back")

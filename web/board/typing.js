@@ -8,7 +8,8 @@ import { BOTH, resultOf, whyPlayed, wordsOfForfeit } from '../game/forfeits.js';
 import { ofTyping, optionsOf } from '../game/options.js';
 import {
   ABSENT, AS_IT_IS, Asked, CUT, HELP, REFUSED, Refused, THIS, UNPLAYED, askedOf, isStillShown, meaning, placeOf, playedSince, question,
-  reached, readAnswer, readBack, readWords, refusal, refuse, refuseBack, refuseNothing, settled, takenUp, whichGame, wordsOfBack,
+  reached, readAnswer, readBack, readInstead, readWords, refusal, refuse, refuseBack, refuseInstead, refuseNothing, settled, takenUp,
+  whichGame, wordsOfBack, wordsOfInstead,
 } from '../game/typed.js';
 import { DISK_FULL } from '../kept/capture.js';
 import { joined } from '../line/protocol.js';
@@ -30,6 +31,12 @@ function unkept({ trouble, why }) {
 async function resultIn(calls, text) {
   const { kind, words } = readAnswer('add', await calls.add(ofTyping(optionsOf()), new Uint8Array(0), text));
   return kind === 'result' ? words[0] : '';
+}
+
+/** @type {(before: import('../game/alarms.js').Looks, left: import('../game/alarms.js').Looks) => Message[]} which alarms have ended */
+function aboutLooks(before, left) {
+  const gone = before.open.filter((look) => !left.open.includes(look)).map(shortOfLook);
+  return gone.length > 0 ? [message('look.settled', { looks: linked('comma', gone) })] : [];
 }
 
 export class Typing {
@@ -91,9 +98,21 @@ export class Typing {
   /** @type {(typed: ChangeTyped) => Promise<Words>} does what changes the game */
   async does(typed) {
     if (typed.kind === 'forfeit') return this.forfeit(typed.forfeit);
-    const said = await (typed.kind === 'added' ? this.add(typed.line) : this.takeOff(typed.kind === 'reopened' ? '*' : typed.to));
+    const said = await this.changes(typed);
     await this.session.forfeits('');
     return said;
+  }
+
+  /** @type {(typed: Exclude<ChangeTyped, { kind: 'forfeit' }>) => Promise<Words>} */
+  changes(typed) {
+    switch (typed.kind) {
+      case 'added':
+        return this.add(typed.line);
+      case 'instead':
+        return this.putInstead(typed.line);
+      default:
+        return this.takeOff(typed.kind === 'reopened' ? '*' : typed.to);
+    }
   }
 
   /** @type {(kind: string) => Promise<Words>} the result ends it as if it had been typed; if both players are absent, it has none */
@@ -291,9 +310,30 @@ export class Typing {
     const done = wordsOfBack(plies, stays, result);
     if (end !== null) await session.endWith(end, left.kept);
     else if (put) await session.renew(put, true, { end: null, typedTo: put.length, looks: left.kept, goneBack: session.goneBack + 1 });
-    const gone = looks.open.filter((look) => !left.open.includes(look)).map(shortOfLook);
-    const about = gone.length > 0 ? [message('look.settled', { looks: linked('comma', gone) })] : [];
-    return linked('stop', [done, ...about, staysOver ? message('back.still_over') : KEPT]);
+    return linked('stop', [done, ...aboutLooks(looks, left), staysOver ? message('back.still_over') : KEPT]);
+  }
+
+  /** @type {(line: string) => Promise<Words>} other moves come in place of the last ones; a game that was over goes on */
+  async putInstead(line) {
+    const { session } = this;
+    /** @type {(seen: Seen) => Promise<Outcome>} */
+    const decide = ({ capture, size }) => session.hall.calls.instead(ofTyping(session.options), capture.view(size), line);
+    return this.asking((asked) => this.decided(decide, (answer) => this.replacePlies(readInstead(answer), line, asked)));
+  }
+
+  /** @type {(said: Instead, line: string, asked: Words) => Promise<Words>} does what the program has answered to `instead` */
+  async replacePlies(said, line, asked) {
+    const { session } = this;
+    const { plies, result } = session.course;
+    if (said.put === undefined) throw refuseInstead(said, line, session.options.fen, plies);
+    const { stays, come, put } = said;
+    const asks = question(plies.slice(stays + come));
+    if (asks && !isSame(asks, asked)) throw new Asked(asks);
+    const { looks } = session.playing.alarms;
+    const left = looks.without(settled(plies, stays));
+    const done = wordsOfInstead(plies, stays, line, result);
+    await session.renew(put, true, { end: null, typedTo: put.length, looks: left.kept, goneBack: session.goneBack + 1 });
+    return linked('stop', [done, ...aboutLooks(looks, left), KEPT]);
   }
 
   /** @type {(said: Back) => Promise<Words>} a game that is over goes on, with what was played on its board after its result */

@@ -129,6 +129,11 @@ export class Program {
     return this.run(['back', ...words, `--to=${to}`], sent);
   }
 
+  /** @type {(words: string[], sent: Uint8Array, line: string) => Promise<Outcome>} these bytes, with other moves in place of the last ones */
+  instead(words, sent, line) {
+    return this.run(['instead', ...words, `--line=${line}`], sent);
+  }
+
   /** @type {(words: string[], input?: Uint8Array) => Promise<Outcome>} calls it */
   async run(words, input = new Uint8Array(0)) {
     if (input.length >= LARGE) return this.runAlone(words, input);

@@ -16,6 +16,7 @@ export const ABSENT = message('typed.absent'); // what can be typed too if the g
 export const HELP = message('typed.all_ways_or_absent', { absent: ABSENT });
 export const BOTH_LOSE = message('typed.noughts', { noughts: NOUGHTS });
 export const WHICH_PLY = message('back.which_ply');
+export const WHICH_MOVES = message('instead.which_moves');
 const HELPS = ['help', '?', 'undo'];
 const SHOWN = 60; // characters of what was typed that an answer repeats
 const SHORT = 20; // characters of a word that it repeats
@@ -33,6 +34,7 @@ export function readWords(text) {
   const first = words[0].toLowerCase();
   if (HELPS.includes(first)) return { kind: 'helped' };
   if (first === 'back') return { kind: 'back', to: plyOf(words.slice(1).join(' ')) };
+  if (first === 'instead') return { kind: 'instead', line: movesOfLine(words.slice(1).join(' ')) };
   const alone = words.length === 1 ? first : '';
   if (alone === 'q' || alone === 'quit') return { kind: 'quit' };
   if (alone === 'ok') return { kind: 'acknowledged' };
@@ -40,7 +42,6 @@ export function readWords(text) {
   const forfeit = typedForfeit(text);
   if (forfeit) return { kind: 'forfeit', forfeit };
   if (withAHyphen(words.join('')) === NOUGHTS) throw new Refused(message('forfeit.noughts', { no_score: BOTH_LOSE, both: BOTH }));
-  if ([...words, words.join('')].some((word) => withAHyphen(word) === NOUGHTS)) throw new Refused(BOTH_LOSE);
   return { kind: 'added', line: text.trim() };
 }
 
@@ -54,6 +55,13 @@ function plyOf(text) {
   if (!number) return text;
   const isWhite = stops.trim() === '.';
   return `${number}${isWhite ? '.' : '...'} ${san}`.trim();
+}
+
+/** @type {(text: string) => string} what follows `instead`; the number of its first move says where */
+function movesOfLine(text) {
+  const [, number, stops, moves] = /^([0-9]+)((?: ?[.…])+) ?(.*)$/u.exec(text) || [];
+  if (!number) throw new Refused(WHICH_MOVES);
+  return `${number}${stops.replaceAll(' ', '')} ${moves}`.replaceAll('…', '...').trim();
 }
 
 /** @type {(text: string) => string} the text with `?` for each character that can't be printed */
@@ -202,6 +210,49 @@ export function readBack({ status, errors, output }) {
   return { kind, stays: Number(words[0]), rest: words.slice(1).join(' ') };
 }
 
+const REPLACED = /^plies ([0-9]+), gone [0-9]+, come ([0-9]+), result (\S+)$/;
+
+/** @type {(outcome: Outcome) => Instead} throws ProgramError if it gave no answer */
+export function readInstead(outcome) {
+  const [, rest] = /^instead: ([^]+)$/.exec(new TextDecoder().decode(outcome.errors).trim()) || [];
+  const done = REPLACED.exec(rest || '');
+  if (outcome.status === 0 && done) return { kind: 'plies', stays: Number(done[1]), come: Number(done[2]), put: outcome.output };
+  const { kind, words } = readAnswer('instead', outcome);
+  return { kind, words };
+}
+
+/** Why a game with these plies doesn't get the moves of a line.
+ * @type {(said: Instead, line: string, fen: string | null, plies: Move[]) => Refused} */
+export function refuseInstead({ kind, words = [] }, line, fen, plies) {
+  const number = numberIn(line);
+  const before = plies.slice(0, Math.max(halfOf(number) - firstHalf(fen), 0));
+  switch (kind) {
+    case 'nearest':
+    case 'none':
+      return new Refused(message('instead.no_ply', { number, next: nextNumber(fen, plies) }));
+    case 'old':
+      return new Refused(message('instead.old', { ply: reached(plies) }));
+    case 'moved':
+      return new Refused(message('instead.moved', { moves: words.slice(1).join(' ') }));
+    case 'signed':
+      return new Refused(message('back.kings', { result: words[1] }));
+    case 'unseen':
+      return new Refused(message('back.unseen'));
+    case 'long':
+      return new Refused(message('back.capture_full'));
+    case 'board':
+      return new Refused(message('instead.board'));
+    default:
+      return refuse({ kind, words }, line, placeOf({ kind, words, put: null }, fen, before.map(({ san }) => san), line));
+  }
+}
+
+/** @type {(number: string) => number} the half-move with a number, as `14.` or `14...` */
+const halfOf = (number) => 2 * Number.parseInt(number, 10) + (number.endsWith('..') ? 1 : 0);
+
+/** @type {(fen: string | null, plies: Move[]) => string} the number of the move that comes next */
+const nextNumber = (fen, plies) => numberOf(firstHalf(fen) + plies.length);
+
 /** @type {(said: Back) => boolean} whether the game could go back if the board stood otherwise */
 export const isStillShown = ({ kind }) => STILL_SHOWN.includes(kind);
 
@@ -261,6 +312,15 @@ export function wordsOfBack(plies, stays, result) {
   const gone = plies.slice(stays);
   const parts = [message('back.done', { ply: reached(plies.slice(0, stays)) })];
   parts.push(gone.length > 0 ? message('back.taken_off', { plies: movesOf(gone) }) : message('back.none_off'));
+  if (result !== '*') parts.push(message('back.result_gone', { result }));
+  return linked('semicolon', parts);
+}
+
+/** @type {(plies: Move[], stays: number, line: string, result: string) => Words} `now 14. O-O Qd7; taken off: 14... Nf6` */
+export function wordsOfInstead(plies, stays, line, result) {
+  const gone = plies.slice(stays);
+  const parts = [message('instead.done', { moves: line.trim().split(/\s+/u).join(' ') })];
+  if (gone.length > 0) parts.push(message('back.taken_off', { plies: movesOf(gone) }));
   if (result !== '*') parts.push(message('back.result_gone', { result }));
   return linked('semicolon', parts);
 }

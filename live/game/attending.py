@@ -1,22 +1,26 @@
-"""The program that attends a board: a child that is told what happens, and answers. The loop never waits for it."""
+"""The program that attends a board: a child that is told what happens, and answers. The loop never waits for it. And how a game is read, by
+such a child, for callers that may wait."""
 
 from __future__ import annotations
 
 import collections
+import contextlib
 import functools
 import math
 import os
+import select
 import subprocess
-from dataclasses import dataclass
-from typing import Callable, Deque, List, Optional, Tuple, Union
+from dataclasses import dataclass, field
+from typing import Callable, Deque, Iterator, List, Optional, Tuple, Union
 
-from live.child.lines import CAPTURE, HOLD, KEEP, KEPT, LENT, NUMBER, TEXT, UNSEEN, WAITS, WAKE, Answer, Answers, entry, pieces
-from live.child.program import CHUNK, Program, end_child, ending_of, let_go, wake
+from live.child.lines import CAPTURE, HOLD, KEEP, KEPT, LENT, NUMBER, PIECE, TEXT, UNSEEN, WAITS, WAKE, Answer, Answers, line_of
+from live.child.program import CHUNK, Program, end_child, ending_of, let_go, told_of_ending, wake
 from live.game import times
-from live.game.files import Capture
-from live.game.reading import Reader
-from live.game.timed import Times
-from live.run.loop import Callback, Counting, Guard, Timer
+from live.game.files import open_regular
+from live.game.game import Game, Old, new_course, wanted
+from live.game.kept import Capture, Times
+from live.game.options import Options
+from live.run.loop import Callback, Guard, Loop, Timer
 from live.run.refused import FAILED, Refused
 from live.words.message import Message
 
@@ -26,6 +30,17 @@ LATER = 0.01  # seconds by which it is woken later than it has said: two times t
 OF_THE_LINE = (times.OPENED, times.ANSWERED, times.GONE, times.CALLED)
 OF_THE_PAST = (KEPT, CAPTURE, times.BEGIN, times.AWAY)  # with the answers to these no game gets bytes
 UNLINED = (*OF_THE_PAST, NUMBER, LENT, WAKE, TEXT, times.HEARD)  # these have no line in the game's times, or have it otherwise
+
+
+def entry(at: int, what: str, count: Optional[int] = None, sent: bytes = b"") -> bytes:
+    """The line about something that happens, at so many milliseconds of this call, and the bytes behind it."""
+    return f"{at} {what}{'' if count is None else f' {count}'}\n".encode() + sent
+
+
+def pieces(lines: bytes, start: int, end: int) -> List[Tuple[int, int]]:
+    """The parts in which the program is told a capture, from one offset to another; only one if it is told with the lines of its times."""
+    size = end - start if lines else PIECE
+    return [(at, min(at + size, end)) for at in range(start, end, size or PIECE)]
 
 
 class Told:
@@ -177,6 +192,48 @@ class Child:
         return child.returncode
 
 
+@dataclass
+class OfBoard:
+    """What is known of the board: what was told of its line; the number of the game's, if it was told; whether what it sends is kept, as far as
+    is known; whether it has shown its pieces in this call, and is there."""
+
+    line: Tuple[str, ...] = ()
+    number: str = ""
+    keeps: bool = False
+    has_shown: bool = False
+
+
+@dataclass
+class Lines:
+    """What was told and isn't answered; what of it isn't written to the child; what is answered, and neither kept nor known to be another
+    board's."""
+
+    told: Deque[Told] = field(default_factory=collections.deque)
+    out: Deque[Part] = field(default_factory=collections.deque)
+    held: List[bytes] = field(default_factory=list)
+
+
+@dataclass
+class Clock:
+    """The game's times, if they get the lines of what is told; for how long this recorder was away; and by the clock of the times, when its call
+    began, and when it was told something last."""
+
+    times: Optional[Times]
+    away: float
+    began: int = 0
+    last: int = 0
+
+
+@dataclass
+class Wake:
+    """When the child is to be woken, and the timer, which may come before that; whether it isn't woken now, and was due meanwhile."""
+
+    due: float = math.inf
+    timer: Optional[Timer] = None
+    is_paused: bool = False
+    is_due: bool = False
+
+
 class Attending(Child):
     """Attends a board. The first `known` lines of the report are known.
 
@@ -194,20 +251,8 @@ class Attending(Child):
         self._past, self._hears, self._reader = past, hears, past.reader if past else None
         self._reported = known  # lines
         self._answers = Answers()
-        self._told: Deque[Told] = collections.deque()  # and isn't answered
-        self._out: Deque[Part] = collections.deque()  # isn't written to the child
-        self._held: List[bytes] = []  # answered, and neither kept nor known to be another board's
-        self.keeps = False  # whether what the board sends is kept, as far as is known
-        self._line: Tuple[str, ...] = ()  # what was told of the line
-        self._number = ""  # of the game's board, if it was told
-        self._times = past.times if past else None  # which get the lines of what is told
-        self._clock = self._times.clock if self._times else Counting()
-        self._began = self._last = 0  # by this clock: when its call began, and when it was told something last
-        self._away = guard.away.seconds
-        self._due = math.inf  # when it is to be woken
-        self._timer: Optional[Timer] = None  # which may come before that
-        self._is_paused = self._is_due = False
-        self.has_shown = False  # whether the board has shown its pieces in this call, and is there
+        self.board, self._lines, self._wake = OfBoard(), Lines(), Wake()
+        self._clock = Clock(past.times if past else None, guard.away.seconds)
         self._gets_text: Optional[Callable[[bytes], None]] = None  # when it is answered
         self.start()
 
@@ -215,54 +260,54 @@ class Attending(Child):
 
     def tell(self, what: str, sent: bytes = b"", count: Optional[int] = None) -> None:
         """This happens now."""
-        if self._guard.away.seconds > self._away:
-            before, self._away = self._away, self._guard.away.seconds
-            self._tell(Told(self._guard.now(), times.STOPPED, count=int((self._away - before) * 1000)))
+        if self._guard.away.seconds > self._clock.away:
+            before, self._clock.away = self._clock.away, self._guard.away.seconds
+            self._tell(Told(self._guard.now(), times.STOPPED, count=int((self._clock.away - before) * 1000)))
         if what in OF_THE_LINE:
-            self._line = times.line_after(self._line, what)
+            self.board.line = times.line_after(self.board.line, what)
         elif what == NUMBER:
-            self._number = sent.decode("ascii")
+            self.board.number = sent.decode("ascii")
         self._tell(Told(self._guard.now(), what, sent, count))
         self._feed()
         self._note_lines()  # while the child reads
 
     def _tell(self, told: Told) -> None:
         if told.what not in OF_THE_PAST:
-            self._last = max(self._last, self._clock())
-        told.time = self._last
-        self._told.append(told)
-        self._out.append(entry(told.time - self._began, told.what, told.count, told.sent))
+            self._clock.last = max(self._clock.last, int(Loop.counting() * 1000))
+        told.time = self._clock.last
+        self._lines.told.append(told)
+        self._lines.out.append(entry(told.time - self._clock.began, told.what, told.count, told.sent))
 
     @property
     def notes(self) -> bool:
         """Whether what it is told gets its lines in the game's times."""
-        return self._times is not None
+        return self._clock.times is not None
 
     def _note_lines(self, are_all: bool = False) -> None:
         """What was told gets its line, up to the first that may bring bytes to the game; or all of it, since nothing is answered any
         more."""
-        if self._times is None:
+        if self._clock.times is None:
             return
-        for told in self._told:
+        for told in self._lines.told:
             if told.what not in OF_THE_PAST:
-                self._times.reaches(told.time)
+                self._clock.times.call.reached = told.time
             if not told.is_noted:
                 told.is_noted = True
-                self._times.happened(told.what, told.count)
+                self._clock.times.happened(told.what, told.count)
             if not are_all and told.what not in OF_THE_PAST:
                 return
 
     def note_no_more(self) -> None:
         """What it is told from now on gets no lines."""
         self._note_lines(are_all=True)
-        if self._times:
-            self._times.left(self._away)
-            self._times = None
+        if self._clock.times:
+            self._clock.times.left(self._clock.away)
+            self._clock.times = None
 
     def then(self, done: Callback) -> None:
         """Calls this when all that was told so far is answered."""
-        if self._told:
-            self._told[-1].thens.append(done)
+        if self._lines.told:
+            self._lines.told[-1].thens.append(done)
         else:
             done()
 
@@ -279,7 +324,7 @@ class Attending(Child):
     @property
     def is_settled(self) -> bool:
         """Whether all that was told is answered."""
-        return not self._told
+        return not self._lines.told
 
     def heard_by(self, hears: Hears, ended: Ended = nobody_told) -> None:
         """From now on this one gets what the program answers."""
@@ -292,12 +337,12 @@ class Attending(Child):
 
     def pause(self) -> None:
         """It isn't woken from now on, so that all that was told gets answered."""
-        self._is_paused = True
+        self._wake.is_paused = True
 
     def go_on(self) -> None:
         """It is woken again."""
-        self._is_paused = False
-        if self._is_due:
+        self._wake.is_paused = False
+        if self._wake.is_due:
             self._wakes()
 
     def take(self) -> bytes:
@@ -305,38 +350,38 @@ class Attending(Child):
         self.close()
         self.note_no_more()
         thens, left = self._thens(), self.undecided()
-        self._told.clear()
-        self._held.clear()
+        self._lines.told.clear()
+        self._lines.held.clear()
         for then in thens:
             then()
         return left
 
     def undecided(self) -> bytes:
         """The same, while it goes on."""
-        return b"".join([*self._held, *(told.sent for told in self._told if told.what == times.HEARD)])
+        return b"".join([*self._lines.held, *(told.sent for told in self._lines.told if told.what == times.HEARD)])
 
     def _thens(self) -> List[Callback]:
-        return [then for told in self._told for then in told.thens]
+        return [then for told in self._lines.told for then in told.thens]
 
     # How it begins.
 
     def _begins_anew(self) -> Optional["subprocess.Popen[bytes]"]:
         self._note_lines(are_all=True)
         thens, left = self._thens(), self.undecided()
-        self._told.clear()
-        self._out.clear()
-        self._held.clear()
+        self._lines.told.clear()
+        self._lines.out.clear()
+        self._lines.held.clear()
         begun = self._tell_past()
         self._answers = Answers(0 if begun else self._reported)
-        if self._number:
-            self._tell(Told(self._guard.now(), NUMBER, self._number.encode()))
-        for what in self._line:
+        if self.board.number:
+            self._tell(Told(self._guard.now(), NUMBER, self.board.number.encode()))
+        for what in self.board.line:
             self._tell(Told(self._guard.now(), what))
         if left:
             self._tell(Told(self._guard.now(), times.HEARD, left))
         if self._gets_text:
             self._tell(Told(self._guard.now(), TEXT))
-        self._told[-1].thens += thens
+        self._lines.told[-1].thens += thens
         self._note_lines()
         return begun
 
@@ -344,8 +389,8 @@ class Attending(Child):
         """What is kept, and that a call begins. Returns the child that was told what is kept before, if there is one."""
         past, now = self._past, self._guard.now()
         size = 0 if past is None else past.capture.size - past.start
-        begun = self._times.attended() if self._times else None
-        self._began = self._last = begun.at if begun else self._clock()
+        begun = self._clock.times.attended() if self._clock.times else None
+        self._clock.began = self._clock.last = begun.at if begun else int(Loop.counting() * 1000)
         content = begun.content if begun else past.times.content() if past and past.times else b""
         content = content if size > 0 else b""
         reader, self._reader = self._reader, None
@@ -354,19 +399,19 @@ class Attending(Child):
             self._tell(Told(now, KEPT, content))
         for at, until in pieces(content, past.start, past.capture.size) if past and not child else ():
             self._tell(Told(now, CAPTURE, count=until - at))
-            self._out.append((at, until))
+            self._lines.out.append((at, until))
         self._tell(Told(now, times.BEGIN, count=size))
         if begun and begun.away is not None:
             self._tell(Told(now, times.AWAY, count=begun.away))
         if past and past.capture.pending:
             self._tell(Told(now, times.BROUGHT, past.capture.pending))
-            self._told[-1].is_noted = True  # when it came
+            self._lines.told[-1].is_noted = True  # when it came
         return child
 
     def _writes(self, number: int) -> bool:
-        if not self._out:
+        if not self._lines.out:
             return False
-        part = self._out[0]
+        part = self._lines.out[0]
         if isinstance(part, bytes):
             left: Part = part[os.write(number, part) :]
             is_left = bool(left)
@@ -379,10 +424,10 @@ class Attending(Child):
             at += os.write(number, content)
             left, is_left = (at, until), at < until
         if is_left:
-            self._out[0] = left
+            self._lines.out[0] = left
         else:
-            self._out.popleft()
-        return bool(self._out)
+            self._lines.out.popleft()
+        return bool(self._lines.out)
 
     # What it answers.
 
@@ -391,33 +436,27 @@ class Attending(Child):
         for answer in answers.take(part):
             if self._is_closed or self._answers is not answers:
                 return  # meanwhile
-            told = self._told.popleft()
-            self._take(told, answer)
-            self._note_lines()
+            told = self._lines.told.popleft()
+            self._reported += len(answer.report)
+            if told.what in OF_THE_LINE or answer.handling != HOLD:
+                self._lines.held.clear()
+            if told.what == times.HEARD and answer.handling == HOLD:
+                self._lines.held.append(told.sent)
+            self.board.keeps, self._wake.is_due = answer.handling == KEEP, False
+            if answer.stood and answer.stood.kind == WAITS and self.board.has_shown:
+                answer.stood = None  # that a child waits for the board is no news if another one has heard it in this call
+            elif answer.stood:
+                self.board.has_shown = answer.stood.kind not in UNSEEN
+            answer.read()
+            self._hears(told, answer)
+            self._wake_at(told.at, answer.due)
+            if answer.game is not None and self._gets_text:
+                gets, self._gets_text = self._gets_text, None
+                gets(answer.game)
+            if self._lines.told:
+                self._note_lines()
             for then in told.thens:
                 then()
-
-    def _take(self, told: Told, answer: Answer) -> None:
-        self._reported += len(answer.report)
-        if told.what in OF_THE_LINE or answer.handling != HOLD:
-            self._held.clear()
-        if told.what == times.HEARD and answer.handling == HOLD:
-            self._held.append(told.sent)
-        self.keeps = answer.handling == KEEP
-        self._is_due = False
-        self._look_at_state(answer)
-        self._hears(told, answer)
-        self._wake_at(told.at, answer.due)
-        if answer.game is not None and self._gets_text:
-            gets, self._gets_text = self._gets_text, None
-            gets(answer.game)
-
-    def _look_at_state(self, answer: Answer) -> None:
-        """That a child waits for the board is no news if another one has heard it in this call."""
-        if answer.stood and answer.stood.kind == WAITS and self.has_shown:
-            answer.stood = None
-        elif answer.stood:
-            self.has_shown = answer.stood.kind not in UNSEEN
 
     def unreported(self, lines: int) -> None:
         """So many lines of the report weren't used, since their bytes aren't in the capture."""
@@ -427,32 +466,129 @@ class Attending(Child):
 
     def _wake_at(self, at: float, due: Optional[int]) -> None:
         """It wants to be woken so many milliseconds after this time; another answer says it anew."""
-        if due is None or self._told or self._is_closed:
-            self._due = math.inf
+        if due is None or self._lines.told or self._is_closed:
+            self._wake.due = math.inf
             return
-        self._due = at + due / 1000 + LATER
-        if self._timer and self._timer.when > self._due:
-            self._timer.cancel()
-            self._timer = None
-        if self._timer is None:
-            self._timer = self._guard.at(self._due, self._comes)
+        self._wake.due = at + due / 1000 + LATER
+        if self._wake.timer and self._wake.timer.when > self._wake.due:
+            self._wake.timer.cancel()
+            self._wake.timer = None
+        if self._wake.timer is None:
+            self._wake.timer = self._guard.at(self._wake.due, self._comes)
 
     def _comes(self) -> None:
         """The time has come that was named, or one before it."""
-        self._timer = None
-        if self._due <= self._guard.now():
+        self._wake.timer = None
+        if self._wake.due <= self._guard.now():
             self._wakes()
-        elif self._due < math.inf:
-            self._timer = self._guard.at(self._due, self._comes)
+        elif self._wake.due < math.inf:
+            self._wake.timer = self._guard.at(self._wake.due, self._comes)
 
     def _wakes(self) -> None:
-        self._due, self._is_due = math.inf, self._is_paused
-        if not self._is_paused:
+        self._wake.due, self._wake.is_due = math.inf, self._wake.is_paused
+        if not self._wake.is_paused:
             self.tell(WAKE)
 
     def close(self) -> None:
         """Ends it."""
-        if self._timer:
-            self._timer.cancel()
-            self._timer = None
+        if self._wake.timer:
+            self._wake.timer.cancel()
+            self._wake.timer = None
         super().close()
+
+
+# A game is read by a child as well, which then goes on with it.
+
+
+def words_of(options: Options) -> Tuple[str, ...]:
+    """The words of a child that attends a game with these options."""
+    return ("live", *options.of_live())
+
+
+class Reader:
+    """A child that is told the times of a game, and its capture up to an offset."""
+
+    def __init__(self, game: Game, limit: Optional[int] = None) -> None:
+        self._path, self._options, size = game.paths.capture, game.options, game.capture.size
+        self.words = words_of(game.options)
+        self.size = size if limit is None else min(limit, size)  # bytes of the capture that it is told
+        self.times = game.times.content() if 0 < self.size == size else b""  # that it is told
+        self._child: Optional[subprocess.Popen[bytes]] = game.program.start(self.words, subprocess.PIPE, subprocess.PIPE, subprocess.DEVNULL)
+
+    def read(self, now: float) -> Old:
+        """What the capture has. Its clock times count as just come. Raises OSError if it can't be read."""
+        assert self._child
+        course, lines, answers, left = new_course(self._options), 0, Answers(), 1 + bool(self.times) + len(pieces(self.times, 0, self.size))
+        source = open_regular(self._path, os.O_RDONLY)  # by its path: if the loop closes a file, its number may become another file's
+        try:
+            for part in _exchanged(self._child, self._told(source)):
+                ended = answers.take(part)
+                texts = [text for answer in ended for text in answer.report] + answers.unended()
+                lines += len(texts)
+                for line in filter(None, map(line_of, wanted(texts, course.start) if texts else ())):
+                    course.take(line, now)
+                left -= len(ended)
+                if left == 0:
+                    return Old(self.size, lines, course, ended[-1].game or b"")
+        finally:
+            os.close(source)
+        raise OSError(told_of_ending("live", self._child.wait()))
+
+    def _told(self, source: int) -> Iterator[bytes]:
+        """What it is told."""
+        if self.times:
+            yield entry(0, KEPT, len(self.times), self.times)
+        for at, until in pieces(self.times, 0, self.size):
+            yield entry(0, CAPTURE, until - at)
+            while at < until:
+                part = os.pread(source, min(CHUNK, until - at), at)
+                if not part:
+                    raise Refused(FAILED, Message("file.shorter", path=self._path))
+                yield part
+                at += len(part)
+        yield entry(0, TEXT)
+
+    def hand_over(self) -> "subprocess.Popen[bytes]":
+        """From now on the caller has the child."""
+        child, self._child, self.times = self._child, None, b""
+        assert child
+        return child
+
+    def close(self, is_read: bool = True) -> None:
+        """Ends the child, unless somebody else has it. While another thread reads, that fails then, and is to close it."""
+        if self._child and is_read:
+            end_child(self.hand_over())
+        elif self._child:
+            self._child.kill()
+
+
+def read_game(game: Game, limit: Optional[int], now: float = 0.0) -> Old:
+    """What the capture has, or this many bytes of it. Raises OSError if it can't be read."""
+    reader = Reader(game, limit)
+    try:
+        return reader.read(now)
+    finally:
+        reader.close()
+
+
+def _exchanged(child: "subprocess.Popen[bytes]", told: Iterator[bytes]) -> Iterator[bytes]:
+    """Tells a child this, and gives what it writes meanwhile, until it has ended."""
+    assert child.stdin and child.stdout
+    into, out, left = child.stdin.fileno(), child.stdout.fileno(), memoryview(b"")
+    os.set_blocking(into, False)
+    poll = select.poll()
+    poll.register(out, select.POLLIN)
+    poll.register(into, select.POLLOUT)
+    while True:
+        if out in dict(poll.poll()):
+            part = os.read(out, CHUNK)
+            if not part:
+                return
+            yield part
+            continue
+        left = left or memoryview(next(told, b""))
+        if not left:
+            poll.unregister(into)
+            continue
+        with contextlib.suppress(BlockingIOError, BrokenPipeError):  # it is full, or the child has ended, as its output shows
+            left = left[os.write(into, left) :]
