@@ -19,5 +19,7 @@ mod settled;
 mod waiting;
 
 pub use explained::is_explained;
-pub use pair::{Pair, Recovery, SeenOrFound, SeenOrRecovered};
+pub use explaining::pairs_that_explain;
+pub use pair::{Pair, Recovery, SeenOrFound, SeenOrRecovered, TwoPlies};
 pub use recoverer::Recoverer;
+pub use settled::settled_in;

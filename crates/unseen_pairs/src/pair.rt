@@ -4,9 +4,11 @@ use chess_rules::{Move, Position};
 use settle_core::Seen;
 
 /// Two plies.
-#[derive(Clone, Copy)]
+#[derive(Clone, Copy, PartialEq, Eq)]
 pub struct TwoPlies {
+    /// The first one.
     pub first: Move,
+    /// The reply.
     pub second: Move,
 }
 
