@@ -56,7 +56,7 @@ type Over = { why: string; result: string; bytes: number; isSure: boolean };
 type End = { over: Over | null; played: number | null; begins: number | null };
 
 /** How a board stands; `lasted` in milliseconds, null if that isn't known. */
-type Stands = { kind: string; lasted: number | null; squares: string[]; hint: string };
+type Stands = { kind: string; lasted: number | null; squares: string[]; hint: string; fits: string };
 
 /** A picture settled this move, whose number is as `12...`, or corrected the last one. */
 type Move = { kind: 'move'; number: string; san: string; clock: string; corrects: boolean };

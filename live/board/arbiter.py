@@ -29,7 +29,7 @@ from live.game.game import Course, Game, end_mark, forget_question, game_of, kee
 from live.game.looks import acknowledge
 from live.game.opening import Chooses, Opened, named
 from live.game.options import IN_A_TABLE, is_naming
-from live.game.typed import ALL, BOARD, LONG, NO_RESULT, ONE_BOARD, UNENDED, UNPLAYED, WAYS, Acknowledged, Added, Back, Changes, Forfeit, Instead, Nothing, Quit, Reopened, Said, Typed, Way, ask_for_way, ask_to_add, drop_forfeit, is_unended, keep_forfeit, kept_forfeit, meaning, no_way, not_added, nothing_goes, place_of, read_typed, refuse_played, result_typed, way_of, which_game, with_more
+from live.game.typed import ALL, BOARD, LONG, NO_RESULT, ONE_BOARD, UNENDED, UNPLAYED, WAYS, Accepted, Acknowledged, Added, Back, Changes, Forfeit, Instead, Nothing, Quit, Reopened, Said, Typed, Way, ask_for_way, ask_to_add, drop_forfeit, is_unended, keep_forfeit, kept_forfeit, meaning, no_way, not_added, nothing_goes, place_of, read_typed, read_words, refuse_played, result_typed, way_of, which_game, with_more
 from live.run.loop import Callback, Resume, Steps, beside, walk
 from live.run.refused import DGT_LIVE, DONE, Answer, Asked, NotDone, Refused, refusal
 from live.words.message import Message, linked
@@ -37,6 +37,7 @@ from live.words.message import Message, linked
 TRIES = 3  # calls before what the board sends is held
 HOLDS = 60.0  # seconds for which the answer to a question counts
 JUST_ENDED = Message("typed.just_ended")
+NOTHING_ASKED = Message("typed.nothing_asked")
 ADDED, TAKEN_OFF, RENAMED = Message("done.added"), Message("done.taken_off"), Message("done.renamed")
 FORFEITS = {"1-0": (Message("side.black"), "+-"), "0-1": (Message("side.white"), "-+")}  # who hasn't come, and what is typed then
 Result = TypeVar("Result")
@@ -167,11 +168,21 @@ class Arbiter:
             return DONE, Message("typed.it_ends")
         if isinstance(typed, Acknowledged) and not before:
             return self._acknowledge()
+        if isinstance(typed, Accepted):
+            return (yield from self._plays_on(read_words(self._asked_and_so(before)), True))
         if before:
             return (yield from self._add_before(before, text, isinstance(typed, (Reopened, Back, Instead))))
         if isinstance(typed, Forfeit):
             return (yield from self._forfeit(typed))
         return (yield from self._plays_on(typed, sure))
+
+    def _asked_and_so(self, before: Optional[Paths]) -> str:
+        """What the question at this board asks about, as it is typed. Nothing is asked about the game before."""
+        standing = self.session.standing
+        accepted = standing.accepts() if standing and not before else ""
+        if not accepted:
+            raise NotDone(NOTHING_ASKED)
+        return accepted
 
     def _plays_on(self, typed: Typed, sure: bool) -> Steps[Answer]:
         """A result, moves, or what takes them off: the game isn't forfeited any more."""

@@ -15,7 +15,7 @@ from live.game.files import Paths, beginning, existing, put_in_place, remove
 from live.game.game import is_unplayed, result_of
 from live.game.options import RECOVER, Options
 from live.line.protocol import DUMP_BEGINS, DUMP_SIZE
-from live.run.refused import BACK, HELPS, INSTEAD, NO_TEXT, OK, REOPENS, Helped, NotDone
+from live.run.refused import BACK, HELPS, INSTEAD, NO_TEXT, OK, REOPENS, YES, Helped, NotDone
 from live.words.message import Message, linked, plural
 
 WAYS = Message("typed.ways")
@@ -49,6 +49,11 @@ class Acknowledged:
 
 
 @dataclass(frozen=True)
+class Accepted:
+    """It was played as the recorder has asked."""
+
+
+@dataclass(frozen=True)
 class Reopened:
     """The result was typed for the wrong board: the game goes on."""
 
@@ -73,7 +78,7 @@ class Nothing:
 
 
 Changes = Union[Back, Instead]  # makes the capture anew
-Typed = Union[Added, Acknowledged, Reopened, Back, Instead, Quit, Nothing]
+Typed = Union[Added, Acknowledged, Accepted, Reopened, Back, Instead, Quit, Nothing]
 
 
 def read_words(text: str) -> Typed:
@@ -86,6 +91,8 @@ def read_words(text: str) -> Typed:
         return Quit()
     if [word.lower() for word in words] == [OK]:
         return Acknowledged()
+    if [word.lower() for word in words] == [YES]:
+        return Accepted()
     if words == [REOPENS]:
         return Reopened()
     if words[0].lower() == BACK:

@@ -6,6 +6,7 @@ import { message } from '../../live/show/page/message.js';
 import { Kind, stateOf } from './state.js';
 
 const SAID = [Kind.WRONG, Kind.NO_START]; // states that are reported as lines too
+const READ = 1; // seconds in which nobody can have read a question and answered it
 const UNSEEN = ['UNPLUGGED', 'SILENT', 'WAITS']; // states in which the board may have shown nothing
 
 /** When a board was away that was heard last at this time, if it was, and is heard again now; null if nobody knows: the page has slept too.
@@ -23,10 +24,11 @@ export class Presence {
     this.isSilent = false; // whether no board answers
     this.hasShown = false; // whether the board has shown something
     /** @type {Stands} */
-    this.said = { kind: 'WAITS', lasted: null, squares: [], hint: '' }; // `saidAt` is when
+    this.said = { kind: 'WAITS', lasted: null, squares: [], hint: '', fits: '' }; // `saidAt` is when
     this.saidAt = session.guard.now();
     this.clockStopped = false; // by both sides, and it ran before
     this.lastNews = ''; // of its state
+    this.asked = { fits: '', at: 0 }; // what was last asked about, as it is typed, and when
   }
 
   /** @type {(now: number) => void} the board is heard now; the page may have slept too */
@@ -80,9 +82,18 @@ export class Presence {
     return stateOf(this.said, this.saidAt, playing.differs, beside);
   }
 
+  /** What somebody accepts by `y`, as it is typed: the change that was last asked about, if the question still stands, and somebody can have
+   * read it; empty if there is none. If the board shows something else by now, that is asked about first. */
+  accepts() {
+    const { fits, at } = this.asked;
+    this.look();
+    return fits === this.asked.fits && this.session.guard.now() >= at + READ ? fits : '';
+  }
+
   /** Once a second: an alarm of the state is reported, once. */
   look() {
     const { state } = this;
+    if (state.fits !== this.asked.fits) this.asked = { fits: state.fits, at: this.session.guard.now() };
     const { cable, guard, isOver, record } = this.session;
     const news = JSON.stringify([record.game.id, ...state.news]);
     const isNew = news !== this.lastNews;

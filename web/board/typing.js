@@ -7,7 +7,7 @@ import { NO_PLIES, gameOf, lastDumpIn } from '../game/course.js';
 import { BOTH, resultOf, whyPlayed, wordsOfForfeit } from '../game/forfeits.js';
 import { ofTyping, optionsOf } from '../game/options.js';
 import {
-  ABSENT, AS_IT_IS, Asked, CUT, HELP, REFUSED, Refused, THIS, UNPLAYED, askedOf, isStillShown, meaning, placeOf, playedSince, question,
+  ABSENT, AS_IT_IS, Asked, CUT, HELP, NOTHING_ASKED, REFUSED, Refused, THIS, UNPLAYED, askedOf, isStillShown, meaning, placeOf, playedSince, question,
   reached, readAnswer, readBack, readInstead, readWords, refusal, refuse, refuseBack, refuseInstead, refuseNothing, settled, takenUp,
   whichGame, wordsOfBack, wordsOfInstead,
 } from '../game/typed.js';
@@ -87,12 +87,19 @@ export class Typing {
       if (typed.kind === 'quit') throw new Refused(message('press.stop'));
       if (typed.kind === 'acknowledged') return { done: true, said: session.acknowledge() };
       if (session.capture.trouble) throw new Refused(unkept(session.capture));
-      const said = await this.does(typed);
+      const said = await this.does(typed.kind === 'accepted' ? this.accepted() : typed);
       session.says(said);
       return { done: true, said: session.capture.trouble ? linked('stop', [said, message('keep.not_yet')]) : said };
     } catch (error) {
       return { done: false, said: refusal(text, error) };
     }
+  }
+
+  /** What the question at this board asks about, as if it had been typed. */
+  accepted() {
+    const typed = readWords(this.session.presence.accepts());
+    if (typed.kind === 'added' || typed.kind === 'instead' || typed.kind === 'back') return typed;
+    throw new Refused(NOTHING_ASKED);
   }
 
   /** @type {(typed: ChangeTyped) => Promise<Words>} does what changes the game */

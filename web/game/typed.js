@@ -8,14 +8,17 @@ import { BOTH, typedForfeit } from './forfeits.js';
 
 /** What is asked for: the program is to go back to a ply, or to read a line; the game isn't played; or a word alone, where `reopened` says
  * that a result is to be taken off.
- * @typedef {ChangeTyped | { kind: 'nothing' } | { kind: 'quit' } | { kind: 'acknowledged' } | { kind: 'helped' }} Typed */
+ * @typedef {ChangeTyped | { kind: 'nothing' } | { kind: 'quit' } | { kind: 'acknowledged' } | { kind: 'accepted' } |
+ * { kind: 'helped' }} Typed */
 
+export const YES = 'y'; // it was played as the page has asked
 const NOUGHTS = '0-0'; // a result, or castling typed with noughts
 export const WAYS = message('typed.ways');
 export const ABSENT = message('typed.absent'); // what can be typed too if the game has no move
 export const HELP = message('typed.all_ways_or_absent', { absent: ABSENT });
 export const BOTH_LOSE = message('typed.noughts', { noughts: NOUGHTS });
 export const WHICH_PLY = message('back.which_ply');
+export const NOTHING_ASKED = message('typed.nothing_asked');
 export const WHICH_MOVES = message('instead.which_moves');
 const HELPS = ['help', '?', 'undo'];
 const SHOWN = 60; // characters of what was typed that an answer repeats
@@ -38,6 +41,7 @@ export function readWords(text) {
   const alone = words.length === 1 ? first : '';
   if (alone === 'q' || alone === 'quit') return { kind: 'quit' };
   if (alone === 'ok') return { kind: 'acknowledged' };
+  if (alone === YES) return { kind: 'accepted' };
   if (alone === '*') return { kind: 'reopened' };
   const forfeit = typedForfeit(text);
   if (forfeit) return { kind: 'forfeit', forfeit };
