@@ -73,6 +73,7 @@ def with_names(pairing: Pairing, names: Sequence[TypedName]) -> Pairing:
 
 def typed_names(pairing: Pairing, text: str, kept: Names, of_all: Options) -> Names:
     """What is typed for boards, with this text for one of them. Its own value takes the typed one away. Refused if one can't be given."""
+    kept = named(Pairings((pairing,)), kept, of_all).left
     own, names = own_options(of_all, pairing), {name.tag: name for name in kept if name.board == pairing.board}
     for tag, value in given_in(text, pairing.board).items():
         names.pop(tag, None)

@@ -174,9 +174,9 @@ class Round:
         self._looker.do(look, found)
 
     def _take(self, read: Pairings, held: Mapping[int, Earlier] = MappingProxyType({})) -> None:
-        named = read_with_names(read, self._hall.folder, self._hall.options, keeps=True)
-        read = named.lines
-        for remark in (*read.remarks, *named.told):
+        found = read_with_names(read, self._hall.folder, self._hall.options, keeps=True)
+        read = found.lines
+        for remark in (*read.remarks, *found.told):
             self.say_of_table(remark)
         had = {number: row.pairing.device for number, row in self.rows.items()}
         boards, self._wrong = without_twice(with_forfeited(read, self._hall), had)
