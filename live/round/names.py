@@ -56,6 +56,8 @@ def own_options(of_all: Options, pairing: Pairing) -> Options:
 def named_options(of_all: Options, pairing: Pairing) -> Options:
     """The same, with what was typed in place of its own."""
     own = own_options(of_all, pairing)
+    if not pairing.typed:
+        return own
     given = [assigned(OPTION_OF[tag], value) if tag in OPTION_OF else assigned(TAG, f"{tag}={value}") for tag, value in pairing.typed]
     return replace(own.with_given(Options.of_words(given)), recover=own.recover)
 
@@ -144,7 +146,7 @@ def told_of_typed(told: str, text: str, pairing: Pairing) -> str:
     tags = [tag for tag in given_in(text, pairing.board) if tag in dict(pairing.typed)]
     if not tags:
         return Message("naming.as_the_table", told=told)
-    if tags[0] in IN_NO_COLUMN:
+    if all(tag in IN_NO_COLUMN for tag in tags):
         return Message("naming.holds_in_round", told=told)
     return Message("naming.holds_in_table", told=told)
 

@@ -267,7 +267,7 @@ def result_before_a_move(folder: pathlib.Path) -> None:
         stage.until_part(page, "#answer", "no move was made yet. If Black has not come, type +-. For 1-0 all the same, give it again")
         answered(stage, page, "0-1", "no move was made yet. If White has not come, type -+. For 0-1 all the same, give it again")
         answered(stage, page, "1/2-1/2", "no move was made yet. For 1/2-1/2 all the same, give it again")
-        same(page.text("#state"), "agrees")
+        until_agrees(stage, page)
         answered(stage, page, "+-", "forfeit 1-0: it isn't played")
         answered(stage, page, "*", "the result 1-0 is gone")
         until_agrees(stage, page)

@@ -113,6 +113,7 @@ def gets() -> None:
     for names, text, told in (
         ((WHITE,), "name White=Carlsen", "so. This holds for this pair until its cell in the table changes"),
         ((WHITE, EVENT), "name Event=Open", "so. This holds for this pair until the round gets another value"),
+        ((WHITE, EVENT), "name White=Carlsen Event=Open", "so. This holds for this pair until its cell in the table changes"),
         ((WHITE,), "name WhiteElo=2850", "so. This is its own value in the round, so no typed one is kept"),
     ):
         same(text, told_of_typed("so", text, with_names(LINE, names)), told)

@@ -146,7 +146,7 @@ def other_pairs(folder: pathlib.Path) -> None:
         until_line(live, told or OWN)
     same(bytes_of(named.kept), kept)
     live.type("3 name White=" + "y" * 255 + " Event=\\\"[x]{")
-    until_line(live, 'its event is now \\"[x]{, and was ?')
+    until_line(live, f'; its event is now \\"[x]{{. {HOLDS}')
     named.until_tag(3, "White", "y" * 255)
     same((named.tags(3)["Event"], named.tags(3, "03.pgn")["White"]), ('\\"[x]{', "White 3"))
     same(stop(live), 0)
