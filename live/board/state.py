@@ -406,7 +406,6 @@ IN_MEMORY = Message("advice.in_memory")
 AT_THE_CABLE = Message("advice.at_the_cable")
 PLUG_IN = Message("advice.plug_in")
 AT_THE_SERVER = Message("advice.at_the_server")
-HOLD_A_KING = Message("advice.hold_a_king")
 # plies that go, if the players took them back or changed them, or only tried them
 GO_BACK: Dict[str, int] = {WHY["TAKEN-BACK"]: 4, WHY["MOVED-ON"]: 4, WHY["UNPRESSED"]: 5}
 
@@ -430,6 +429,11 @@ class Moves:
         if at is None or at + 1 < count:
             return None
         return self.plies[at - count] if at >= count else NO_PLIES
+
+    def from_on(self, where: str, ply: str) -> Optional[str]:
+        """The number of the first ply that may be wrong, at this ply or after it; empty if none has come yet, and None if it isn't known."""
+        at = next((at for at in reversed(range(len(self.plies))) if self.plies[at] == ply), None)
+        return None if at is None else "".join(self.plies[at + (where == "after") :][:1]).partition(" ")[0]
 
 
 def missing(typed: Typed) -> str:
@@ -489,20 +493,24 @@ def if_not(look: Look, typed: Typed, moves: Moves) -> str:
         return Message("advice.this_one_is_right", reopens=typed(REOPENS))
     if is_of(look.why, "look.unheard_after_result"):
         return Message("advice.not_over", how=Message("typed.line", line=typed(REOPENS)))
+    since = NO_PLIES if ply == THE_START else ply
     if look.about.startswith(ABOUT_RESULT):
-        return Message("advice.take_off_before_result", hold=HOLD_A_KING, back=typed(f"{BACK} {(NO_PLIES if ply == THE_START else ply)}"))
+        if moves.plies and moves.before(moves.plies[-1]) == since:  # the board still shows this one
+            return Message("advice.take_one_off_before_result", back=typed(f"{BACK} {since}"))
+        return Message("advice.take_off_before_result", back=typed(f"{BACK} {since}"))
     if look.about.startswith(ABOUT_CLOCK):
-        return Message("advice.take_off", hold=HOLD_A_KING, back=typed(f"{BACK} {(NO_PLIES if ply == THE_START else ply)}"))
+        return Message("advice.take_off", back=typed(f"{BACK} {since}"))
     if look.why in (WHY["OTHER-TIME"], WHY["RETURNED"]) or look.about == WHERE:
         return ""
-    count = GO_BACK.get(look.why, 1)
-    last = ply if where == "after" else moves.before(ply, count)
-    if last is None or not moves.plies or ply == THE_START:
+    if look.why in GO_BACK:
+        last = moves.before(ply, GO_BACK[look.why])
+        return "" if last is None else Message("advice.take_off", back=typed(f"{BACK} {last}"))
+    number = moves.from_on(where, ply)
+    if number is None:
         return ""
-    if last == moves.plies[-1]:
-        return Message("advice.moves_missing_at_the_end", hold=HOLD_A_KING, moves=typed(MOVES))
-    back = Message("advice.back", hold=HOLD_A_KING, back=typed(f"{BACK} {last}"))
-    return Message("advice.take_off_by", back=back) if count > 1 else Message("advice.moves_missing", back=back)
+    if not number:
+        return Message("advice.moves_missing_at_the_end", moves=typed(MOVES))
+    return Message("advice.moves_missing", instead=typed(f"{INSTEAD} {number}"))
 
 
 def told_of(look: Look, typed: Typed, moves: Moves) -> Tuple[str, ...]:

@@ -257,6 +257,25 @@ def edited_result(folder: pathlib.Path) -> None:
 
 
 @with_chromium
+def result_before_a_move(folder: pathlib.Path) -> None:
+    """A result before the first move is asked about: the question says what to type if a player hasn't come, and that the result is to be given
+    again if it is right. Another result is asked about anew. A forfeit is not; once it is taken off, the game begins as any other."""
+    with Hall(folder) as stage:
+        page, port = begin(stage)
+        until_agrees(stage, page)
+        page.click("#white-wins")
+        stage.until_part(page, "#answer", "no move was made yet. If Black has not come, type +-. For 1-0 all the same, give it again")
+        answered(stage, page, "0-1", "no move was made yet. If White has not come, type -+. For 0-1 all the same, give it again")
+        answered(stage, page, "1/2-1/2", "no move was made yet. For 1/2-1/2 all the same, give it again")
+        until_agrees(stage, page)
+        answered(stage, page, "+-", "forfeit 1-0: it isn't played")
+        answered(stage, page, "*", "the result 1-0 is gone")
+        until_agrees(stage, page)
+        answered(stage, page, "1-0", "no move was made yet. If Black has not come, type +-. ")
+        answered(stage, page, "1-0", "added by hand: the result 1-0 before the first move")
+
+
+@with_chromium
 def asked_twice(folder: pathlib.Path) -> None:
     """Many plies are taken off only if that is typed twice, with nothing else between. The tab is killed as soon as it is answered:
     opened again, the game has the plies that stay."""

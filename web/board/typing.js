@@ -4,7 +4,7 @@
 import { shortOf } from '../child/report.js';
 import { shortOfLook } from '../game/alarms.js';
 import { NO_PLIES, gameOf, lastDumpIn } from '../game/course.js';
-import { BOTH, resultOf, whyPlayed, wordsOfForfeit } from '../game/forfeits.js';
+import { BOTH, askedUnplayed, resultOf, whyPlayed, wordsOfForfeit } from '../game/forfeits.js';
 import { ofTyping, optionsOf } from '../game/options.js';
 import {
   ABSENT, AS_IT_IS, Asked, CUT, HELP, NOTHING_ASKED, REFUSED, Refused, THIS, UNPLAYED, askedOf, isStillShown, meaning, placeOf, playedSince, question,
@@ -228,13 +228,13 @@ export class Typing {
   }
 
   /** A result may be meant for the game before, unless this one is over. Throws Refused if this game has no move yet. Returns a question if
-   * the game before has no result; else an empty text.
+   * the game before has no result, or there is none and no move was made yet; else an empty text.
    * @type {(outcome: string) => Words} */
   whichGame(outcome) {
     const { around, course, isOver, name } = this.session;
     const before = around.gameBefore;
     const meant = isOver ? THIS : whichGame(course.plies.length, before && before.isUnended);
-    if (!before || meant === THIS) return '';
+    if (!before || meant === THIS) return isOver || course.plies.length > 0 ? '' : askedUnplayed(outcome);
     const isThat = message('which.press_beside', { before: before.name, result: outcome });
     if (meant !== UNPLAYED) {
       const why = message('which.no_result', { name: before.name });
