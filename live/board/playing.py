@@ -352,7 +352,7 @@ class Playing:
             attending.then(lambda: self._hear_result(self.course.result))
         if self._old == front_of(game.paths, game.capture) != 0:  # nothing has come since plies were taken off
             self._goes_on(BACK, REOPENED)
-        elif opened.is_reopened:  # as the times of the calls before say, if they could be written
+        elif opened.is_reopened and self.course.result == "*":  # as the times of the calls before say, if they could be written
             self._goes_on(REOPENED, BACK)
 
     def _goes_on(self, *told: str) -> None:
