@@ -188,7 +188,7 @@ class Arbiter:
             self._not_undone(text, Message("undo.forfeit"))
             return forfeited
         if isinstance(typed, Undo):
-            return (yield from self._undo())
+            return (yield from self.undo())
         return (yield from self._plays_on(typed, text, sure))
 
     def _plays_on(self, typed: Typed, text: str, sure: bool) -> Steps[Answer]:
@@ -359,7 +359,7 @@ class Arbiter:
             self._watch_on(course)
         return DONE, linked("colon", (game.paths.name, done))
 
-    def _undo(self) -> Steps[Answer]:
+    def undo(self) -> Steps[Answer]:
         """Takes back the line that was obeyed last: the game is what it would be without it."""
         session, game = self.session, self.session.game
         line, put = to_undo(self._last, game)
