@@ -64,7 +64,7 @@ def put_way(game: Game, way: Way, end: Optional[int] = None) -> str:
     except Exception:
         game.times.come_back(kept)
         raise
-    if way.past:
+    if way.past and way.past.before:
         game.times.go_on_from(way.past.kept or kept, way.past.before)
     game.times.begin()
     if end is not None:

@@ -83,9 +83,10 @@ def to_undo(last: Optional[Obeyed], game: Game) -> Tuple[str, PutIn]:
         raise NotDone(last.why)
     if last.capture is game.capture:
         return last.line, last.put
-    before = last.capture.path[: -len(".dgt")]
-    how = Message("undo.other_way") if before == game.paths.name else Message("undo.by_its_name", name=before)
-    raise NotDone(Message("undo.begun_since", line=shown(last.line), name=game.paths.name, how=how))
+    before, line = last.capture.path[: -len(".dgt")], shown(last.line)
+    if before == game.paths.name:  # it has begun anew
+        raise NotDone(Message("undo.cannot", line=line, why=Message("undo.other_way")))
+    raise NotDone(Message("undo.begun_since", line=line, name=game.paths.name, how=Message("undo.by_its_name", name=before)))
 
 
 def undone(game: Game, line: str, put: PutIn, sent: bytes) -> Undone:
