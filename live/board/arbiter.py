@@ -264,7 +264,7 @@ class Arbiter:
         if not said.put:
             raise not_added(said, line, place_of(said, game.options.fen, sans, line))
         self._not_undone(line, Message("undo.failed"))
-        self._added = range(game.capture.size, game.capture.size + len(said.put))
+        self._added = range(game.capture.total, game.capture.total + len(said.put))
         now.put(said.put, said.outcome)
         yield from self._on_the_disk()
         if not (yield from now.reports_put()):
@@ -387,7 +387,8 @@ class Arbiter:
         self._screen.say(done)
         if course:
             self._watch_on(course)
-        session.ups.append(News.OVER)
+        if not self._plan.rules.series:
+            session.ups.append(News.OVER)
         return linked("colon", (game.paths.name, done))
 
     def _put(self, typed: Changes) -> Steps[str]:

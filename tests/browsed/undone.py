@@ -37,6 +37,7 @@ def moves_undone(folder: pathlib.Path) -> None:
         stage.until_moves(page, RUY_SANS[:6])
         until_agrees(stage, page)
         answered(stage, page, "undo", 'refused: "Nf6 O-O" is undone, and nothing else is left to undo. To have it again, type it again')
+        answered(stage, page, "Nf3", "Nothing was added")
         play(stage, page, port, RUY[6:7], RUY_SANS[6:7])
         text = "1. e4 e5 2. Nf3 Nc6 3. Bb5 a6 4. Bxc6 *"
         until_text(stage, chosen, "board 1.pgn", text)
@@ -53,7 +54,8 @@ def moves_undone(folder: pathlib.Path) -> None:
 
 @with_chromium
 def plies_again(folder: pathlib.Path) -> None:
-    """Plies were taken off, and others put in their place, by mistake: all are there again, and the next move comes to them. `ok` and `*` can't
+    """Plies were taken off, and others put in their place, by mistake: all are there again, also if the tab is killed as soon as that is answered,
+    and the next move comes to them. `ok` and `*` can't
     be undone: the answer says what to type."""
     with Hall(folder) as stage:
         page, port = begin(stage)
@@ -69,6 +71,10 @@ def plies_again(folder: pathlib.Path) -> None:
         answered(stage, page, "instead 3. Bc4", "now 3. Bc4; taken off: 3. Bb5")
         stage.until_moves(page, [*RUY_SANS[:4], "Bc4"])
         answered(stage, page, "undo", 'undone: "instead 3. Bc4"; taken off: 3. Bc4; 5 plies again, the last one 3. Bb5. What the board had sent is kept')
+        stage.until_moves(page, RUY_SANS[:5])
+        stage.crash(page)  # as soon as it is answered
+        page = stage.tab()
+        stage.enlarge(page, 1)
         stage.until_moves(page, RUY_SANS[:5])
         port.board.put("e1", 5)
         until_agrees(stage, page)
@@ -122,6 +128,6 @@ def results_undone(folder: pathlib.Path) -> None:
         port.board.set_up([])
         stage.until_moves(page, [])
         play(stage, page, port, RUY[:1], RUY_SANS[:1])
-        answered(stage, page, "undo", 'refused: "0-1" was typed before board 1-2 began. Give board 1 its result beside that name')
+        answered(stage, page, "undo", 'refused: undo: "0-1" was typed before board 1-2 began. Give board 1 its result beside that name')
         texts = stage.saved(page, "#save-round").decode().replace("\n", " ")
         assert "3. Bb5 a6 0-1" in texts and "1. e4 *" in texts, texts

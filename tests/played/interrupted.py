@@ -235,7 +235,7 @@ class Again:
 
 
 def stopped_in_a_game(folder: pathlib.Path) -> None:
-    """Moves on the board, typed moves, a ply that is taken off, a result."""
+    """Moves on the board, typed moves, a ply that is taken off, lines that are undone, a result."""
     played = Played(folder, ["game"])
     begun(played.live)
     played.step(words.AGREES, "*")
@@ -253,7 +253,11 @@ def stopped_in_a_game(folder: pathlib.Path) -> None:
     played.board.lift("c6")
     played.board.put("b8", played.knight)
     until(lambda: "b8" in played.live.lines().rpartition(words.AGREES)[2], "that the board is seen")
-    played.type("back 2. Nf3", "is kept in", "1. e4 e5 2. Nf3 *")
+    played.type("back 2. Nf3", "back to 2. Nf3", "1. e4 e5 2. Nf3 *")
+    played.type("undo", "4 plies again", "1. e4 e5 2. Nf3 Nc6 *")
+    played.type("back", "back to 2. Nf3; taken off: 2... Nc6. What", "1. e4 e5 2. Nf3 *")
+    played.type("d5 d4", "added by hand: d5 d4", "1. e4 e5 2. Nf3 d5 3. d4 *")
+    played.type("undo", "3 plies again", "1. e4 e5 2. Nf3 *")
     played.type("1-0", "added by hand: the result 1-0", "1. e4 e5 2. Nf3 1-0")
     same(ended(played.live), 0)
     played.check()
