@@ -235,7 +235,7 @@ class Again:
 
 
 def stopped_in_a_game(folder: pathlib.Path) -> None:
-    """Moves on the board, typed moves, a ply that is taken off, lines that are undone, a result."""
+    """Moves on the board, typed moves, a ply that is taken off, a result."""
     played = Played(folder, ["game"])
     begun(played.live)
     played.step(words.AGREES, "*")
@@ -253,13 +253,27 @@ def stopped_in_a_game(folder: pathlib.Path) -> None:
     played.board.lift("c6")
     played.board.put("b8", played.knight)
     until(lambda: "b8" in played.live.lines().rpartition(words.AGREES)[2], "that the board is seen")
-    played.type("back 2. Nf3", "before-1.dgt", "1. e4 e5 2. Nf3 *")
-    played.type("undo", 'undone: "back 2. Nf3"', "1. e4 e5 2. Nf3 Nc6 *")
-    played.type("back", "before-3.dgt", "1. e4 e5 2. Nf3 *")
-    played.type("d5 d4", "added by hand: d5 d4", "1. e4 e5 2. Nf3 d5 3. d4 *")
-    played.type("undo", 'undone: "d5 d4"', "1. e4 e5 2. Nf3 *")
+    played.type("back 2. Nf3", "is kept in", "1. e4 e5 2. Nf3 *")
     played.type("1-0", "added by hand: the result 1-0", "1. e4 e5 2. Nf3 1-0")
     same(ended(played.live), 0)
+    played.check()
+
+
+def stopped_undoing(folder: pathlib.Path) -> None:
+    """Typed moves are undone; plies are taken off, and that is undone."""
+    played = Played(folder, ["game"])
+    begun(played.live)
+    played.step(words.AGREES, "*")
+    played.move("e2e4", "  1. e4", "1. e4 *")
+    played.move("e7e5", "  1... e5", "1. e4 e5 *")
+    played.type("d4 d5", "added by hand: d4 d5", "1. e4 e5 2. d4 d5 *")
+    played.type("undo", 'undone: "d4 d5"', "1. e4 e5 *")
+    played.begin()
+    played.board.lift("e1")  # so the board shows no ply that could come back
+    until(lambda: "in hand e1" in played.live.lines(), "that the board is seen")
+    played.type("back 1. e4", "before-2.dgt", "1. e4 *")
+    played.type("undo", 'undone: "back 1. e4"', "1. e4 e5 *")
+    kill(played.live)
     played.check()
 
 
