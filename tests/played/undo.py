@@ -14,7 +14,7 @@ from played import times, words
 from played.back import answered, is_whole, ruy, sans
 from played.back_killed import CALLS, KILLING, MOST, PARTS, PAUSE, Record
 from played.recorder import Live
-from played.stage import a_board, begin_game, begun, bytes_of, ended, go_on, movetext, program, recorded, same, stop, until, until_dumped, until_game, until_line
+from played.stage import a_board, begin_game, begun, bytes_of, ended, go_on, movetext, program, recorded, rest, same, stop, until, until_dumped, until_game, until_line
 
 BY_HAND = "Take plies off with back, and a result with *"
 NOTHING = f"refused: nothing was typed since this recording began, and what was typed before can't be undone. {BY_HAND}"
@@ -110,6 +110,41 @@ def all_undone(folder: pathlib.Path) -> None:
     until_game(live.name, "*")
     board.play("d2d4")
     until_game(live.name, "1. d4 *")
+    same(stop(live), 0)
+    is_whole(live)
+
+
+def looks_again(folder: pathlib.Path) -> None:
+    """A ply after a gap is a LOOK. It goes with its ply, and both come again when that is undone. Once somebody has looked it stays away, also
+    when later moves are undone."""
+    board, live = ruy(folder)
+    board.pull()
+    until_line(live, words.UNPLUGGED)
+    rest(1.5)  # there is room for a ply
+    board.play("a7a6")
+    board.plug()
+    until_line(live, "LOOK at 3... a6")
+    look = bytes_of(live.name + ".look")
+    until(lambda: sans(live)[5:] == ["a6"], "the ply after the gap")
+    until_dumped(board, live.name)
+    board.lift("e1")
+    until_dumped(board, live.name)
+    answered(live, "back", "back to 3. Bb5; taken off: 3... a6. Settled: LOOK at 3... a6.")
+    same(bytes_of(live.name + ".look"), b"")
+    answered(live, "undo", 'undone: "back"; 6 plies again, the last one 3... a6.')
+    until_line(live, "LOOK at 3... a6", 2)
+    until(lambda: bytes_of(live.name + ".look") == look, "the same LOOK")
+    board.put("e1", 5)
+    until_dumped(board, live.name)
+    answered(live, "ok", "acknowledged: LOOK at 3... a6")
+    answered(live, "Ba4 Nf6", "added by hand: Ba4 Nf6")
+    said = len(live.lines())
+    answered(live, "undo", 'undone: "Ba4 Nf6"; taken off: 4. Ba4 Nf6; 6 plies again, the last one 3... a6.')
+    until_dumped(board, live.name)
+    board.play("b5a4")
+    until(lambda: sans(live)[6:] == ["Ba4"], "the next move")
+    until_line(live, words.AGREES)
+    same((bytes_of(live.name + ".look"), "LOOK" in live.lines()[said:]), (b"", False))
     same(stop(live), 0)
     is_whole(live)
 
@@ -263,4 +298,4 @@ def killed_undoing_3(folder: pathlib.Path) -> None:
     killed(folder, 3)
 
 
-CASES = [moves_undone, back_undone, result_undone, all_undone, others_refused, between_games, killed_undoing_1, killed_undoing_2, killed_undoing_3]
+CASES = [moves_undone, back_undone, result_undone, all_undone, looks_again, others_refused, between_games, killed_undoing_1, killed_undoing_2, killed_undoing_3]
