@@ -146,19 +146,23 @@ class Arbiter:
         return (yield from self._ended(text, self._rename(prepares)))
 
     def _ended(self, text: str, steps: Steps[Answer]) -> Steps[Answer]:
+        before = self._edition
         try:
             answer = yield from steps
-        except (NotDone, Refused) as error:
+        except Exception as error:
+            if self._edition != before:
+                self._not_undone(text, Message("undo.failed"))
+            if not isinstance(error, (NotDone, OSError, Refused)):
+                self.session.let_go()
+                raise
             answer = refusal(text, error)
-        except OSError as error:
-            self._not_undone(text, Message("undo.failed"))
-            answer = refusal(text, error)
-        except Exception:
-            self._not_undone(text, Message("undo.failed"))
-            self.session.let_go()
-            raise
         self.session.let_go()
         return answer
+
+    @property
+    def _edition(self) -> Tuple[int, int]:
+        """Another one if the capture of the game was made anew."""
+        return self.session.game.capture.number, self.session.game.times.generation
 
     def _obeys(self, text: str, before: Optional[Paths], sure: bool, may_quit: bool) -> Steps[Answer]:
         session = self.session
@@ -194,8 +198,7 @@ class Arbiter:
     def _plays_on(self, typed: Typed, text: str, sure: bool) -> Steps[Answer]:
         """A result, moves, or what takes them off: the game isn't forfeited any more."""
         game, self._added = self.session.game, range(0)
-        end, generation, size, was_forfeited = end_mark(game.paths), game.times.generation, game.capture.size, kept_forfeit(game.paths)
-        is_over = not isinstance(self.session.now, Playing)
+        end, generation, was_forfeited = end_mark(game.paths), game.times.generation, kept_forfeit(game.paths)
         if isinstance(typed, Reopened):
             answer = yield from self._take_result_off()
         elif isinstance(typed, (Back, Instead)):
@@ -205,9 +208,6 @@ class Arbiter:
         else:
             raise NotDone(WAYS)
         drop_forfeit(game.paths)
-        if is_over and game.times.generation == generation:
-            begins = size if end is None else end
-            self._added = range(begins, begins + game.capture.size - size)
         put = None if was_forfeited or isinstance(typed, Reopened) else put_in(game, generation, self._added, end)
         if put:
             self._last = Obeyed(" ".join(text.split()), game.capture, put)
@@ -311,7 +311,7 @@ class Arbiter:
         """Adds to the game that is over while its board is watched, or while the pieces are set up."""
         session, name = self.session, self.session.game.paths.name
         adds = functools.partial(_added_last, session.game, line, self._is_there, self._guard.now())
-        what, course = yield from self._changed(ADDED, adds)
+        what, course, self._added = yield from self._changed(ADDED, adds)
         self._screen.say(Message("typed.added_by_hand_to", name=name, what=what))
         self._watch_on(course)
         return DONE, Message("typed.added_to", name=name, what=what)
@@ -610,9 +610,13 @@ def _added_by(game: Game, line: str, sent: bytes) -> Said:
     return ask_to_add(game.program, game.options, sent, line)
 
 
-def _added_last(game: Game, line: str, is_there: bool, now: float) -> Tuple[str, Course]:
-    """What was added to a game that is over, and its course then."""
-    return add_and_make(game, line, is_there), course_of(game, now)
+def _added_last(game: Game, line: str, is_there: bool, now: float) -> Tuple[str, Course, range]:
+    """What was added to a game that is over, its course then, and where in the capture that is, unless that was made anew."""
+    end, size, generation = end_mark(game.paths), game.capture.size, game.times.generation
+    begins = size if end is None else end
+    what = add_and_make(game, line, is_there)
+    added = range(begins, begins + game.capture.size - size) if game.times.generation == generation else range(0)
+    return what, course_of(game, now), added
 
 
 def _changed_so(game: Game, change: Callable[[], str], now: float) -> Tuple[str, Optional[Course]]:

@@ -48,6 +48,8 @@ export class Typing {
     this.asked = /** @type {Words} */ (''); // the last question, which the same line answers if it is typed again
     this.lastLine = /** @type {Obeyed | null} */ (null); // the line that was obeyed last
     this.put = /** @type {PutIn | null} */ (null); // what the present line has put in
+    /** @type {PutIn['before']} */
+    this.before = { end: null }; // what was known of the game then
   }
 
   /** Does this while all that comes waits: none of it is taken or shown meanwhile.
@@ -97,7 +99,6 @@ export class Typing {
       session.says(said);
       return { done: true, said: session.capture.trouble ? linked('stop', [said, message('keep.not_yet')]) : said };
     } catch (error) {
-      if (!(error instanceof Refused)) this.obeyed(text, null, message('undo.failed'));
       return { done: false, said: refusal(text, error) };
     }
   }
@@ -112,12 +113,12 @@ export class Typing {
       this.obeyed(text, null, message('undo.forfeit'));
       return notPlayed;
     }
-    const { forfeit, end, typedTo, overTo } = session.record.game;
+    const { forfeit } = session.record.game;
     const said = await this.changes(typed);
     const put = /** @type {PutIn | null} */ (this.put);
     const isResultOff = typed.kind === 'reopened';
     const why = isResultOff ? message('undo.result_off') : message('undo.other_way');
-    this.obeyed(text, put && !forfeit && !isResultOff ? { ...put, before: { end, typedTo, overTo } } : null, why);
+    this.obeyed(text, put && !forfeit && !isResultOff ? put : null, why);
     await session.forfeits('');
     return said;
   }
@@ -130,12 +131,12 @@ export class Typing {
 
   /** @type {(kept: number, made: number) => void} a new capture has taken the place of one with so many bytes */
   hasMade(kept, made) {
-    this.put = { kept, made, from: made, to: made, before: this.session.record.game };
+    this.put = { kept, made, from: made, to: made, before: this.before };
   }
 
   /** @type {(from: number, to: number) => void} the capture has got these bytes */
   hasAdded(from, to) {
-    this.put = { kept: 0, made: 0, before: this.session.record.game, ...this.put, from, to };
+    this.put = { kept: 0, made: 0, before: this.before, ...this.put, from, to };
   }
 
   /** @type {(typed: Exclude<ChangeTyped, { kind: 'forfeit' } | { kind: 'undo' }>) => Promise<Words>} */
@@ -200,6 +201,8 @@ export class Typing {
     await session.attending.read();
     if (session.guard.ended) throw new Refused(message('typed.interrupted'));
     if (session.next.beginning.isOn || !this.isStill(seen)) throw new Refused(message('typed.ended_meanwhile'));
+    const { end, typedTo, overTo } = session.record.game;
+    if (this.put === null) this.before = { end, typedTo, overTo };
     return put(answer);
   }
 
