@@ -1,6 +1,7 @@
 // What somebody types for a board that is recorded, or whose game is over. The program decides what it means; here its
 // answers come into the capture.
 
+import { BACK } from '../child/attended.js';
 import { shortOf } from '../child/report.js';
 import { shortOfLook } from '../game/alarms.js';
 import { NO_PLIES, gameOf, lastDumpIn } from '../game/course.js';
@@ -382,7 +383,10 @@ export class Typing {
     const left = looks.without(settled(plies, stays));
     const done = wordsOfInstead(plies, stays, line, result);
     const { size } = session.capture;
-    await session.renew(put, true, { end: null, typedTo: put.length, looks: left.kept, goneBack: session.goneBack + 1 });
+    const now = await gameOf(session.hall.calls, session.options, put);
+    /** @type {TimesOf} */
+    const timesOf = (game, capture, words) => session.times.next(game, capture, 0, now.result === '*' ? words : [BACK]); // else mate ends it
+    await session.renew(put, true, { end: null, typedTo: put.length, looks: left.kept, goneBack: session.goneBack + 1 }, timesOf);
     this.hasMade(size, put.length);
     return linked('stop', [done, ...aboutLooks(looks, left), KEPT]);
   }
