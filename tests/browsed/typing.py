@@ -44,11 +44,11 @@ def held(stage: Hall) -> Tuple[Page, Port]:
 
 @with_chromium
 def help_is_given(folder: pathlib.Path) -> None:
-    """`help`, `?` and `undo` are answered with what can be typed, and that is no refusal; what no line has is asked about."""
+    """`help` and `?` are answered with what can be typed, and that is no refusal; what no line has is asked about."""
     with Hall(folder) as stage:
         page, port = begin(stage)
         until_agrees(stage, page)
-        for text in ("help", "?", "undo"):
+        for text in ("help", "?"):
             answered(stage, page, text, "Type 1-0, 0-1, 1/2-1/2, moves (Nf3 Nc6)")
             same(page.text("#answer").startswith("Type"), True)
             same(page.value("document.querySelector('#answer').classList.contains('refused')"), False)

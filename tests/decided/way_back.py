@@ -3,7 +3,8 @@ screen prints."""
 
 from live.child.lines import Move
 from live.game.looks import OVER, Look, Looks
-from live.game.typed import Said, Way, asked_of, not_back, not_instead, nothing_goes, numbered, played_since, read_answer, stays_of, taken_up, way_of
+from live.game.typed import PutIn, Said, Way, asked_of, not_back, not_instead, nothing_goes, numbered, played_since, read_answer, stays_of, taken_up, way_of
+from live.game.undone import Undone, alike
 
 from decided.cases import cases
 from decided.table import same
@@ -41,6 +42,19 @@ def instead() -> None:
         same(f"{text}, {line}", [str(not_instead(said, line, None, PLIES)), way_of(said, PLIES, line)], [expected, None])
 
 
+def undone() -> None:
+    """The line that was typed last is taken back."""
+    for line, had, behind, result, has, more, now, told in cases("way_back", "undone"):
+        before, after = ([*PLIES[:count], *(Move(*ply) for ply in rest)] for count, rest in ((had, behind), (has, more)))
+        way = Undone(before, alike(before, after), result, b"new", typed=line, now=after, has=now)
+        same(told, (way.words, way.question, way.front), (told, "", b"new" if now == "*" else b""))
+    for kept, made, begins, ends, sent, left in cases("way_back", "taken out"):
+        put = PutIn(kept and "game.before-1.dgt", len(kept), made, range(begins, ends))
+        same(f"{kept} and {sent}", put.taken_out(sent.encode(), kept.encode()).decode(), left)
+        same(f"{kept} and {sent}, before", put.before, len(kept) or begins)
+    same("a game that was over ends by itself", Undone(PLIES, 12, "*", b"new", put=PutIn(end=3)).front, b"")
+
+
 def plies() -> None:
     """What is asked and told."""
     for stays, asked in cases("way_back", "questions"):
@@ -70,4 +84,4 @@ def taken_up_again() -> None:
         same(expected, played_since(PLIES[:count], now), expected)
 
 
-TABLES = [answers, instead, plies, looks, taken_up_again]
+TABLES = [answers, instead, undone, plies, looks, taken_up_again]
