@@ -20,7 +20,7 @@ from live.board.over import SettingUp, Watched
 from live.board.plan import News
 from live.board.playing import PATIENCE, Playing
 from live.board.session import Session
-from live.board.state import may_take, mend_of
+from live.board.state import NOTHING_ASKED, may_take, mend_of
 from live.child.lines import Move
 from live.game.attending import Attending, read_game
 from live.game.changing import add_and_make, add_by_name, ask_first, change_closed, course_of, or_reopened, put_names_right, put_way, reopen, told_of_next, unforfeited
@@ -38,7 +38,6 @@ from live.words.message import Message, linked
 TRIES = 3  # calls before what the board sends is held
 HOLDS = 60.0  # seconds for which the answer to a question counts
 JUST_ENDED = Message("typed.just_ended")
-NOTHING_ASKED = Message("typed.nothing_asked")
 ADDED, TAKEN_OFF, RENAMED = Message("done.added"), Message("done.taken_off"), Message("done.renamed")
 FORFEITS = {"1-0": (Message("side.black"), "+-"), "0-1": (Message("side.white"), "-+")}  # who hasn't come, and what is typed then
 Result = TypeVar("Result")
@@ -200,12 +199,10 @@ class Arbiter:
         return (yield from self._plays_on(typed, text, sure))
 
     def _asked_and_so(self, before: Optional[Paths]) -> str:
-        """What the question at this board asks about, as it is typed. Nothing is asked about the game before."""
-        standing = self.session.standing
-        accepted = standing.accepts() if standing and not before else ""
-        if not accepted:
+        """What the question at this board asks about, as it is typed. Nothing is asked about the game before, nor about one that is over."""
+        if before or not self.session.standing:
             raise NotDone(NOTHING_ASKED)
-        return accepted
+        return self.session.standing.accepts()
 
     def _plays_on(self, typed: Typed, text: str, sure: bool) -> Steps[Answer]:
         """A result, moves, or what takes them off: the game isn't forfeited any more."""

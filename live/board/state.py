@@ -28,10 +28,11 @@ from live.game.looks import ABOUT_CLOCK, ABOUT_RESULT, AFTER_RESULT, OVER, THE_S
 from live.game.typed import NO_PLIES, NO_RESULT
 from live.line.protocol import differing, picture_of_placement
 from live.run.loop import Turns
-from live.run.refused import BACK, INSTEAD, OK, REOPENS, YES
+from live.run.refused import BACK, INSTEAD, OK, REOPENS, YES, NotDone
 from live.words.message import Message, has, is_of, linked, plural
 
 MOST_LISTED = 8
+NOTHING_ASKED, ASKED_ANEW = Message("typed.nothing_asked"), Message("typed.asked_anew")
 READ = 1.0  # seconds in which nobody can have read a question and answered it
 TURNED_ROUND = Message("state.turned_round")
 OTHER_BOARD = Message("state.other_board")
@@ -201,6 +202,15 @@ class BoardState:
         return State(kind, self._since, squares, result, hint, self.disk, self.look, self.line, self.clock_stopped, stood.fits, asks)
 
 
+@dataclass(frozen=True)
+class Question:
+    """What is asked about, as it is typed; when; and the squares on which the board differed then."""
+
+    fits: str = ""
+    at: float = 0.0
+    differs: Tuple[str, ...] = ()
+
+
 IN_A_SET_UP = (Kind.WAITS, Kind.AGREES, Kind.IN_HAND)  # states that say nothing while no game is played
 
 
@@ -216,7 +226,7 @@ class Standing:
         self._is_unknown = has_shown and before is None
         self.was_away = False  # unplugged or silent since it was last heard
         self._hint = ""
-        self._asked: Tuple[str, float] = "", 0.0  # what was last asked about, as it is typed, and when
+        self._question = Question()  # that was asked last
         self._closed = False
 
     @property
@@ -241,17 +251,21 @@ class Standing:
         if state.hint and state.hint != self._hint:
             self._screen.hint(state.hint)
         self._hint = state.hint
-        if state.fits != self._asked[0]:
-            self._asked = state.fits, self._loop.now()
+        if state.fits != self._question.fits:
+            self._question = Question(state.fits, self._loop.now(), self.board.differs)
             if state.asks:
                 self._screen.hint(state.asks)
 
     def accepts(self) -> str:
-        """What somebody accepts by `y`, as it is typed: the change that was last asked about, if the question still stands, and somebody can
-        have read it; empty if there is none. If the board shows something else by now, that is asked about first."""
-        asked, since = self._asked
+        """What somebody accepts by `y`, as it is typed: the change that was last asked about. Refused if nothing is asked; if nobody can have
+        read the question; or if the board shows something else by now, which is asked about as soon as it explains the board."""
+        question = self._question
         self.show()
-        return asked if asked == self._asked[0] and self._loop.now() >= since + READ else ""
+        if not self._question.fits:
+            raise NotDone(NOTHING_ASKED)
+        if question != self._question or self.board.differs != question.differs or self._loop.now() < question.at + READ:
+            raise NotDone(ASKED_ANEW)
+        return question.fits
 
     def lasts(self) -> None:
         """Call this each second: a terminal shows how long it has lasted."""

@@ -5,9 +5,8 @@ import pathlib
 from played import words
 from played.alarms import hide_two
 from played.back import answered, is_whole, ruy, sans
-from played.boards import a_board
-from played.recorder import Live, begun
-from played.stage import movetext, rest, same, stop, until, until_game, until_line
+from played.recorder import Live
+from played.stage import a_board, begun, movetext, rest, same, stop, until, until_game, until_line
 
 NOTHING_ASKED = "nothing is asked at this board"
 
@@ -31,7 +30,7 @@ def others_instead(folder: pathlib.Path) -> None:
     is_whole(live)
 
 
-def missed(folder: pathlib.Path) -> None:
+def moves_unseen(folder: pathlib.Path) -> None:
     """No picture showed a move whole before its reply: both are asked about, and put in."""
     board = a_board(folder)
     live = Live(board.device, folder / "game", typed=True)
@@ -50,7 +49,7 @@ def missed(folder: pathlib.Path) -> None:
     is_whole(live)
 
 
-def taken_back(folder: pathlib.Path) -> None:
+def only_taken_back(folder: pathlib.Path) -> None:
     """Black's pawn went back: it can't have moved there, so it was taken back. Knights that stand as before two plies may have gone back
     or not: nothing is asked."""
     board = a_board(folder)
@@ -93,10 +92,10 @@ def gone_by_then(folder: pathlib.Path) -> None:
     board.lift("e4")
     board.lift("b1")
     rest(1.5)
-    answered(live, "y", NOTHING_ASKED)
+    answered(live, "y", "the board shows something else than when it was asked")
     same(movetext(live.name), "1. e4 *")
     same(stop(live), 0)
     is_whole(live)
 
 
-CASES = [others_instead, missed, taken_back, gone_by_then]
+CASES = [others_instead, moves_unseen, only_taken_back, gone_by_then]

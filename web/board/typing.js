@@ -8,7 +8,7 @@ import { NO_PLIES, gameOf, lastDumpIn } from '../game/course.js';
 import { BOTH, askedUnplayed, resultOf, whyPlayed, wordsOfForfeit } from '../game/forfeits.js';
 import { ofTyping, optionsOf } from '../game/options.js';
 import {
-  ABSENT, AS_IT_IS, Asked, CUT, HELP, NOTHING_ASKED, REFUSED, Refused, THIS, UNDO, UNPLAYED, alike, askedOf, cannot, isStillShown, meaning,
+  ABSENT, AS_IT_IS, Asked, CUT, HELP, REFUSED, Refused, THIS, UNDO, UNPLAYED, alike, askedOf, cannot, isStillShown, meaning,
   placeOf, playedSince, question, reached, readAnswer, readBack, readInstead, readWords, refusal, refuse, refuseBack, refuseInstead,
   refuseNothing, settled, takenOut, takenUp, whichGame, wordsOfBack, wordsOfInstead, wordsOfUndone,
 } from '../game/typed.js';
@@ -38,6 +38,11 @@ async function resultIn(calls, text) {
 function aboutLooks(before, left) {
   const gone = before.open.filter((look) => !left.open.includes(look)).map(shortOfLook);
   return gone.length > 0 ? [message('look.settled', { looks: linked('comma', gone) })] : [];
+}
+
+/** @type {(typed: import('../game/typed.js').Typed, line: string) => ChangeTyped} what changes the game: a question that is accepted is done as if its line had been typed */
+function asked(typed, line) {
+  return /** @type {ChangeTyped} */ (typed.kind === 'accepted' ? readWords(line) : typed);
 }
 
 export class Typing {
@@ -97,19 +102,12 @@ export class Typing {
       }
       if (session.capture.trouble) throw new Refused(unkept(session.capture));
       const line = typed.kind === 'accepted' ? session.presence.accepts() : text;
-      const said = await this.does(typed.kind === 'accepted' ? this.accepted(line) : typed, line);
+      const said = await this.does(asked(typed, line), line);
       session.says(said);
       return { done: true, said: session.capture.trouble ? linked('stop', [said, message('keep.not_yet')]) : said };
     } catch (error) {
       return { done: false, said: refusal(text, error) };
     }
-  }
-
-  /** @type {(line: string) => ChangeTyped} what the question at this board asks about, as if it had been typed; refused if there is none */
-  accepted(line) {
-    const typed = readWords(line);
-    if (typed.kind === 'added' || typed.kind === 'instead' || typed.kind === 'back') return typed;
-    throw new Refused(NOTHING_ASKED);
   }
 
   /** @type {(typed: ChangeTyped, text: string) => Promise<Words>} does what changes the game */
