@@ -106,10 +106,14 @@ def result_undone(folder: pathlib.Path) -> None:
 
 
 def all_undone(folder: pathlib.Path) -> None:
-    """The first moves of a game go, and it has none."""
+    """The first moves of a game go, and it has none. That a player hasn't come is taken off in another way."""
     board = a_board(folder)
     live = Live(board.device, folder / "game", typed=True)
     begun(live)
+    answered(live, "+-", "added by hand: forfeit 1-0")
+    answered(live, "undo", 'refused: "+-" was typed last, and can\'t be undone. Type * to take it off')
+    answered(live, "*", "the result 1-0 is gone")
+    until_game(live.name, "*")
     answered(live, "e4", "added by hand: e4")
     until_game(live.name, "1. e4 *")
     answered(live, "UNDO", 'undone: "e4"; taken off: 1. e4; no ply again')
