@@ -26,6 +26,7 @@ from live.game.attending import Attending, read_game
 from live.game.changing import add_and_make, add_by_name, ask_first, change_closed, course_of, or_reopened, put_names_right, put_way, reopen, told_of_next, unforfeited
 from live.game.files import Paths, open_regular, part_of
 from live.game.game import Course, Game, end_mark, forget_question, game_of, keep_other
+from live.game.kept import Capture
 from live.game.looks import acknowledge
 from live.game.opening import Chooses, Opened, named
 from live.game.options import IN_A_TABLE, is_naming
@@ -150,7 +151,8 @@ class Arbiter:
         try:
             answer = yield from steps
         except Exception as error:
-            if self._edition != before:
+            now = self._edition
+            if now[0] is before[0] and now != before:
                 self._not_undone(text, Message("undo.failed"))
             if not isinstance(error, (NotDone, OSError, Refused)):
                 self.session.let_go()
@@ -160,9 +162,10 @@ class Arbiter:
         return answer
 
     @property
-    def _edition(self) -> Tuple[int, int]:
-        """Another one if the capture of the game was made anew."""
-        return self.session.game.capture.number, self.session.game.times.generation
+    def _edition(self) -> Tuple[Capture, int, int]:
+        """The capture of the game, and what is another one once it was made anew."""
+        game = self.session.game
+        return game.capture, game.capture.number, game.times.generation
 
     def _obeys(self, text: str, before: Optional[Paths], sure: bool, may_quit: bool) -> Steps[Answer]:
         session = self.session

@@ -403,7 +403,7 @@ class Way:
 
     @property
     def past(self) -> Optional[PutIn]:
-        """What is taken out again, if that is all: so the times from before it go on."""
+        """What a line has put in, if this takes only that out: then the times from before it go on."""
         return None
 
     @property

@@ -419,7 +419,8 @@ def forfeited(folder: pathlib.Path) -> None:
 
 @with_chromium
 def look_is_settled(folder: pathlib.Path) -> None:
-    """`back` over a ply with an alarm settles the alarm: what it was about is gone."""
+    """`back` over a ply with an alarm settles the alarm: what it was about is gone. If that is undone, both are there again. Once somebody has
+    looked, the alarm stays away, also when later moves are undone."""
     with Hall(folder) as stage:
         page, port = begin(stage)
         until_agrees(stage, page)
@@ -436,3 +437,13 @@ def look_is_settled(folder: pathlib.Path) -> None:
         answered(stage, page, "back 1... e5", "back to 1... e5; taken off: 2. Nf3. Settled: LOOK at 2. Nf3.")
         stage.until(lambda: "LOOK" not in page.text("#state"), "no alarm any more")
         stage.until_moves(page, RUY_SANS[:2])
+        answered(stage, page, "undo", 'undone: "back 1... e5"; 3 plies again, the last one 2. Nf3. What the board had sent is kept')
+        stage.until_part(page, "#state", "LOOK at 2. Nf3")
+        stage.until_moves(page, RUY_SANS[:3])
+        port.board.put("e1", 5)
+        answered(stage, page, "ok", "acknowledged: LOOK at 2. Nf3")
+        answered(stage, page, "Nc6 Bb5", "added by hand: Nc6 Bb5")
+        answered(stage, page, "undo", 'undone: "Nc6 Bb5"; taken off: 2... Nc6 3. Bb5; 3 plies again, the last one 2. Nf3.')
+        until_agrees(stage, page)
+        stage.rest(1)
+        assert "LOOK" not in page.text("#state"), page.describe()

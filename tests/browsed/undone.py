@@ -94,8 +94,8 @@ def plies_again(folder: pathlib.Path) -> None:
 @with_chromium
 def results_undone(folder: pathlib.Path) -> None:
     """A result was meant for another board: within the ten seconds and after them the game goes on, with the moves made since. A second result in
-    the place of the first is taken back, and the first one stands; so it does once plies were taken off the game that is over. It is so when the
-    page is opened again. Once the next game has begun, nothing of this one is undone."""
+    the place of the first is taken back, and the first one stands; so it does once plies were taken off the game that is over, whether that stayed
+    over or went on. It is so when the page is opened again. Once the next game has begun, nothing of this one is undone."""
     with Hall(folder) as stage:
         page, port = begin(stage)
         until_agrees(stage, page)
@@ -122,6 +122,14 @@ def results_undone(folder: pathlib.Path) -> None:
         answered(stage, page, "back", "taken off: 3... a6; the result 1-0 is gone. The board still shows it, so the game stays over")
         answered(stage, page, "undo", f'undone: "back"; {again}')
         stage.until(lambda: movetext_of(stage.saved(page, "#save-game")).endswith("a6 1-0"), "all plies")
+        port.board.lift("e1")
+        stage.until_dumped(page, port)
+        answered(stage, page, "back", "back to 3. Bb5; taken off: 3... a6; the result 1-0 is gone. What the board had sent is kept")
+        stage.until_moves(page, RUY_SANS[:5])
+        stage.until(lambda: not page.text("#state").endswith("over"), "a game that goes on")
+        answered(stage, page, "undo", f'undone: "back"; {again}')
+        until_over(stage, page)
+        port.board.put("e1", 5)
         opened_again(stage, page, port)
         same((page.text("#state"), page.moves), ("over", RUY_SANS[:6]))
         answered(stage, page, "0-1", "added by hand: the result 0-1")

@@ -9,7 +9,13 @@ from typing import List
 from live.child.program import Program
 from live.game.changing import add_by_name
 from live.game.files import Paths
+from live.game.game import Game
+from live.game.kept import Times, open_game
+from live.game.options import Options
+from live.game.typed import PutIn, ask_to_add
+from live.game.undone import undone
 from live.run.refused import REFUSED
+from play_board import field
 from played import times, words
 from played.back import answered, is_whole, ruy, sans
 from played.back_killed import CALLS, KILLING, MOST, PARTS, PAUSE, Record
@@ -100,10 +106,14 @@ def result_undone(folder: pathlib.Path) -> None:
 
 
 def all_undone(folder: pathlib.Path) -> None:
-    """The first moves of a game go, and it has none."""
+    """The first moves of a game go, and it has none. That a player hasn't come is taken off in another way."""
     board = a_board(folder)
     live = Live(board.device, folder / "game", typed=True)
     begun(live)
+    answered(live, "+-", "added by hand: forfeit 1-0")
+    answered(live, "undo", 'refused: "+-" was typed last, and can\'t be undone. Type * to take it off')
+    answered(live, "*", "the result 1-0 is gone")
+    until_game(live.name, "*")
     answered(live, "e4", "added by hand: e4")
     until_game(live.name, "1. e4 *")
     answered(live, "UNDO", 'undone: "e4"; taken off: 1. e4; no ply again')
@@ -147,6 +157,22 @@ def looks_again(folder: pathlib.Path) -> None:
     same((bytes_of(live.name + ".look"), "LOOK" in live.lines()[said:]), (b"", False))
     same(stop(live), 0)
     is_whole(live)
+
+
+def frame_whole_again(folder: pathlib.Path) -> None:
+    """A move was put in after the first two bytes of a frame of the board: without it the frame is whole, and the game has the board's own move."""
+    board, live = begin_game(folder)
+    same(stop(live), 0)
+    calls, paths, sent = Program(program()), Paths(live.name), bytes_of(live.name + ".dgt")
+    cut = sent.index(board.update(field("e5"))) + 2
+    said = ask_to_add(calls, Options(), sent[:cut], "c5")
+    now = sent[:cut] + said.put + sent[cut:]
+    pathlib.Path(paths.capture).write_bytes(now)
+    capture = open_game(paths)
+    game = Game(calls, paths, capture, Options(), Times(paths, capture))
+    way = undone(game, "c5", PutIn(added=range(cut, cut + len(said.put))), now)
+    capture.close()
+    same(([ply.san for ply in way.plies], [ply.san for ply in way.now], way.content), (["e4", "c5"], ["e4", "e5"], sent))
 
 
 def others_refused(folder: pathlib.Path) -> None:
@@ -298,4 +324,4 @@ def killed_undoing_3(folder: pathlib.Path) -> None:
     killed(folder, 3)
 
 
-CASES = [moves_undone, back_undone, result_undone, all_undone, looks_again, others_refused, between_games, killed_undoing_1, killed_undoing_2, killed_undoing_3]
+CASES = [moves_undone, back_undone, result_undone, all_undone, looks_again, frame_whole_again, others_refused, between_games, killed_undoing_1, killed_undoing_2, killed_undoing_3]
