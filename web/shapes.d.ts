@@ -56,7 +56,7 @@ type Over = { why: string; result: string; bytes: number; isSure: boolean };
 type End = { over: Over | null; played: number | null; begins: number | null };
 
 /** How a board stands; `lasted` in milliseconds, null if that isn't known. */
-type Stands = { kind: string; lasted: number | null; squares: string[]; hint: string };
+type Stands = { kind: string; lasted: number | null; squares: string[]; hint: string; fits: string };
 
 /** A picture settled this move, whose number is as `12...`, or corrected the last one. */
 type Move = { kind: 'move'; number: string; san: string; clock: string; corrects: boolean };
@@ -115,7 +115,14 @@ type Instead =
   | { kind: 'plies'; stays: number; come: number; put: Uint8Array; words?: undefined }
   | { kind: string; words: string[]; stays?: undefined; come?: undefined; put?: undefined };
 
-type ChangeTyped = { kind: 'back'; to: string } | { kind: 'instead'; line: string } | { kind: 'added'; line: string } | { kind: 'forfeit'; forfeit: string } | { kind: 'reopened' };
+type ChangeTyped = { kind: 'back'; to: string } | { kind: 'instead'; line: string } | { kind: 'added'; line: string } | { kind: 'forfeit'; forfeit: string } | { kind: 'reopened' } | { kind: 'undo' };
+
+/** What a typed line has put into a capture: so many bytes that it has `made` in place of all that the kept one has, if any; and what it has
+ * added, from one offset to another. And what was known of the game before it. */
+type PutIn = { kept: number; made: number; from: number; to: number; before: Pick<Game, 'end' | 'typedTo' | 'overTo'> };
+
+/** The line that was obeyed last, in which game and with which capture; what it has put in, or why that can't be taken out. */
+type Obeyed = { line: string; game: number; name: string; capture: Capture; put: PutIn | null; why: Words };
 
 type Reply = { done: boolean; said: Words }; // to a typed line
 

@@ -20,18 +20,20 @@ from live.board.over import SettingUp, Watched
 from live.board.plan import News
 from live.board.playing import PATIENCE, Playing
 from live.board.session import Session
-from live.board.state import may_take, mend_of
+from live.board.state import NOTHING_ASKED, may_take, mend_of
 from live.child.lines import Move
 from live.game.attending import Attending, read_game
 from live.game.changing import add_and_make, add_by_name, ask_first, change_closed, course_of, or_reopened, put_names_right, put_way, reopen, told_of_next, unforfeited
 from live.game.files import Paths, open_regular, part_of
 from live.game.game import Course, Game, end_mark, forget_question, game_of, keep_other
+from live.game.kept import Capture
 from live.game.looks import acknowledge
 from live.game.opening import Chooses, Opened, named
 from live.game.options import IN_A_TABLE, is_naming
-from live.game.typed import ALL, BOARD, LONG, NO_RESULT, ONE_BOARD, UNENDED, UNPLAYED, WAYS, Acknowledged, Added, Back, Changes, Forfeit, Instead, Nothing, Quit, Reopened, Said, Typed, Way, ask_for_way, ask_to_add, drop_forfeit, is_unended, keep_forfeit, kept_forfeit, meaning, no_way, not_added, nothing_goes, place_of, read_typed, refuse_played, result_typed, way_of, which_game, with_more
+from live.game.typed import ALL, BOARD, LONG, NO_RESULT, ONE_BOARD, UNENDED, UNPLAYED, WAYS, Accepted, Acknowledged, Added, Back, Changes, Forfeit, Instead, Nothing, Quit, Reopened, Said, Typed, Undo, Way, ask_for_way, ask_to_add, drop_forfeit, is_unended, keep_forfeit, kept_forfeit, meaning, no_way, not_added, nothing_goes, place_of, read_typed, read_words, refuse_played, result_typed, way_of, which_game, with_more
+from live.game.undone import Obeyed, Undone, put_in, put_undone, to_undo, undone
 from live.run.loop import Callback, Resume, Steps, beside, walk
-from live.run.refused import DGT_LIVE, DONE, Answer, Asked, NotDone, Refused, refusal
+from live.run.refused import DGT_LIVE, DONE, UNDO, Answer, Asked, NotDone, Refused, refusal, shown
 from live.words.message import Message, linked
 
 TRIES = 3  # calls before what the board sends is held
@@ -122,6 +124,8 @@ class Arbiter:
     def __init__(self, session: Session) -> None:
         self.session, self._guard, self._screen, self._plan = session, session.means.guard, session.means.screen, session.plan
         self._asked_about: Optional[Tuple[str, float]] = None  # the result of a game without a move, and when it was asked about
+        self._last: Optional[Obeyed] = None  # the line that was obeyed last
+        self._added = range(0)  # where in the capture is what a line has added to the recorded game
 
     def typed(self, text: str) -> Steps[Answer]:
         """A line of the terminal. In a series it may end with the name of this game or of the one before."""
@@ -143,22 +147,34 @@ class Arbiter:
         return (yield from self._ended(text, self._rename(prepares)))
 
     def _ended(self, text: str, steps: Steps[Answer]) -> Steps[Answer]:
+        before = self._edition
         try:
             answer = yield from steps
-        except (NotDone, OSError, Refused) as error:
+        except Exception as error:
+            now = self._edition
+            if now[0] is before[0] and now != before:
+                self._not_undone(text, Message("undo.failed"))
+            if not isinstance(error, (NotDone, OSError, Refused)):
+                self.session.let_go()
+                raise
             answer = refusal(text, error)
-        except Exception:
-            self.session.let_go()
-            raise
         self.session.let_go()
         return answer
+
+    @property
+    def _edition(self) -> Tuple[Capture, int, int]:
+        """The capture of the game, and what is another one once it was made anew."""
+        game = self.session.game
+        return game.capture, game.capture.number, game.times.generation
 
     def _obeys(self, text: str, before: Optional[Paths], sure: bool, may_quit: bool) -> Steps[Answer]:
         session = self.session
         if is_naming(text) and not before:
             if self._plan.board:
                 raise NotDone(IN_A_TABLE)
-            return (yield from self._rename(functools.partial(named, session.game.program, text)))
+            renamed = yield from self._rename(functools.partial(named, session.game.program, text))
+            self._not_undone(text, Message("undo.name"))
+            return renamed
         typed = read_typed(text, os.path.basename(session.game.paths.name))
         if isinstance(typed, Nothing):
             return DONE, ""
@@ -166,15 +182,35 @@ class Arbiter:
             session.end()
             return DONE, Message("typed.it_ends")
         if isinstance(typed, Acknowledged) and not before:
-            return self._acknowledge()
+            seen = self._acknowledge()
+            self._not_undone(text, Message("undo.look"))
+            return seen
+        if isinstance(typed, Accepted):
+            accepted = self._asked_and_so(before)
+            return (yield from self._plays_on(read_words(accepted), accepted, True))
         if before:
-            return (yield from self._add_before(before, text, isinstance(typed, (Reopened, Back, Instead))))
+            status, answer = yield from self._add_before(before, text, isinstance(typed, (Reopened, Back, Instead)))
+            if status == DONE:
+                self._not_undone(text, Message("undo.by_name", name=before.name))
+            return status, answer
         if isinstance(typed, Forfeit):
-            return (yield from self._forfeit(typed))
-        return (yield from self._plays_on(typed, sure))
+            forfeited = yield from self._forfeit(typed)
+            self._not_undone(text, Message("undo.forfeit"))
+            return forfeited
+        if isinstance(typed, Undo):
+            return (yield from self.undo())
+        return (yield from self._plays_on(typed, text, sure))
 
-    def _plays_on(self, typed: Typed, sure: bool) -> Steps[Answer]:
+    def _asked_and_so(self, before: Optional[Paths]) -> str:
+        """What the question at this board asks about, as it is typed. Nothing is asked about the game before, nor about one that is over."""
+        if before or not self.session.standing:
+            raise NotDone(NOTHING_ASKED)
+        return self.session.standing.accepts()
+
+    def _plays_on(self, typed: Typed, text: str, sure: bool) -> Steps[Answer]:
         """A result, moves, or what takes them off: the game isn't forfeited any more."""
+        game, self._added = self.session.game, range(0)
+        end, generation, was_forfeited = end_mark(game.paths), game.times.generation, kept_forfeit(game.paths)
         if isinstance(typed, Reopened):
             answer = yield from self._take_result_off()
         elif isinstance(typed, (Back, Instead)):
@@ -183,8 +219,17 @@ class Arbiter:
             answer = yield from self._add(typed.line, sure)
         else:
             raise NotDone(WAYS)
-        drop_forfeit(self.session.game.paths)
+        drop_forfeit(game.paths)
+        put = None if was_forfeited or isinstance(typed, Reopened) else put_in(game, generation, self._added, end)
+        if put:
+            self._last = Obeyed(" ".join(text.split()), game.capture, put)
+        else:
+            self._not_undone(text, Message("undo.result_off") if isinstance(typed, Reopened) else Message("undo.other_way"))
         return answer
+
+    def _not_undone(self, line: str, why: str) -> None:
+        """This line was obeyed last, and can't be taken back."""
+        self._last = Obeyed(line, self.session.game.capture, why=Message("undo.cannot", line=shown(line.strip()), why=why))
 
     def _acknowledge(self) -> Answer:
         """Acknowledges the alarms of this game. If the board on the cable is another one, that may give it to this game."""
@@ -230,6 +275,8 @@ class Arbiter:
             raise not_added(Said(LONG), line, "")
         if not said.put:
             raise not_added(said, line, place_of(said, game.options.fen, sans, line))
+        self._not_undone(line, Message("undo.failed"))
+        self._added = range(game.capture.total, game.capture.total + len(said.put))
         now.put(said.put, said.outcome)
         yield from self._on_the_disk()
         if not (yield from now.reports_put()):
@@ -276,7 +323,7 @@ class Arbiter:
         """Adds to the game that is over while its board is watched, or while the pieces are set up."""
         session, name = self.session, self.session.game.paths.name
         adds = functools.partial(_added_last, session.game, line, self._is_there, self._guard.now())
-        what, course = yield from self._changed(ADDED, adds)
+        what, course, self._added = yield from self._changed(ADDED, adds)
         self._screen.say(Message("typed.added_by_hand_to", name=name, what=what))
         self._watch_on(course)
         return DONE, Message("typed.added_to", name=name, what=what)
@@ -310,14 +357,51 @@ class Arbiter:
         if isinstance(now, Playing):
             return DONE, (yield from self._put(typed))
         may_stay = isinstance(now, SettingUp)
-        goes = functools.partial(_gone_back, game, typed, self._is_there or may_stay, may_stay, self._guard.now())
-        done, course = yield from self._changed(TAKEN_OFF, goes)
+        listens = self._is_there or may_stay
+        return (yield from self._change_last(lambda: change_closed(game, typed, listens, may_stay)))
+
+    def _change_last(self, change: Callable[[], str]) -> Steps[Answer]:
+        """The game that is over changes so: it goes on, or stays over."""
+        game = self.session.game
+        done, course = yield from self._changed(TAKEN_OFF, functools.partial(_changed_so, game, change, self._guard.now()))
         if course is None:
             yield from self._go_on(done)
-        elif now:
+        else:
             self._screen.say(done)
             self._watch_on(course)
         return DONE, linked("colon", (game.paths.name, done))
+
+    def undo(self) -> Steps[Answer]:
+        """Takes back the line that was obeyed last: the game is what it would be without it."""
+        session, game = self.session, self.session.game
+        line, put = to_undo(self._last, game)
+        if not isinstance(session.now, Playing):
+            answer = yield from self._change_last(lambda: put_undone(game, undone(game, line, put, game.capture.bytes())))
+        else:
+            way = yield from self._asked(TAKEN_OFF, functools.partial(undone, game, line, put))
+            session.hold()
+            answer = DONE, (yield from self._replace(way) if put.end is None else self._end_again(way))
+        self._last = Obeyed(UNDO, game.capture, why=Message("undo.twice", line=shown(line)))
+        return answer
+
+    def _end_again(self, way: Undone) -> Steps[str]:
+        """The recorded game was over before a line, and is over again without it."""
+        session, game = self.session, self.session.game
+        self._playing(TAKEN_OFF)
+        session.close_now()
+        session.now = None
+        try:
+            done, course = yield from self._beside(functools.partial(_changed_so, game, lambda: put_undone(game, way), self._guard.now()))
+            session.restored()
+        except Exception:  # it goes on all the same
+            yield from self._begin_anew()
+            raise
+        self._screen.say(done)
+        if course:
+            self._watch_on(course)
+        if not self._plan.rules.series:
+            session.ups.append(News.OVER)
+        return linked("colon", (game.paths.name, done))
 
     def _put(self, typed: Changes) -> Steps[str]:
         """The recorded game changes so. Returns what was done."""
@@ -336,6 +420,11 @@ class Arbiter:
                 raise nothing_goes(way, typed.to)
             return self._unforfeited(way.plies)
         yield from self._beside(functools.partial(ask_first, game.paths, way))
+        return (yield from self._replace(way))
+
+    def _replace(self, way: Way) -> Steps[str]:
+        """The recorded game gets this capture. Returns what was done."""
+        session, game = self.session, self.session.game
         self._playing(TAKEN_OFF)
         session.close_now()
         try:
@@ -533,14 +622,18 @@ def _added_by(game: Game, line: str, sent: bytes) -> Said:
     return ask_to_add(game.program, game.options, sent, line)
 
 
-def _added_last(game: Game, line: str, is_there: bool, now: float) -> Tuple[str, Course]:
-    """What was added to a game that is over, and its course then."""
-    return add_and_make(game, line, is_there), course_of(game, now)
+def _added_last(game: Game, line: str, is_there: bool, now: float) -> Tuple[str, Course, range]:
+    """What was added to a game that is over, its course then, and where in the capture that is, unless that was made anew."""
+    end, size, generation = end_mark(game.paths), game.capture.size, game.times.generation
+    begins = size if end is None else end
+    what = add_and_make(game, line, is_there)
+    added = range(begins, begins + game.capture.size - size) if game.times.generation == generation else range(0)
+    return what, course_of(game, now), added
 
 
-def _gone_back(game: Game, typed: Changes, listens: bool, may_stay: bool, now: float) -> Tuple[str, Optional[Course]]:
-    """How a game that was over has changed, and its course then; None if the game goes on."""
-    done = or_reopened(game, lambda: change_closed(game, typed, listens, may_stay))
+def _changed_so(game: Game, change: Callable[[], str], now: float) -> Tuple[str, Optional[Course]]:
+    """How a game that is over, or isn't recorded meanwhile, has changed, and its course then; None if it goes on."""
+    done = or_reopened(game, change)
     return done, None if end_mark(game.paths) is None else course_of(game, now)
 
 

@@ -326,10 +326,13 @@ class Board:
 
         self._lines.take(Line(text, obeys, then))
 
-    def rename(self, text: str, prepares: Callable[[], Chooses], answered: Callable[[Answer], None]) -> None:
-        """The names of a table, which somebody has read again by this: its game has them once the lines before are answered."""
+    def rename(
+        self, text: str, prepares: Callable[[], Chooses], answered: Callable[[Answer], None], begins: Callable[[], None] = lambda: None
+    ) -> None:
+        """The names of its line, for which somebody has typed this: its game has them once the lines before are answered."""
 
         def obeys() -> Steps[Answer]:
+            begins()
             if self._arbiter is None:
                 return refusal(text, NotDone(BEING_OPENED))
             return (yield from self._turned(self._arbiter.rename(text, prepares)))

@@ -351,8 +351,8 @@ class Playing:
         if known:
             attending.then(lambda: self._hear_result(self.course.result))
         if self._old == front_of(game.paths, game.capture) != 0:  # nothing has come since plies were taken off
-            self._goes_on(BACK, REOPENED)
-        elif opened.is_reopened:  # as the times of the calls before say, if they could be written
+            self._goes_on(*((BACK, REOPENED) if self.course.result == "*" else (BACK,)))  # the moves that came may end with mate
+        elif opened.is_reopened and self.course.result == "*":  # as the times of the calls before say, if they could be written
             self._goes_on(REOPENED, BACK)
 
     def _goes_on(self, *told: str) -> None:
@@ -601,7 +601,7 @@ class Playing:
         game, end = self.attended.game, self.end
         if end.is_over or self.end.begins_anew or end.is_reopened:
             return
-        if is_known and over.size <= front_of(game.paths, game.capture):  # its times don't tell that an arbiter has reopened it
+        if is_known and over.result == "*" and over.size <= front_of(game.paths, game.capture):  # its times don't tell that an arbiter has reopened it
             self.attended.attending.tell(REOPENED)
             return
         end.was_over, end.size = is_known, over.size

@@ -28,10 +28,12 @@ from live.game.looks import ABOUT_CLOCK, ABOUT_RESULT, AFTER_RESULT, OVER, THE_S
 from live.game.typed import NO_PLIES, NO_RESULT
 from live.line.protocol import differing, picture_of_placement
 from live.run.loop import Turns
-from live.run.refused import BACK, OK, REOPENS
+from live.run.refused import BACK, INSTEAD, OK, REOPENS, YES, NotDone
 from live.words.message import Message, has, is_of, linked, plural
 
 MOST_LISTED = 8
+NOTHING_ASKED, ASKED_ANEW = Message("typed.nothing_asked"), Message("typed.asked_anew")
+READ = 1.0  # seconds in which nobody can have read a question and answered it
 TURNED_ROUND = Message("state.turned_round")
 OTHER_BOARD = Message("state.other_board")
 CLOCK_STOPPED = Message("state.clock_stopped")
@@ -83,6 +85,8 @@ class State(NamedTuple):
     look: str = ""  # what somebody must look at
     line: str = ""  # what to do so that its line is there again
     clock_stopped: bool = False  # whether both sides have stopped a clock that ran
+    fits: str = ""  # what is typed for the change of the game that alone explains the board
+    asks: str = ""  # the question whether it was played so
 
     @property
     def is_alarm(self) -> bool:
@@ -107,7 +111,7 @@ class State(NamedTuple):
     @property
     def news(self) -> Tuple[object, ...]:
         """The part of a state whose change is reported by a line. A state that only lasts isn't reported again."""
-        return (self.kind, self.result, self.hint, self.disk, self.look, self.clock, self.squares if self.kind is Kind.WRONG else ())
+        return (self.kind, self.result, self.hint, self.disk, self.look, self.clock, self.squares if self.kind is Kind.WRONG else (), self.fits)
 
     def parts(self, most_listed: int = MOST_LISTED) -> Tuple[str, str]:
         """The words of the state before and after its duration. More than `most_listed` squares are only counted."""
@@ -128,6 +132,8 @@ class State(NamedTuple):
             front, rest = self.look, linked("semicolon", ("", linked("nothing", (front, rest))))
         if self.clock:
             rest = linked("semicolon", (rest, self.clock))
+        if self.asks:
+            rest = linked("semicolon", (rest, self.asks))
         return (linked("comma", (self.disk, front)) if self.disk else front), rest
 
     def text(self, now: float, most_listed: int = MOST_LISTED) -> str:
@@ -136,6 +142,16 @@ class State(NamedTuple):
         if self.kind in ALARMS and now >= self.since + 1:
             front = Message("state.since", state=front, time=lasting(now - self.since))
         return linked("nothing", (front, rest))
+
+
+def asked_of(fits: str, yes: str) -> str:
+    """The question whether it was played so: moves, or others instead, or the last ones were taken back. `yes` is typed if it was."""
+    word, _, rest = fits.partition(" ")
+    if word == BACK:
+        asked = Message("state.taken_back", last=rest) if rest != NO_PLIES else Message("state.taken_back_to_the_start")
+    else:
+        asked = Message("state.played_instead", moves=rest) if word == INSTEAD else Message("state.played", moves=fits)
+    return Message("state.if_so", question=asked, yes=yes)
 
 
 def lasting(seconds: float) -> str:
@@ -153,6 +169,7 @@ class BoardState:
     """What is known of a board."""
 
     turned_hint: str = TURNED_ROUND
+    yes: str = YES  # how somebody types that it was so
     look: str = ""  # what somebody must look at
     disk: str = ""  # what keeps something from being written
     result: str = ""  # that the board has shown
@@ -181,7 +198,17 @@ class BoardState:
         squares = self.differs if kind is Kind.IN_HAND else stood.squares
         hint = {"": "", "TURNED-ROUND": self.turned_hint, "OTHER-BOARD": OTHER_BOARD}[stood.hint]
         result = self.result if kind is Kind.RESULT else ""
-        return State(kind, self._since, squares, result, hint, self.disk, self.look, self.line, self.clock_stopped)
+        asks = asked_of(stood.fits, self.yes) if stood.fits else ""
+        return State(kind, self._since, squares, result, hint, self.disk, self.look, self.line, self.clock_stopped, stood.fits, asks)
+
+
+@dataclass(frozen=True)
+class Question:
+    """What is asked about, as it is typed; when; and the squares on which the board differed then."""
+
+    fits: str = ""
+    at: float = 0.0
+    differs: Tuple[str, ...] = ()
 
 
 IN_A_SET_UP = (Kind.WAITS, Kind.AGREES, Kind.IN_HAND)  # states that say nothing while no game is played
@@ -195,10 +222,11 @@ class Standing:
         self, loop: Turns, screen: Screen, rotated: bool, played: bool = True, has_shown: bool = False, before: Optional[Standing] = None
     ) -> None:
         self._loop, self._screen, self.is_played = loop, screen, played
-        self.board: BoardState = before.board if before else BoardState(linked("space", (TURNED_ROUND, screen.turn(rotated))))
+        self.board: BoardState = before.board if before else BoardState(linked("space", (TURNED_ROUND, screen.turn(rotated))), screen.typed(YES))
         self._is_unknown = has_shown and before is None
         self.was_away = False  # unplugged or silent since it was last heard
         self._hint = ""
+        self._question = Question()  # that was asked last
         self._closed = False
 
     @property
@@ -223,6 +251,21 @@ class Standing:
         if state.hint and state.hint != self._hint:
             self._screen.hint(state.hint)
         self._hint = state.hint
+        if state.fits != self._question.fits:
+            self._question = Question(state.fits, self._loop.now(), self.board.differs)
+            if state.asks:
+                self._screen.hint(state.asks)
+
+    def accepts(self) -> str:
+        """What somebody accepts by `y`, as it is typed: the change that was last asked about. Refused if nothing is asked; if nobody can have
+        read the question; or if the board shows something else by now, which is asked about as soon as it explains the board."""
+        question = self._question
+        self.show()
+        if not self._question.fits:
+            raise NotDone(NOTHING_ASKED)
+        if question != self._question or self.board.differs != question.differs or self._loop.now() < question.at + READ:
+            raise NotDone(ASKED_ANEW)
+        return question.fits
 
     def lasts(self) -> None:
         """Call this each second: a terminal shows how long it has lasted."""
@@ -377,12 +420,11 @@ IN_MEMORY = Message("advice.in_memory")
 AT_THE_CABLE = Message("advice.at_the_cable")
 PLUG_IN = Message("advice.plug_in")
 AT_THE_SERVER = Message("advice.at_the_server")
-HOLD_A_KING = Message("advice.hold_a_king")
 # plies that go, if the players took them back or changed them, or only tried them
 GO_BACK: Dict[str, int] = {WHY["TAKEN-BACK"]: 4, WHY["MOVED-ON"]: 4, WHY["UNPRESSED"]: 5}
 
 WITH_A_LINE = (
-    *("advice.missing", "advice.wrong", "advice.no_start", "advice.cables", "advice.look", "advice.no_result"),
+    *("advice.fits", "advice.missing", "advice.wrong", "advice.no_start", "advice.cables", "advice.look", "advice.no_result"),
     *("screen.other_address", "row.write_device"),
 )  # the keys of what says that something is to be typed
 
@@ -402,6 +444,11 @@ class Moves:
             return None
         return self.plies[at - count] if at >= count else NO_PLIES
 
+    def from_on(self, where: str, ply: str) -> Optional[str]:
+        """The number of the first ply that may be wrong, at this ply or after it; empty if none has come yet, and None if it isn't known."""
+        at = next((at for at in reversed(range(len(self.plies))) if self.plies[at] == ply), None)
+        return None if at is None else "".join(self.plies[at + (where == "after") :][:1]).partition(" ")[0]
+
 
 def missing(typed: Typed) -> str:
     """What to do if moves were missed."""
@@ -416,7 +463,8 @@ def of_state(state: State, typed: Typed) -> List[str]:
     if state.hint == OTHER_BOARD:
         told.append(Message("advice.other_board", missing=missing(typed)))
     elif state.kind is Kind.WRONG:
-        told.append(Message("advice.wrong", missing=missing(typed), back=typed(BACK), back_to=typed(f"{BACK} {PLY}")))
+        wrong = Message("advice.wrong", missing=missing(typed), back=typed(BACK), back_to=typed(f"{BACK} {PLY}"))
+        told.append(Message("advice.fits", asks=Message("join.capital", text=state.asks), wrong=wrong) if state.asks else wrong)
     elif state.kind is Kind.NO_START:
         told.append(Message("advice.no_start", moves=typed(FROM_THE_START)))
     elif state.kind is Kind.SILENT:
@@ -459,20 +507,24 @@ def if_not(look: Look, typed: Typed, moves: Moves) -> str:
         return Message("advice.this_one_is_right", reopens=typed(REOPENS))
     if is_of(look.why, "look.unheard_after_result"):
         return Message("advice.not_over", how=Message("typed.line", line=typed(REOPENS)))
+    since = NO_PLIES if ply == THE_START else ply
     if look.about.startswith(ABOUT_RESULT):
-        return Message("advice.take_off_before_result", hold=HOLD_A_KING, back=typed(f"{BACK} {(NO_PLIES if ply == THE_START else ply)}"))
+        if moves.plies and moves.before(moves.plies[-1]) == since:  # the board still shows this one
+            return Message("advice.take_one_off_before_result", back=typed(f"{BACK} {since}"))
+        return Message("advice.take_off_before_result", back=typed(f"{BACK} {since}"))
     if look.about.startswith(ABOUT_CLOCK):
-        return Message("advice.take_off", hold=HOLD_A_KING, back=typed(f"{BACK} {(NO_PLIES if ply == THE_START else ply)}"))
+        return Message("advice.take_off", back=typed(f"{BACK} {since}"))
     if look.why in (WHY["OTHER-TIME"], WHY["RETURNED"]) or look.about == WHERE:
         return ""
-    count = GO_BACK.get(look.why, 1)
-    last = ply if where == "after" else moves.before(ply, count)
-    if last is None or not moves.plies or ply == THE_START:
+    if look.why in GO_BACK:
+        last = moves.before(ply, GO_BACK[look.why])
+        return "" if last is None else Message("advice.take_off", back=typed(f"{BACK} {last}"))
+    number = moves.from_on(where, ply)
+    if number is None:
         return ""
-    if last == moves.plies[-1]:
-        return Message("advice.moves_missing_at_the_end", hold=HOLD_A_KING, moves=typed(MOVES))
-    back = Message("advice.back", hold=HOLD_A_KING, back=typed(f"{BACK} {last}"))
-    return Message("advice.take_off_by", back=back) if count > 1 else Message("advice.moves_missing", back=back)
+    if not number:
+        return Message("advice.moves_missing_at_the_end", moves=typed(MOVES))
+    return Message("advice.moves_missing", instead=typed(f"{INSTEAD} {number}"))
 
 
 def told_of(look: Look, typed: Typed, moves: Moves) -> Tuple[str, ...]:

@@ -22,7 +22,7 @@ UNPLUGGED, SILENT, WAITS = UNSEEN = "UNPLUGGED", "SILENT", "WAITS"  # states in 
 HINTS = ("TURNED-ROUND", "OTHER-BOARD")
 CLOCK_LINES = {"clock stopped": True, "clock runs": False}
 END = re.compile(r"over ([A-Z-]+) (\S+) ([0-9]+) (sure|unsure)|played ([0-9]+)|begins ([0-9]+)")
-KEPT_LINE, GAME_LINE = b"kept ", b"game "  # behind which come as many bytes as they say
+KEPT_LINE, FITS_LINE, GAME_LINE = COUNTED = b"kept ", b"fits ", b"game "  # behind which come as many bytes as they say
 DIGITS = b"0123456789"  # one of these begins each line of the report
 REPORT_ENDS = re.compile(rb"\n[^0-9]")
 OFTEN = re.compile(rb"keep\n(?:ask ([A-Z]+)\n)?(?:state ([^ \n]+ [^\n]+)\n)?done ([0-9]+|-)\n")  # the end of most answers
@@ -35,12 +35,14 @@ class NoAnswer(ValueError):
 
 
 class Stood(NamedTuple):
-    """How the board stands: a word; for how many milliseconds, if that is known; the squares that differ, and a hint."""
+    """How the board stands: a word; for how many milliseconds, if that is known; the squares that differ, and a hint; and what is typed for
+    the change of the game that alone explains it, if there is one."""
 
     kind: str
     lasted: Optional[int] = None
     squares: Tuple[str, ...] = ()
     hint: str = ""
+    fits: str = ""
 
 
 @dataclass(frozen=True)
@@ -98,6 +100,7 @@ class Answers:
         self._is_history = known > 0  # whether nothing has come yet but answers to a capture, and all of it is known
         self._come = b""  # what isn't read yet
         self._answer = Answer()
+        self._fits = ""  # what explains the board, before its state is read
 
     def take(self, part: bytes) -> List[Answer]:
         """The answers that end in what has come now."""
@@ -118,14 +121,11 @@ class Answers:
                 at = often.end()
                 continue
             behind = end + 1
-            if come.startswith((KEPT_LINE, GAME_LINE), at):
+            if come.startswith(COUNTED, at):
                 behind += int(come[at + len(KEPT_LINE) : end])
                 if behind > len(come):
                     break
-                if come.startswith(KEPT_LINE, at):
-                    self._answer.kept = come[end + 1 : behind]
-                else:
-                    self._answer.game = come[end + 1 : behind]
+                self._has(come[at : at + len(KEPT_LINE)], come[end + 1 : behind])
             elif self._ends(come[at:end].decode("latin-1")):
                 found.append(self._answer)
                 self._answer = Answer()
@@ -152,6 +152,21 @@ class Answers:
         self._known -= count
         return [Answer() for _ in range(ended)], at
 
+    def _has(self, word: bytes, given: bytes) -> None:
+        """Takes the bytes behind a line that says how many they are."""
+        if word == KEPT_LINE:
+            self._answer.kept = given
+        elif word == GAME_LINE:
+            self._answer.game = given
+        else:
+            self._fits = given.decode("latin-1").rstrip("\n")
+
+    def _stands(self, words: List[str]) -> None:
+        """How the board stands, by the words behind `state`."""
+        hint = words.pop() if words[-1] in HINTS else ""
+        self._answer.stood = Stood(words[0], _span(words[1]), tuple(words[2:]), hint, self._fits)
+        self._fits = ""
+
     def _reports(self, reported: bytes) -> None:
         """Takes lines of the report."""
         lines = reported.decode("latin-1").split("\n")
@@ -163,10 +178,10 @@ class Answers:
 
     def _often(self, asked: Optional[bytes], state: Optional[bytes], due: bytes) -> Answer:
         """The answer, given the parts of such an end."""
+        if state:
+            self._stands(state.decode("latin-1").split(" "))
         answer, self._answer = self._answer, Answer()
         answer.handling, answer.asked, answer.due = KEEP, asked or b"", _span(due.decode())
-        if state:
-            answer.stood = _stood_of(state.decode("latin-1").split(" "))
         return answer
 
     def _ends(self, line: str) -> bool:
@@ -181,7 +196,7 @@ class Answers:
         elif word == "ask" and rest:
             answer.asked = rest[0].encode()
         elif word == "state" and len(rest) >= 2:
-            answer.stood = _stood_of(rest)
+            self._stands(rest)
         elif word == NUMBER and rest:
             answer.number = rest[0]
         elif word == "look" and (doubt := DOUBT.fullmatch(line)):
@@ -195,12 +210,6 @@ class Answers:
         else:
             raise NoAnswer(line)
         return False
-
-
-def _stood_of(words: List[str]) -> Stood:
-    """How the board stands, by the words behind `state`."""
-    hint = words.pop() if words[-1] in HINTS else ""
-    return Stood(words[0], _span(words[1]), tuple(words[2:]), hint)
 
 
 def _doubt_of(suspect: Optional[str], number: str, where: str, plies: str, why: str, moves: Optional[str]) -> Doubt:

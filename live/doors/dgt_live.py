@@ -35,7 +35,7 @@ Records the DGT board at DEVICE, prints the game line by line, and keeps
 Ctrl-C ends it, and so does a result: by mate, stalemate, kings in the centre.
 The same NAME goes on with a game. While it records, type a result (1-0, 0-1,
 1/2-1/2; * takes it off), moves that it missed (Nf3 Nc6), back (takes a ply
-off; back 14. Bxf6: up to this one), ok (after a LOOK), moves, messages, help.
+off; back 14. Bxf6: up to this one), undo, ok (at LOOK), moves, messages, help.
 
   --series           NAME-1, NAME-2, ..: the next once pieces are set up again
   --once             an unplugged board ends it

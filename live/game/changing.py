@@ -25,7 +25,7 @@ from live.game.opening import Chooses, named
 from live.game.options import Options, is_naming
 from live.game.tags import published
 from live.game.times import ADDED, BACK, LOOKED, OVER, REOPENED
-from live.game.typed import ALL, ANEW, AS_IT_IS, BOARD, CUT, NO_RESULT, PLACED, PLIES, SIGNED, STILL_SHOWN, WAYS, Acknowledged, Back, Changes, Forfeit, Instead, Nothing, Quit, Reopened, Said, Way, ask_for_way, ask_to_add, ask_to_go_back, asked_of, drop_forfeit, dump_at_end, forfeit_of, keep_forfeit, kept_forfeit, meaning, not_added, not_back, not_instead, nothing_goes, place_of, played_since, read_typed, refuse_played, result_typed, stays_of, taken_up, told_to_readers, way_of
+from live.game.typed import ALL, ANEW, AS_IT_IS, BOARD, CUT, NO_RESULT, PLACED, PLIES, SIGNED, STILL_SHOWN, WAYS, Accepted, Acknowledged, Back, Changes, Forfeit, Instead, Nothing, Quit, Reopened, Said, Undo, Way, ask_for_way, ask_to_add, ask_to_go_back, asked_of, drop_forfeit, dump_at_end, forfeit_of, keep_forfeit, kept_forfeit, meaning, not_added, not_back, not_instead, nothing_goes, place_of, played_since, read_typed, refuse_played, result_typed, stays_of, taken_up, told_to_readers, way_of
 from live.run.refused import DGT_LIVE, DONE, FAILED, Answer, Asked, NotDone, Refused, refusal
 from live.words.message import Message, linked
 
@@ -64,6 +64,8 @@ def put_way(game: Game, way: Way, end: Optional[int] = None) -> str:
     except Exception:
         game.times.come_back(kept)
         raise
+    if way.past and way.past.before:
+        game.times.go_on_from(way.past.kept or kept, way.past.before)
     game.times.begin()
     if end is not None:
         game.times.note(OVER, end)
@@ -72,7 +74,7 @@ def put_way(game: Game, way: Way, end: Optional[int] = None) -> str:
 
 
 def _renew(game: Game, way: Way, end: Optional[int]) -> None:
-    keep_front(game.paths, way.content)
+    keep_front(game.paths, way.front)
     mark, capture = end_mark(game.paths), game.capture
     if mark is not None:
         # First what came after the end is removed; then the mark is moved, to allow the longer capture: each step leaves a
@@ -371,8 +373,8 @@ def add_by_name(program: Program, paths: Paths, text: str, patience: float) -> A
             drop_forfeit(paths)
             log_once(paths, done)
             return DONE, linked("colon", (paths.name, done))
-        if isinstance(typed, (Quit, Nothing)):
-            raise NotDone(WAYS)
+        if isinstance(typed, (Accepted, Quit, Nothing, Undo)):
+            raise NotDone(Message("undo.not_recorded") if isinstance(typed, Undo) else WAYS)
         what = add_and_make(game, typed.line)
         drop_forfeit(paths)
     except NotDone as refused:

@@ -73,6 +73,11 @@ class Paths:
         return self._with("pages")
 
     @functools.cached_property
+    def names(self) -> str:
+        """The names that were typed for a round."""
+        return self._with("names")
+
+    @functools.cached_property
     def broadcast(self) -> str:
         """The published text."""
         return self._with("broadcast.pgn")

@@ -562,14 +562,11 @@ class Times:
     def _open(self) -> int:
         """Opens the file for what was found: what is torn goes, and what isn't of this capture is kept beside."""
         if self._file.number is None:
-            path = self._path
             if self._file.is_foreign:
-                os.rename(path, self._beside())
+                os.rename(self._path, self._beside())
                 self._file.is_foreign = False
-            self._file.number = open_regular(path, os.O_RDWR | os.O_APPEND | os.O_CREAT)
-            self._cut_off(self._file.number)
-        elif self._unwritten.is_lost:
-            self._cut_off(self._file.number)
+            self._file.number = open_regular(self._path, os.O_RDWR | os.O_APPEND | os.O_CREAT)
+        self._cut_off(self._file.number)
         return self._file.number
 
     def _cut_off(self, number: int) -> None:
@@ -617,6 +614,18 @@ class Times:
                 self._fails(error)
             self._file.size, self._file.is_foreign = 0, os.path.lexists(self._path)
             self.generation += 1
+
+    def go_on_from(self, before: str, size: int) -> None:
+        """The new capture begins with so many bytes of the one that is kept under this name: the lines of these go on in this file."""
+        with self._lock:
+            try:
+                first = self._capture.bytes(0, min(size, times.HEADED))
+                content = times.begun_with(existing(times_of(before)), self.generation, size, first)
+                if content and not os.path.lexists(self._path):
+                    put_in_place(self._path, content)
+                    self._file.size = len(content)
+            except Exception as error:
+                self._fails(error)
 
     def come_back(self, before: str) -> None:
         """A new capture couldn't be put in place: if the old one is there still, its times go on."""

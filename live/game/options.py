@@ -350,7 +350,6 @@ NAME = "name"
 OPTION_OF = {"Date": DATE, **{name: option for option, name in PUBLISHED.items()}}
 NEXT_PAIR = re.compile(r"\s+(?=[A-Za-z]+\s*=)")  # before the second pair in a line, and those after it
 PLACE_TYPED = re.compile(r"^\s*place\s*=", re.IGNORECASE)  # what PGN calls Site
-HOW = Message("naming.how")
 IN_A_TABLE = Message("naming.in_a_table")
 
 
@@ -359,18 +358,19 @@ def is_naming(text: str) -> bool:
     return text.split()[:1] == [NAME]
 
 
-def read_names(text: str) -> Options:
-    """The tags that a line gives, as they are typed. Refused if one isn't a tag, or has no such value."""
+def read_names(text: str, board: int = 0) -> Options:
+    """The tags that a line gives, as they are typed, in a round for this board. Refused if one isn't a tag, or has no such value."""
+    how = Message("naming.how", name=f"{board} {NAME}" if board else NAME)
     _, _, pairs = text.strip().partition(" ")
     words: List[str] = []
     for pair in filter(None, NEXT_PAIR.split(pairs.strip())):
         try:
             name, value = pair_of(PLACE_TYPED.sub("Site=", unquoted(pair), count=1))
         except Malformed as error:
-            raise NotDone(Message("naming.malformed", why=error.message)) from None
+            raise NotDone(Message("naming.malformed", why=error.message, how=how)) from None
         words += [OPTION_OF[name], value or UNKNOWN] if name in OPTION_OF else [TAG, f"{name}={value}"]
     if not words:
-        raise NotDone(HOW)
+        raise NotDone(how)
     return Options.of_words(words)
 
 

@@ -191,6 +191,15 @@ def cut(content: Content, found: Kept, size: int, first: Content) -> bytes:
     return b"".join(parts)
 
 
+def begun_with(content: Content, generation: int, size: int, first: Content) -> bytes:
+    """What the file of a new capture begins with, which goes on from so many bytes of the one with these times, and begins with `first`;
+    nothing if they can't be read."""
+    found = kept(content)
+    if not isinstance(found, Kept):
+        return b""
+    return heading(generation, first[: found.size]) + cut(content, found, size, first).split(b"\n", 2)[2]
+
+
 def moves_calls(before: bytes, after: bytes) -> bool:
     """Whether calls of a file have other places in what is left of it."""
     old, new = (

@@ -15,7 +15,7 @@ from live.game.files import Paths, beginning, existing, put_in_place, remove
 from live.game.game import is_unplayed, result_of
 from live.game.options import RECOVER, Options
 from live.line.protocol import DUMP_BEGINS, DUMP_SIZE
-from live.run.refused import BACK, HELPS, INSTEAD, NO_TEXT, OK, REOPENS, Helped, NotDone
+from live.run.refused import BACK, HELPS, INSTEAD, NO_TEXT, OK, REOPENS, UNDO, YES, Helped, NotDone
 from live.words.message import Message, linked, plural
 
 WAYS = Message("typed.ways")
@@ -49,6 +49,11 @@ class Acknowledged:
 
 
 @dataclass(frozen=True)
+class Accepted:
+    """It was played as the recorder has asked."""
+
+
+@dataclass(frozen=True)
 class Reopened:
     """The result was typed for the wrong board: the game goes on."""
 
@@ -68,12 +73,17 @@ class Instead:
 
 
 @dataclass(frozen=True)
+class Undo:
+    """The line that was obeyed last is taken back."""
+
+
+@dataclass(frozen=True)
 class Nothing:
     """An empty line."""
 
 
 Changes = Union[Back, Instead]  # makes the capture anew
-Typed = Union[Added, Acknowledged, Reopened, Back, Instead, Quit, Nothing]
+Typed = Union[Added, Acknowledged, Accepted, Reopened, Back, Instead, Undo, Quit, Nothing]
 
 
 def read_words(text: str) -> Typed:
@@ -86,12 +96,18 @@ def read_words(text: str) -> Typed:
         return Quit()
     if [word.lower() for word in words] == [OK]:
         return Acknowledged()
+    if [word.lower() for word in words] == [YES]:
+        return Accepted()
     if words == [REOPENS]:
         return Reopened()
     if words[0].lower() == BACK:
         return Back(ply_of(" ".join(words[1:])))
     if words[0].lower() == INSTEAD:
         return Instead(moves_from(" ".join(words[1:])))
+    if words[0].lower() == UNDO:
+        if len(words) > 1:
+            raise NotDone(Message("undo.alone"))
+        return Undo()
     if words[0].lower() in HELPS:
         raise Helped(ALL_WAYS)
     if with_a_hyphen("".join(words)) == NOUGHTS:
@@ -381,6 +397,16 @@ class Way:
         return linked("semicolon", parts)
 
     @property
+    def front(self) -> bytes:
+        """What can't be a set-up for another game, since an arbiter says that the game goes on."""
+        return self.content
+
+    @property
+    def past(self) -> Optional[PutIn]:
+        """What a line has put in, if this takes only that out: then the times from before it go on."""
+        return None
+
+    @property
     def settled(self) -> List[str]:
         """The alarms that end: those about plies that are gone, and about moves since the last one that stays."""
         gone = [ply.short for ply in self.gone]
@@ -388,6 +414,27 @@ class Way:
             return []
         since = (reached(self.plies[: self.stays]), *gone)
         return [*(Message("look.at", ply=ply) for ply in gone), *(Message("look.since", ply=ply) for ply in since)]
+
+
+@dataclass(frozen=True)
+class PutIn:
+    """What a line has put into a capture: so many bytes that it has made in place of all that the `kept` capture has; and what it has
+    added. And where the game's end was marked before."""
+
+    kept: str = ""
+    size: int = 0  # bytes of the kept capture
+    made: int = 0
+    added: range = range(0)
+    end: Optional[int] = None
+
+    def taken_out(self, sent: bytes, kept: bytes) -> bytes:
+        """The capture as if the line hadn't been typed, given all that it has now."""
+        return kept + sent[self.made : max(self.made, self.added.start)] + sent[max(self.made, self.added.stop) :]
+
+    @property
+    def before(self) -> int:
+        """How many bytes there were before the line."""
+        return self.size if self.kept else self.added.start
 
 
 def way_of(said: Said, plies: Sequence[Move], line: str = "") -> Optional[Way]:

@@ -8,8 +8,8 @@ from dataclasses import dataclass
 from typing import Callable, Optional, Sequence
 
 from live.child.program import Program
-from live.game.options import IN_A_TABLE, Options, is_naming
-from live.game.typed import ABSENT, ALL_WAYS, ILLEGAL, MEANT, MOVES, OK_NUMBERED, RESULT, UNKNOWN, Acknowledged, Back, Reopened, Said, ask_to_add, moves_in, read_words, typed_forfeit
+from live.game.options import Options, is_naming
+from live.game.typed import ABSENT, ALL_WAYS, ILLEGAL, MEANT, MOVES, OK_NUMBERED, RESULT, UNKNOWN, Accepted, Acknowledged, Back, Instead, Reopened, Said, Undo, ask_to_add, moves_in, read_words, typed_forfeit
 from live.out.delay import clock_in
 from live.out.outputs import Outputs
 from live.run.loop import Turns
@@ -41,14 +41,12 @@ def example(numbers: Sequence[int]) -> int:
 def all_ways(numbers: Sequence[int]) -> str:
     """What can be typed."""
     number = example(numbers)
-    here = ", ".join(f"{number} {what}" for what in ("1-0", "+-", "*", "Nf3 Nc6", "back", "ok", "moves", "help"))
+    here = ", ".join(f"{number} {what}" for what in ("1-0", "+-", "*", "Nf3 Nc6", "back", "name White=Anna", "ok", "moves", "help"))
     return Message("round.all_ways", here=here, number=number)
 
 
 def ways(text: str, numbers: Sequence[int], said: Said = Said(UNKNOWN)) -> str:
     """What to type instead of a text that doesn't begin with a board's number, given what the program says of it."""
-    if is_naming(text):
-        return IN_A_TABLE
     ok = OK_NUMBERED.fullmatch(text.strip())
     if ok:
         return Message("round.number_first", number=ok[1], ok=OK)
@@ -66,7 +64,8 @@ def ways(text: str, numbers: Sequence[int], said: Said = Said(UNKNOWN)) -> str:
 def is_command(text: str) -> bool:
     """Whether a text without a board's number would be a command for a board, and no moves or result."""
     try:
-        return bool(typed_forfeit(text)) or isinstance(read_words(text), (Back, Reopened, Acknowledged))
+        commands = (Back, Instead, Undo, Reopened, Acknowledged, Accepted)
+        return is_naming(text) or bool(typed_forfeit(text)) or isinstance(read_words(text), commands)
     except NotDone:
         return False
 

@@ -27,6 +27,7 @@ from live.out.outputs import Outputs
 from live.out.publish import FORFEIT, Published, Result
 from live.out.spectators import UNKNOWN as NOT_KNOWN, Paired, matches_of, round_pgn, told_of_matches
 from live.round.commands import Leaving, all_ways, is_command, said_of, told_of_answer, ways
+from live.round.names import read_with_names
 from live.round.row import Earlier, Hall, Line, Row, earlier_game, was_forfeited
 from live.round.tournament import another_folder
 from live.run.loop import Loop, Worker, traced
@@ -52,6 +53,7 @@ def with_forfeited(read: Pairings, hall: Hall) -> Pairings:
 def refuse_another_round(source: Source, read: Pairings, hall: Hall) -> Dict[int, Earlier]:
     """Refuses a table that has other players for most of what was played: it is another round's. To be called before anything in the
     folder is changed. Returns the games of single lines that have other players, by board."""
+    read = read_with_names(read, hall.folder, hall.options).lines
     lines = {pairing.board: pairing for pairing in without_twice(with_forfeited(read, hall))[0]}
     games = {number: game for number, pairing in lines.items() if (game := earlier_game(hall, pairing))}
     others = {number: game for number, game in games.items() if game.of_others}
@@ -172,7 +174,9 @@ class Round:
         self._looker.do(look, found)
 
     def _take(self, read: Pairings, held: Mapping[int, Earlier] = MappingProxyType({})) -> None:
-        for remark in read.remarks:
+        found = read_with_names(read, self._hall.folder, self._hall.options, keeps=True)
+        read = found.lines
+        for remark in (*read.remarks, *found.told):
             self.say_of_table(remark)
         had = {number: row.pairing.device for number, row in self.rows.items()}
         boards, self._wrong = without_twice(with_forfeited(read, self._hall), had)

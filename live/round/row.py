@@ -15,14 +15,15 @@ from live.game.files import Paths
 from live.game.game import clocks_of, end_mark, game_of, kept_options, result_in
 from live.game.log import Screen
 from live.game.opening import Chooses, Opening, checked, of_a_line, recordable, turned
-from live.game.options import IN_A_TABLE, PLAYERS, UNKNOWN, Options, is_naming
+from live.game.options import PLAYERS, UNKNOWN, Options, is_naming, told_of_names
 from live.game.typed import Forfeit, forfeit_of
 from live.line.line import check
 from live.line.protocol import SQUARES
 from live.out.delay import GoingOut
 from live.out.outputs import Output
+from live.round.names import keep_names, kept_names, named_options, told_of_typed, typed_names, with_names
 from live.run.loop import Turns
-from live.run.refused import DONE, REFUSED, REOPENS, Answer, Refused, refusal
+from live.run.refused import DONE, REFUSED, REOPENS, Answer, NotDone, Refused, refusal
 from live.show.table import NOT_RECORDED, RowView
 from live.show.terminal import Terminal
 from live.table.pairings import Pairing, same_but_for_names, same_but_for_result
@@ -164,9 +165,9 @@ def typed_for(number: int, line: str) -> str:
 
 @functools.lru_cache(maxsize=1024)
 def typed_options(of_all: Options, pairing: Pairing) -> Options:
-    """The options of a line with those of all games, and with the published tags. A name that can't be written in ASCII is
-    recorded as `White 3` or `Black 3`, with the board's number."""
-    options = Options.of_words(pairing.words(of_all.words()))
+    """The options of a line with those of all games, with what was typed for it, and with the published tags. A name that can't be
+    written in ASCII is recorded as `White 3` or `Black 3`, with the board's number."""
+    options = named_options(of_all, pairing)
     tags = {"Board": str(pairing.board)}
     if options.round not in (None, UNKNOWN) and "." not in (options.round or ""):
         tags["Round"] = f"{options.round}.{pairing.board}"
@@ -284,8 +285,7 @@ class Row:
         self._device, self._lacks_names = pairing.device, False
 
         def prepares() -> Chooses:
-            if self.held:
-                raise Refused(REFUSED, Message("row.game_of_others", of_others=self.held.of_others, advice=self.held.advice))
+            self._refuse_others()
             chooses = chosen_by(hall, pairing)
             check(device, may_wait=True)
             return chooses
@@ -380,9 +380,41 @@ class Row:
             answered(answer)
 
         if is_naming(text):
-            answered(refusal(text, Refused(REFUSED, IN_A_TABLE)))
+            self._name(text, answers)
         else:
             self.board.add(text, answers, functools.partial(self._screen.obeys, of_table), is_sure=of_table)
+
+    def _name(self, text: str, answered: Callable[[Answer], None]) -> None:
+        """Its pair has these names from now on, and its game gets them as after `r`. They are kept first."""
+        hall, before = self._hall, self.options
+        try:
+            self._refuse_others()
+            kept, _ = kept_names(hall.folder)
+            names = typed_names(self.pairing, text, kept, hall.options)
+            pairing = with_names(self.pairing, names)
+            now = turned(typed_options(hall.options, pairing)).begun(before.began)
+            if names != kept:
+                keep_names(hall.folder, names)
+        except (NotDone, OSError, Refused) as error:
+            return answered(refusal(text, error))
+        self.pairing, told = pairing, told_of_typed(told_of_names(now, before), text, pairing)
+
+        def renamed(answer: Answer) -> None:
+            self._lacks_names = answer[0] != DONE
+            if self._lacks_names and not self.board.is_recorded:
+                self._begins_otherwise()
+            answered(answer if self._lacks_names and self.board.is_recorded else (DONE, told))
+
+        if self.board.is_recorded:
+            begins = functools.partial(self._screen.obeys, False)
+            return self.board.rename(text, functools.partial(chosen_by, hall, pairing), renamed, begins)
+        self._begins_otherwise()
+        return answered((DONE, told))
+
+    def _refuse_others(self) -> None:
+        """Refuses a game that its line would give to other players."""
+        if self.held:
+            raise Refused(REFUSED, Message("row.game_of_others", of_others=self.held.of_others, advice=self.held.advice))
 
     # What others see.
 

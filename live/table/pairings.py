@@ -59,6 +59,7 @@ class Pairing:
     serial: str = ""  # the board's serial number
     tags: Tuple[Tuple[str, str], ...] = ()  # the published ones
     remarks: Tuple[str, ...] = ()  # messages about values that are left out
+    typed: Tuple[Tuple[str, str], ...] = ()  # the tags that were typed in place of its own
 
     @property
     def file_name(self) -> str:
@@ -73,7 +74,7 @@ class Pairing:
     @property
     def teams(self) -> Tuple[str, str]:
         """White's and Black's, empty if there is none."""
-        tags = dict(self.tags)
+        tags = dict((*self.tags, *self.typed))
         return tags.get("WhiteTeam", ""), tags.get("BlackTeam", "")
 
     def words(self, tags: Sequence[str]) -> Tuple[str, ...]:
@@ -96,7 +97,7 @@ def same_but_for_result(one: Pairing, other: Pairing) -> bool:
 
 def same_but_for_names(one: Pairing, other: Pairing) -> bool:
     """Whether two lines have the same game on the same board, but for names and other tags, and for the result."""
-    first, second = (replace(pairing, white="", black="", tags=()) for pairing in (one, other))
+    first, second = (replace(pairing, white="", black="", tags=(), typed=()) for pairing in (one, other))
     return same_but_for_result(first, second)
 
 

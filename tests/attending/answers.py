@@ -56,6 +56,7 @@ class Answer:
     kept: bytes = b""  # the capture gets these
     report: Tuple[str, ...] = ()
     game: bytes = b""  # its text, if it was wanted
+    fits: bytes = b""  # what is typed for the change that alone explains the board
     ends: Tuple[str, ...] = ()  # what is said of the end of the game
     looks: Tuple[str, ...] = ()  # the alarms that are said
     handling: str = ""  # none: a capture of the calls before is answered without it
@@ -107,7 +108,7 @@ def with_line(answer: Answer, line: str) -> Answer:
 def next_answer(text: bytes, at: int = 0) -> Optional[Tuple[Answer, int]]:
     """The answer that begins at a place of what has come so far, and the place behind it; None while more is to come."""
     answer = Answer()
-    behind = {"kept": b"", "game": b""}  # the bytes behind these lines
+    behind = {"kept": b"", "fits": b"", "game": b""}  # the bytes behind these lines
     report: List[str] = []
     while (end := text.find(b"\n", at)) >= 0:
         line, at = text[at:end].decode("latin-1"), end + 1

@@ -102,6 +102,20 @@ def replaced_before_moves(folder: pathlib.Path) -> None:
 
 
 @with_chromium
+def mate_put_in(folder: pathlib.Path) -> None:
+    """Moves that come in place of others end with mate: that ends the game."""
+    with Hall(folder) as stage:
+        page, port = begin(stage)
+        until_agrees(stage, page)
+        play(stage, page, port, RUY[:2], RUY_SANS[:2])
+        answered(stage, page, "Bc4 Nc6 Qh5 a6 h3", "added by hand: Bc4 Nc6 Qh5 a6 h3")
+        answered(stage, page, "instead 4. Qxf7#", "now 4. Qxf7#; taken off: 4. h3. What the board had sent is kept")
+        until_over(stage, page)
+        game, capture = stage.saved(page, "#save-game"), stage.saved(page, "#save-capture")
+        same((movetext_of(game), game), ("1. e4 e5 2. Bc4 Nc6 3. Qh5 a6 4. Qxf7# 1-0", of_record(game, capture)))
+
+
+@with_chromium
 def replaced_beside_a_pair(folder: pathlib.Path) -> None:
     """The kings have confirmed two moves that two hands hid, so the game has these with their result alone: another one is refused, also
     when the game is over and the kings are where they belong, and the game keeps its own."""

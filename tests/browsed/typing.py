@@ -44,11 +44,11 @@ def held(stage: Hall) -> Tuple[Page, Port]:
 
 @with_chromium
 def help_is_given(folder: pathlib.Path) -> None:
-    """`help`, `?` and `undo` are answered with what can be typed, and that is no refusal; what no line has is asked about."""
+    """`help` and `?` are answered with what can be typed, and that is no refusal; what no line has is asked about."""
     with Hall(folder) as stage:
         page, port = begin(stage)
         until_agrees(stage, page)
-        for text in ("help", "?", "undo"):
+        for text in ("help", "?"):
             answered(stage, page, text, "Type 1-0, 0-1, 1/2-1/2, moves (Nf3 Nc6)")
             same(page.text("#answer").startswith("Type"), True)
             same(page.value("document.querySelector('#answer').classList.contains('refused')"), False)
@@ -257,6 +257,25 @@ def edited_result(folder: pathlib.Path) -> None:
 
 
 @with_chromium
+def result_before_a_move(folder: pathlib.Path) -> None:
+    """A result before the first move is asked about: the question says what to type if a player hasn't come, and that the result is to be given
+    again if it is right. Another result is asked about anew. A forfeit is not; once it is taken off, the game begins as any other."""
+    with Hall(folder) as stage:
+        page, port = begin(stage)
+        until_agrees(stage, page)
+        page.click("#white-wins")
+        stage.until_part(page, "#answer", "no move was made yet. If Black has not come, type +-. For 1-0 all the same, give it again")
+        answered(stage, page, "0-1", "no move was made yet. If White has not come, type -+. For 0-1 all the same, give it again")
+        answered(stage, page, "1/2-1/2", "no move was made yet. For 1/2-1/2 all the same, give it again")
+        until_agrees(stage, page)
+        answered(stage, page, "+-", "forfeit 1-0: it isn't played")
+        answered(stage, page, "*", "the result 1-0 is gone")
+        until_agrees(stage, page)
+        answered(stage, page, "1-0", "no move was made yet. If Black has not come, type +-. ")
+        answered(stage, page, "1-0", "added by hand: the result 1-0 before the first move")
+
+
+@with_chromium
 def asked_twice(folder: pathlib.Path) -> None:
     """Many plies are taken off only if that is typed twice, with nothing else between. The tab is killed as soon as it is answered:
     opened again, the game has the plies that stay."""
@@ -400,7 +419,8 @@ def forfeited(folder: pathlib.Path) -> None:
 
 @with_chromium
 def look_is_settled(folder: pathlib.Path) -> None:
-    """`back` over a ply with an alarm settles the alarm: what it was about is gone."""
+    """`back` over a ply with an alarm settles the alarm: what it was about is gone. If that is undone, both are there again. Once somebody has
+    looked, the alarm stays away, also when later moves are undone."""
     with Hall(folder) as stage:
         page, port = begin(stage)
         until_agrees(stage, page)
@@ -417,3 +437,13 @@ def look_is_settled(folder: pathlib.Path) -> None:
         answered(stage, page, "back 1... e5", "back to 1... e5; taken off: 2. Nf3. Settled: LOOK at 2. Nf3.")
         stage.until(lambda: "LOOK" not in page.text("#state"), "no alarm any more")
         stage.until_moves(page, RUY_SANS[:2])
+        answered(stage, page, "undo", 'undone: "back 1... e5"; 3 plies again, the last one 2. Nf3. What the board had sent is kept')
+        stage.until_part(page, "#state", "LOOK at 2. Nf3")
+        stage.until_moves(page, RUY_SANS[:3])
+        port.board.put("e1", 5)
+        answered(stage, page, "ok", "acknowledged: LOOK at 2. Nf3")
+        answered(stage, page, "Nc6 Bb5", "added by hand: Nc6 Bb5")
+        answered(stage, page, "undo", 'undone: "Nc6 Bb5"; taken off: 2... Nc6 3. Bb5; 3 plies again, the last one 2. Nf3.')
+        until_agrees(stage, page)
+        stage.rest(1)
+        assert "LOOK" not in page.text("#state"), page.describe()

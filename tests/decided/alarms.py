@@ -7,7 +7,7 @@ from typing import Any, List, Tuple
 from live.board.over import Afterwards
 from live.board.state import Moves, if_not
 from live.child.lines import SINCE, Doubt, Move, line_of
-from live.game.looks import FromTheStart, look_of
+from live.game.looks import FromTheStart, Look, look_of
 
 from attending.state_rules import Agreement
 from decided.cases import cases
@@ -91,9 +91,33 @@ def told_once() -> None:
 def tried_from_the_start() -> None:
     """What to type to take moves off that were tried while the clock was stopped, behind a ply and from the start."""
     moves = [line.event for line in map(line_of, ["0 move 1. e4", "1 move 1... e5", "2 move 2. Nf3"]) if line and isinstance(line.event, Move)]
-    for since, expected in ((1, "3 back 1. e4"), (0, "3 back 0")):
+    plies = Moves([ply.short for ply in moves])
+    for since, expected in ((1, "to take them off, type 3 back 1. e4"), (0, "to take them off, type 3 back 0")):
         look = look_of(Doubt(SINCE, since, "STOPPED", 3 - since), moves)
-        same(look.what, if_not(look, lambda typed: f"3 {typed}", Moves([ply.short for ply in moves])).rpartition(": ")[2], expected)
+        same(look.what, if_not(look, lambda typed: f"3 {typed}", plies), expected)
 
 
-TABLES = [from_the_start, told_once, agreements, tried_from_the_start]
+MISSING = "if moves are missing, type 3 instead "
+PLIES = ("1. e4", "1... e5", "2. Nf3")
+# Where the alarm is, the plies of the game, and what to type if the game isn't right.
+ADVISED: List[Tuple[str, Tuple[str, ...], str]] = [
+    ("at 1. e4", PLIES, f"{MISSING}1. and all that was played from there on"),
+    ("at 1... e5", PLIES, f"{MISSING}1... and all that was played from there on"),
+    ("at 2. Nf3", PLIES, f"{MISSING}2. and all that was played from there on"),
+    ("after 1. e4", PLIES, f"{MISSING}1... and all that was played from there on"),
+    ("after 1... e5", PLIES, f"{MISSING}2. and all that was played from there on"),
+    ("after 2. Nf3", PLIES, "if moves are missing, type all of them in one line, as 3 Nf3 Nc6"),
+    ("at 2... Nc6", PLIES, ""),  # it is gone
+    ("after 2... Nc6", PLIES, ""),
+    ("after the start", PLIES, ""),
+    ("after the start", (), ""),
+]
+
+
+def missing_moves() -> None:
+    """What to type where moves may be missing: the number of the first ply that may be wrong, or the moves alone at the end."""
+    for what, plies, expected in ADVISED:
+        same(f"{what} {plies}", if_not(Look(what, "why", "about"), lambda typed: f"3 {typed}", Moves(plies)), expected)
+
+
+TABLES = [from_the_start, told_once, agreements, tried_from_the_start, missing_moves]

@@ -12,7 +12,7 @@ from live.words.message import Message
 from decided.cases import cases
 from decided.table import refused, same
 
-ON_HELP = ("1-0", "Nf3 Nc6", "back", "14. Bxf6", "*", "ok")
+ON_HELP = ("1-0", "Nf3 Nc6", "back", "14. Bxf6", "undo", "*", "ok")
 
 
 def told(typed: Typed) -> Dict[str, Any]:
@@ -38,6 +38,8 @@ def commands() -> None:
         same(text, refused(text, NotDone, read_words, text), WHICH_PLY)
     for text in cases("answers", "which moves"):
         same(text, refused(text, NotDone, read_words, text), WHICH_MOVES)
+    for text in cases("answers", "undo alone"):
+        same(text, refused(text, NotDone, read_words, text), Message("undo.alone"))
     for text in ("Nf3 \udcff", "\udcc3", "1-0\0", "\0"):
         same(repr(text), refused(repr(text), NotDone, read_words, text), NO_TEXT)
     same("the start of it is shown", refusal("e4 \x1b[2J" + 99 * "N", NotDone("why")), (REFUSED, "refused: e4 ?[2J" + 53 * "N" + ": why"))
@@ -49,7 +51,7 @@ def helps() -> None:
     for text in cases("answers", "helps"):
         said = refused(text, NotDone, read_words, text)
         same(text, [part in said for part in ON_HELP], [True] * len(ON_HELP))
-        same(f"{text} in one line", len(said) < 100, True)
+        same(f"{text} in one line", len(said) < 110, True)
         same(f"{text} is no mistake", refusal(text, Helped(said)), (REFUSED, said))
     same("with more", with_more(WAYS, "q", "or x"), "Type 1-0, 0-1, 1/2-1/2, moves as Nf3 Nc6, back, *, ok, help, q, or x")
     neither = Message("typed.neither", word="Nx", ways=WAYS)

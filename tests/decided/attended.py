@@ -32,6 +32,13 @@ WRITTEN = [
         ],
     ),
     (
+        b"fits 23\ninstead 1... e5 2. Nf3\nkeep\nstate WRONG 15000 d5\ndone 7\nkeep\nstate AGREES 0\ndone 5\n",
+        [
+            Answer(handling="keep", stood=Stood("WRONG", 15000, ("d5",), "", "instead 1... e5 2. Nf3"), due=7),
+            Answer(handling="keep", stood=Stood("AGREES", 0), due=5),
+        ],
+    ),
+    (
         b"151 move 1. e4\ngame 14\nkeep\ndone 1\n\n\nkeep\ndone 5\n",
         [Answer(game=b"keep\ndone 1\n\n\n", report=["151 move 1. e4"], handling="keep", due=5)],
     ),

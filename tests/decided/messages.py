@@ -78,10 +78,10 @@ NO_BOARD = [
     ("back", [1, 2], "of which board? Type its number first, as 2 back"),
     ("back  2... Nc6", [1, 2], "of which board? Type its number first, as 2 back 2... Nc6"),
     ("*", [1, 2], "of which board? Type its number first, as 2 *"),
-    ("name White=Anna", [1, 2], "the names of a round are in its table: change them there, save it, and type r"),
+    ("name White=Anna", [1, 2], "of which board? Type its number first, as 2 name White=Anna"),
     ("ok 1", [1, 2], "type the board's number first, as 1 ok"),
-    ("hello", [1, 2], "type 2 1-0, 2 +-, 2 *, 2 Nf3 Nc6, 2 back, 2 ok, 2 moves, 2 help, 2 (the state of board 2), messages (of before), r (read the table again) or q (end)"),
-    ("Nf3 1-0", [1, 2, 3], "type 3 1-0, 3 +-, 3 *, 3 Nf3 Nc6, 3 back, 3 ok, 3 moves, 3 help, 3 (the state of board 3), messages (of before), r (read the table again) or q (end)"),
+    ("hello", [1, 2], "type 2 1-0, 2 +-, 2 *, 2 Nf3 Nc6, 2 back, 2 name White=Anna, 2 ok, 2 moves, 2 help, 2 (the state of board 2), messages (of before), r (read the table again) or q (end)"),
+    ("Nf3 1-0", [1, 2, 3], "type 3 1-0, 3 +-, 3 *, 3 Nf3 Nc6, 3 back, 3 name White=Anna, 3 ok, 3 moves, 3 help, 3 (the state of board 3), messages (of before), r (read the table again) or q (end)"),
 ]
 SAID = {
     "1-0": Said("result", ("1-0",)),

@@ -52,8 +52,8 @@ ANSWERS: List[Tuple[Answer, str]] = [
     (added("Nf3 Nc6"), "2: added to round/02: Nf3 Nc6"),
     (added(linked("semicolon", ("Nf3", Message("result.gone", result="1-0")))), "2: added to round/02: Nf3; the result 1-0 is gone: add it again"),
     (refusal("2-0", NotDone("neither a move nor a result")), "2 refused: 2-0: neither a move nor a result"),
-    ((REFUSED, ALL_WAYS), "2: behind the number, type 1-0, 0-1, 1/2-1/2, moves (Nf3 Nc6), back, back 14. Bxf6, instead 14. O-O, "
-     "* (no result), ok, or +- (Black has not come; -+ White, -- both)"),
+    ((REFUSED, ALL_WAYS), "2: behind the number, type 1-0, 0-1, 1/2-1/2, moves (Nf3 Nc6), back, back 14. Bxf6, instead 14. O-O, undo, "
+     "* (no result), name White=Anna, ok, or +- (Black has not come; -+ White, -- both)"),
 ]  # fmt: skip
 
 

@@ -3,7 +3,7 @@
 import math
 from typing import Any, Dict, List, Optional
 
-from live.board.state import DISK_FULL, OTHER_BOARD, TURNED_ROUND, Kind, Standing, State, lasting
+from live.board.state import DISK_FULL, OTHER_BOARD, TURNED_ROUND, Kind, Standing, State, asked_of, lasting
 from live.child.lines import Event, Stood, event_of
 from live.game.log import PROMPT, Screen
 from live.line.protocol import picture_of_placement
@@ -105,6 +105,13 @@ def hints() -> None:
     same("kinds that are alarms", alarms, ["WRONG", "NO_START", "SILENT", "UNPLUGGED"])
 
 
+def questions() -> None:
+    """What is asked if one change of the game explains the board: it is behind the state, and news."""
+    for name, fits, asked in cases("state", "questions"):
+        state = State(Kind.WRONG, 0, ("d5",), fits=fits, asks=asked_of(fits, "y"))
+        same(name, (state.parts(), state.news[-1]), (("WRONG", f": d5; {asked}"), fits))
+
+
 def clocks() -> None:
     """What is said of a clock that both sides have stopped, in each state."""
     for name, kind, known, front, rest, is_news in cases("state", "clocks"):
@@ -156,4 +163,4 @@ def clock_of_a_board() -> None:
         loop.close()
 
 
-TABLES = [texts, times, hints, clocks, clock_of_a_board]
+TABLES = [texts, times, hints, questions, clocks, clock_of_a_board]

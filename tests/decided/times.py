@@ -53,6 +53,16 @@ def cuts() -> None:
         same(f"{size} bytes", times.cut(text.encode(), found_in(text), size, b"a"[:size]).decode(), whole(left))
 
 
+def begun_with() -> None:
+    """A new capture goes on from the one before a line that is undone: so do its times."""
+    text = f"{OF_A}0 begin 1\n12 heard 67\n20 asked 1\n30 heard 10\n40 over 78\n50 heard 5\n60 ok\n".encode()
+    for generation, size, begins in cases("times", "begun with"):
+        same(f"{size} bytes", times.begun_with(text, generation, size, b"a"[:size]).decode(), begins)
+        same(f"{size} bytes, longer than the heading's", times.begun_with(text, generation, size, b"ab"[:size]).decode(), begins)
+    for unreadable in cases("times", "unreadable"):
+        same(repr(unreadable), times.begun_with(unreadable.encode(), 1, 1, b"a"), b"")
+
+
 def added() -> None:
     """Which bytes were added last: a call says anew how many there are, and what stands behind the events doesn't count."""
     front = f"{OF_A}0 begin 1\n12 heard 67\n"
@@ -72,4 +82,4 @@ def told() -> None:
         same(text, seen, [f"{one} Nothing is to be done" for one in expected])
 
 
-TABLES = [digests, files, written, cuts, added, told]
+TABLES = [digests, files, written, cuts, begun_with, added, told]

@@ -1,9 +1,17 @@
 """The way back, in words: what is asked and told, and which alarms end, given what the program says. Worked by hand from what the
 screen prints."""
 
+from types import SimpleNamespace
+from typing import Optional, cast
+
 from live.child.lines import Move
+from live.game.files import Paths
+from live.game.game import Game
+from live.game.kept import Capture
 from live.game.looks import OVER, Look, Looks
-from live.game.typed import Said, Way, asked_of, not_back, not_instead, nothing_goes, numbered, played_since, read_answer, stays_of, taken_up, way_of
+from live.game.typed import PutIn, Said, Way, asked_of, not_back, not_instead, nothing_goes, numbered, played_since, read_answer, stays_of, taken_up, way_of
+from live.game.undone import Obeyed, Undone, alike, to_undo
+from live.run.refused import NotDone
 
 from decided.cases import cases
 from decided.table import same
@@ -41,6 +49,42 @@ def instead() -> None:
         same(f"{text}, {line}", [str(not_instead(said, line, None, PLIES)), way_of(said, PLIES, line)], [expected, None])
 
 
+def undone() -> None:
+    """The line that was typed last is taken back."""
+    for line, had, behind, result, has, more, now, told in cases("way_back", "undone"):
+        before, after = ([*PLIES[:count], *(Move(*ply) for ply in rest)] for count, rest in ((had, behind), (has, more)))
+        way = Undone(before, alike(before, after), result, b"new", typed=line, now=after, has=now)
+        same(told, (way.words, way.question, way.front), (told, "", b"new" if now == "*" else b""))
+    for kept, made, begins, ends, sent, left in cases("way_back", "taken out"):
+        put = PutIn(kept and "game.before-1.dgt", len(kept), made, range(begins, ends))
+        same(f"{kept} and {sent}", put.taken_out(sent.encode(), kept.encode()).decode(), left)
+        same(f"{kept} and {sent}, before", put.before, len(kept) or begins)
+    same("a game that was over ends by itself", Undone(PLIES, 12, "*", b"new", put=PutIn(end=3)).front, b"")
+
+
+def what_is_undone() -> None:
+    """Which line is taken back; or why none is, and what to type."""
+    first, anew, second = (cast(Capture, SimpleNamespace(path=f"blitz-{number}.dgt")) for number in (1, 1, 2))
+    put = PutIn(added=range(67, 134))
+
+    def asked(last: Optional[Obeyed], capture: Capture) -> object:
+        game = cast(Game, SimpleNamespace(capture=capture, paths=Paths(capture.path[: -len(".dgt")])))
+        try:
+            return to_undo(last, game)
+        except NotDone as why:
+            return str(why)
+
+    by_hand = "Take plies off with back, and a result with *"
+    for name, last, capture, expected in (
+        ("the last line", Obeyed("Nf3", first, put), first, ("Nf3", put)),
+        ("none", None, first, f"nothing was typed since this recording began, and what was typed before can't be undone. {by_hand}"),
+        ("one that can't be", Obeyed("ok", first, why="why"), first, "why"),
+        ("the next game", Obeyed("1-0", first, put), second, '"1-0" was typed before blitz-2 began. Put blitz-1 right by its name, as * blitz-1'),
+        ("the same game anew", Obeyed("1-0", first, put), anew, f'"1-0" was typed last, and can\'t be undone. {by_hand}'),
+    ):
+        same(name, asked(last, capture), expected)
+
+
 def plies() -> None:
     """What is asked and told."""
     for stays, asked in cases("way_back", "questions"):
@@ -70,4 +114,4 @@ def taken_up_again() -> None:
         same(expected, played_since(PLIES[:count], now), expected)
 
 
-TABLES = [answers, instead, plies, looks, taken_up_again]
+TABLES = [answers, instead, undone, what_is_undone, plies, looks, taken_up_again]

@@ -21,6 +21,9 @@ export function words(counts, cases) {
   for (const [text, to] of cases("plies")) {
     counts.same(`back ${text}`, readWords(`back ${text}`), { kind: "back", to });
   }
+  for (const text of cases("undo alone")) {
+    counts.same(text, counts.refused(text, "Refused", () => readWords(text)).startsWith("undo takes back the line that was typed last"), true);
+  }
   for (const text of cases("which moves")) {
     counts.same(text, counts.refused(text, "Refused", () => readWords(text)).startsWith("the number of the first move"), true);
   }

@@ -13,6 +13,13 @@ export function times(counts, cases) {
   counts.same("kinds that are alarms", alarms, ["WRONG", "NO START", "SILENT", "UNPLUGGED"]);
 }
 
+export function questions(counts, cases) {
+  for (const [name, fits, asked] of cases("questions")) {
+    const state = new State(Kind.WRONG, 0, { squares: ["d5"], fits });
+    counts.same(name, [state.parts().map(String), state.news.at(-1)], [["WRONG", `: d5; ${asked}`], fits]);
+  }
+}
+
 export function clocks(counts, cases) {
   for (const [name, kind, { hint, ...known }, front, rest, isNews] of cases("clocks")) {
     const [runs, stands] = [false, true].map((clockStopped) => new State(Kind[kind], 0, { ...known, hint: HINTS[hint], clockStopped }));

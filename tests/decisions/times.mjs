@@ -1,5 +1,5 @@
 /** The lines of NAME.times, and a clock that counts on. */
-import { cut, digest, heading, inParts, isEarlier, isOf, kept, lineAfter, lines, toldOf, toldOfOther, withAdded } from "/web/game/times.js";
+import { begunWith, cut, digest, heading, inParts, isEarlier, isOf, kept, lineAfter, lines, toldOf, toldOfOther, withAdded } from "/web/game/times.js";
 import { stoodStill } from "/web/run/loop.js";
 
 const OF_A = "1 times 0\n1 digest 12638187200555641996\n"; // the capture began with the letter a
@@ -40,6 +40,14 @@ export function cuts(counts, cases) {
   for (const [size, left] of cases("cuts")) {
     counts.same(`${size} bytes`, cut(text, kept(text), size, bytesOf("a".slice(0, size))), whole(left));
   }
+}
+
+export function begun(counts, cases) {
+  const text = `${OF_A}0 begin 1\n12 heard 67\n20 asked 1\n30 heard 10\n40 over 78\n50 heard 5\n60 ok\n`;
+  for (const [generation, size, begins] of cases("begun with")) {
+    for (const first of ["a", "ab"]) counts.same(`${size} bytes of ${first}`, begunWith(text, generation, size, bytesOf(first.slice(0, size))), begins);
+  }
+  for (const unreadable of cases("unreadable")) counts.same(unreadable, begunWith(unreadable, 1, 1, bytesOf("a")), "");
 }
 
 export function parts(counts) {

@@ -1,6 +1,6 @@
 /** The way back: what is asked and told. The program finds the ply and makes the capture anew. */
 import { Looks, OVER } from "/web/game/alarms.js";
-import { askedOf, playedSince, question, readBack, readInstead, refuseBack, refuseInstead, refuseNothing, settled, takenUp, wordsOfBack, wordsOfInstead } from "/web/game/typed.js";
+import { askedOf, playedSince, question, readBack, readInstead, refuseBack, refuseInstead, refuseNothing, settled, takenOut, takenUp, wordsOfBack, wordsOfInstead, wordsOfUndone } from "/web/game/typed.js";
 
 const moveOf = ([number, san, clock]) => ({ kind: "move", number, san, clock, corrects: false });
 const read = (status, said) => readBack({ status, errors: new TextEncoder().encode(`${said}\n`), output: new Uint8Array(2) });
@@ -36,6 +36,19 @@ export function instead(counts, cases) {
   }
   for (const [said, line, expected] of cases("no instead")) {
     counts.same(said, refuseInstead(say(1, said), line, null, game).message, expected);
+  }
+}
+
+/** The line that was typed last is taken back. */
+export function undone(counts, cases) {
+  const game = cases("plies").map(moveOf);
+  for (const [line, had, behind, result, has, more, now, told] of cases("undone")) {
+    const [before, after] = [[...game.slice(0, had), ...behind.map(moveOf)], [...game.slice(0, has), ...more.map(moveOf)]];
+    counts.same(told, wordsOfUndone(line, { plies: before, result }, { plies: after, result: now }), told);
+  }
+  const bytesOf = (text) => new TextEncoder().encode(text);
+  for (const [kept, made, from, to, sent, left] of cases("taken out")) {
+    counts.same(`${kept} and ${sent}`, new TextDecoder().decode(takenOut({ made, from, to }, bytesOf(sent), bytesOf(kept))), left);
   }
 }
 

@@ -1,4 +1,4 @@
-"""Starts a recorder, and kills it right before the call of the system that is the COUNT-th after somebody has typed `back`:
+"""Starts a recorder, and kills it right before the call of the system that is the COUNT-th after somebody has typed `back` or `undo`:
 `killing.py COUNT CALLS PROGRAM ARGUMENT..`. CALLS says which are counted: `changes` those that change a file or its name, `all`
 each one.
 """
@@ -42,13 +42,15 @@ def main() -> None:
     sys.path.insert(0, str(TOP))
     from live.board.arbiter import Arbiter
 
-    goes_back = Arbiter.go_back
+    def counted(real: Any) -> Any:
+        def counts(*words: Any) -> Any:
+            killing.begin()
+            return real(*words)
 
-    def counted(*words: Any) -> Any:
-        killing.begin()
-        return goes_back(*words)
+        return counts
 
-    setattr(Arbiter, "go_back", counted)
+    for name in ("go_back", "undo"):
+        setattr(Arbiter, name, counted(getattr(Arbiter, name)))
     threading.setprofile(killing.sees)
     sys.setprofile(killing.sees)
     sys.argv = sys.argv[3:]

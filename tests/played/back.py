@@ -126,9 +126,8 @@ def typed_for_another(folder: pathlib.Path) -> None:
     same((answer.returncode, answer.stderr), (0, ""))
     assert "back to 1... e5; taken off: 2. d4 d5" in answer.stdout, answer
     until_game(live.name, "1. e4 e5 *")
-    answered(live, "help", "Type 1-0, 0-1, 1/2-1/2, moves (Nf3 Nc6), back, back 14. Bxf6, instead 14. O-O, * (no result), ok, +- (")
+    answered(live, "help", "Type 1-0, 0-1, 1/2-1/2, moves (Nf3 Nc6), back, back 14. Bxf6, instead 14. O-O, undo, * (no result), ok, +- (")
     answered(live, "help", "), name White=Anna (a name put right), moves (of the game so far), messages (of before), or q to end the recording")
-    answered(live, "undo", "Type 1-0")
     board.put("c4", 4)
     until_game(live.name, "1. e4 e5 2. Bc4 *")
     same(stop(live), 0)

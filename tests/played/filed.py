@@ -1,7 +1,7 @@
 """The file of times has what the program was told, with the same times: so a recorder that begins again with it says the same."""
 
 import pathlib
-from typing import List, Tuple
+from typing import List, Sequence, Tuple
 
 from attending.answers import Answer, Entry
 from attending.filed import Event, events_after, events_in
@@ -34,18 +34,18 @@ def told_of(entries: List[Entry], word: str) -> List[Entry]:
     return [entry for entry in entries if entry.word == word]
 
 
-def is_filed(name: object, calls: List[Tuple[List[Entry], List[Answer]]]) -> List[Event]:
-    """Each child was told the files as they were; what it was told and answered stands behind that in the file of times. What a game
-    begins with is of a call before the first one. Returns the events."""
+def is_filed(name: object, calls: List[Tuple[List[Entry], List[Answer]]], before: Sequence[Event] = ()) -> List[Event]:
+    """Each child was told the files as they were; what it was told and answered stands behind that in the file of times, which began with the
+    events from before, if there were some. Else what a game begins with is of a call before the first one. Returns the events."""
     size = next((entry.number or 0 for entry in calls[0][0] if entry.word == "begin"))
-    events: List[Event] = [(0, "begin", size)] if size else []
+    events: List[Event] = [*before] or ([(0, "begin", size)] if size else [])
     for told, said in calls:
         files = [entry for entry in told if entry.word in ("kept", "capture")]
         same([entry.word for entry in files], ["kept", "capture"] if events else [])
         same(events_in(files[0].sent) if files else [], events)
         events = events_after(events, told, said)
     same(events_in(bytes_of(f"{name}.times")), events)
-    accounted(name)
+    accounted(name, bool(before))
     return events
 
 
@@ -117,6 +117,28 @@ def times_as_told_anew(folder: pathlib.Path) -> None:
     same(stop(live), 0)
     events = is_filed(live.name, tap.calls[before:])
     same([event[1] for event in events[:5]], ["begin", "begin", "away", "back", "reopened"])
+
+
+def times_as_told_undone(folder: pathlib.Path) -> None:
+    """Typed moves are undone: the file goes on behind the events from before them, which the next program is told."""
+    tap, board, live = a_game(folder)
+    until_dumped(board, live.name)
+    live.type("ok")
+    until_line(live, "there is no LOOK here")
+    live.type("Nf3 Nc6")
+    until_line(live, "added by hand")
+    until_dumped(board, live.name)
+    live.type("undo")
+    until_line(live, "undone: ")
+    old = is_filed(f"{live.name}.before-1", tap.calls[:1])
+    board.play("g1f3")
+    until_game(live.name, "1. e4 e5 2. Nf3 *")
+    same(stop(live), 0)
+    before = old[: [event[1] for event in old].index("added")]
+    assert "ok" in [event[1] for event in before], before
+    same(len(tap.calls), 2)
+    events = is_filed(live.name, tap.calls[1:], before)
+    same([event[1] for event in events[len(before) :][:4]], ["begin", "away", "back", "reopened"])
 
 
 def times_as_told_of_another(folder: pathlib.Path) -> None:
@@ -210,6 +232,7 @@ def times_as_told_in_a_series(folder: pathlib.Path) -> None:
 CASES = [
     times_as_told,
     times_as_told_anew,
+    times_as_told_undone,
     times_as_told_of_another,
     times_as_told_asleep,
     times_as_told_as_it_ends,

@@ -8,7 +8,7 @@ from live.game.files import Paths
 from live.run.refused import DONE
 from played import words
 from played.back import answered, is_whole, ruy, sans
-from played.stage import bytes_of, movetext, program, rest, same, stop, until, until_dumped, until_game, until_line
+from played.stage import begin_game, bytes_of, ended, go_on, movetext, program, rest, same, stop, until, until_dumped, until_game, until_line
 
 
 def put_in_place(folder: pathlib.Path) -> None:
@@ -64,4 +64,17 @@ def of_a_closed_game(folder: pathlib.Path) -> None:
     is_whole(live)
 
 
-CASES = [put_in_place, one_move_on, of_a_closed_game]
+def mate_put_in(folder: pathlib.Path) -> None:
+    """The moves that come end with mate: that ends the game after ten seconds, and it is over when it is started again."""
+    board, live = begin_game(folder, typed=True)
+    answered(live, "Bc4 Nc6 Qh5 a6 h3", "added by hand: Bc4 Nc6 Qh5 a6 h3")
+    answered(live, "instead 4. Qxf7#", "now 4. Qxf7#; taken off: 4. h3. What the board had sent is kept in")
+    until_line(live, "ends in 10 seconds")
+    same(ended(live), 0)
+    same(movetext(live.name), "1. e4 e5 2. Bc4 Nc6 3. Qh5 a6 4. Qxf7# 1-0")
+    again = go_on(board, live)
+    same(ended(again), 0)
+    same(movetext(live.name), "1. e4 e5 2. Bc4 Nc6 3. Qh5 a6 4. Qxf7# 1-0")
+
+
+CASES = [put_in_place, one_move_on, of_a_closed_game, mate_put_in]

@@ -259,6 +259,24 @@ def stopped_in_a_game(folder: pathlib.Path) -> None:
     played.check()
 
 
+def stopped_undoing(folder: pathlib.Path) -> None:
+    """Typed moves are undone; plies are taken off, and that is undone."""
+    played = Played(folder, ["game"])
+    begun(played.live)
+    played.step(words.AGREES, "*")
+    played.move("e2e4", "  1. e4", "1. e4 *")
+    played.move("e7e5", "  1... e5", "1. e4 e5 *")
+    played.type("d4 d5", "added by hand: d4 d5", "1. e4 e5 2. d4 d5 *")
+    played.type("undo", 'undone: "d4 d5"', "1. e4 e5 *")
+    played.begin()
+    played.board.lift("e1")  # so the board shows no ply that could come back
+    until(lambda: "in hand e1" in played.live.lines(), "that the board is seen")
+    played.type("back 1. e4", "before-2.dgt", "1. e4 *")
+    played.type("undo", 'undone: "back 1. e4"', "1. e4 e5 *")
+    kill(played.live)
+    played.check()
+
+
 def stopped_in_a_series(folder: pathlib.Path) -> None:
     """A game that ends by a typed result, the pieces set up again, and the next game's first move."""
     played = Played(folder, ["game-1", "game-2"], "--series")

@@ -5,7 +5,7 @@ import pathlib
 import re
 from typing import List
 
-from play_board import KING, field
+from play_board import field
 from played import words
 from played.doubtful import BACK, KNIGHTS, SPANISH, TIME
 from played.ports import free_port
@@ -14,8 +14,6 @@ from rounds.hall import Hall
 from rounds.rounds import boards_of
 
 from live.show.view import IN_THE_TERMINAL
-
-KING_AT = "e1"
 
 
 class Desk:
@@ -59,13 +57,6 @@ class Desk:
         for move in moves:
             self.hall.boards[number - 1].play(move)
             until_dumped(self.hall.boards[number - 1], self.hall.name(number))
-
-    def holds_king(self, number: int) -> None:
-        self.hall.boards[number - 1].lift(KING_AT)
-        until_dumped(self.hall.boards[number - 1], self.hall.name(number))
-
-    def puts_king(self, number: int) -> None:
-        self.hall.boards[number - 1].put(KING_AT, KING)
 
     def has(self, number: int, text: str) -> None:
         """The game has exactly what was played, and the board shows it."""
@@ -144,10 +135,11 @@ def advice_about_states(folder: pathlib.Path) -> None:
 
 def advice_about_doubts(folder: pathlib.Path) -> None:
     """Moves that may be missing, before the last one and after it; moves that were taken back, that nobody pressed the clock for, and that
-    were tried while it stood. Each is put right as the alarm says."""
-    desk = Desk(folder, 5)
-    boards, lever, left = desk.hall.boards, [False] * 5, [[TIME, TIME] for _ in range(5)]  # while the lever is up, Black's time runs
-    desk.begin(1, 2, 3, 4, 5)
+    were tried while it stood. Each is put right as the alarm says, and nobody touches a piece; only one that was pushed before a result is
+    put back."""
+    desk = Desk(folder, 6)
+    boards, lever, left = desk.hall.boards, [False] * 6, [[TIME, TIME] for _ in range(6)]  # while the lever is up, Black's time runs
+    desk.begin(1, 2, 3, 4, 5, 6)
 
     def thinks(number: int, moves: List[str], presses: bool = True, pace: float = 2.0, runs: bool = True) -> None:
         board, at = boards[number - 1], number - 1
@@ -168,49 +160,49 @@ def advice_about_doubts(folder: pathlib.Path) -> None:
 
     desk.plays(1, "e2e4", "g8f6")
     desk.plays(2, "e2e4", "e7e5")
-    for number in (1, 2):
+    desk.plays(6, "d2d4", "d7d5")
+    for number in (1, 2, 6):
         boards[number - 1].pull()
         until_line(desk.live, f"  {number}  {words.UNPLUGGED}")
     for move in ("b1c3", "f6g8", "c3b1", "g8h6"):
         boards[0].play(move)
     for move in ("g1f3", "b8c6", "f3g1", "c6b8"):
         boards[1].play(move)
+        boards[5].play(move)
     rest(7)
-    for number in (1, 2):
+    for number in (1, 2, 6):
         boards[number - 1].plug()
     advice = desk.advice(1, "LOOK at 1... Nh6")
-    front = as_typed(advice, "if moves are missing, lift a king and hold it until all is typed: ", "back 1. e4, and then what was played")
-    desk.holds_king(1)
-    desk.types(f"{front}back 1. e4")
-    desk.hall.until_text(1, "1. e4 *")
-    desk.types(f"{front}Nf6 Nc3 Ng8 Nb1 Nh6")
-    desk.hall.until_text(1, "1. e4 Nf6 2. Nc3 Ng8 3. Nb1 Nh6 *")
-    desk.puts_king(1)
-    desk.types("1 ok")
+    front = as_typed(advice, "if moves are missing, type ", "instead 1... and all that was played from there on")
+    desk.types(f"{front}instead 1... Nf6 Nc3 Ng8 Nb1 Nh6")
     desk.has(1, "1. e4 Nf6 2. Nc3 Ng8 3. Nb1 Nh6 *")
     advice = desk.advice(2, "LOOK after 1... e5")
-    front = as_typed(advice, "if moves are missing, lift a king and hold it until all is typed, as ", "Nf3 Nc6")
-    desk.holds_king(2)
+    front = as_typed(advice, "if moves are missing, type all of them in one line, as ", "Nf3 Nc6")
     desk.types(f"{front}Nf3 Nc6 Ng1 Nb8")
     desk.hall.until_text(2, "1. e4 e5 2. Nf3 Nc6 3. Ng1 Nb8 *")
-    desk.puts_king(2)
     desk.types("2 ok")
     desk.has(2, "1. e4 e5 2. Nf3 Nc6 3. Ng1 Nb8 *")
+    desk.advice(6, "LOOK after 1... d5")
+    desk.plays(6, "g1f3")
+    until(lambda: "instead 2." in desk.advice(6, "LOOK after 1... d5"), "other advice, since a move was made", 0.05)
+    advice = desk.advice(6, "LOOK after 1... d5")
+    front = as_typed(advice, "if moves are missing, type ", "instead 2. and all that was played from there on")
+    desk.types(f"{front}instead 2. Nf3 Nc6 Ng1 Nb8 Nf3")
+    desk.hall.until_text(6, "1. d4 d5 2. Nf3 Nc6 3. Ng1 Nb8 4. Nf3 *")
+    desk.types("6 ok")
+    desk.has(6, "1. d4 d5 2. Nf3 Nc6 3. Ng1 Nb8 4. Nf3 *")
     thinks(3, KNIGHTS)
     rest(2.5)
     thinks(3, BACK, presses=False, pace=0)
     waits(3)
     advice = desk.advice(3, "LOOK at 3... Nb8")
-    front = as_typed(advice, "to take them off, lift a king and hold it until all is typed: ", "back 1... e5")
-    desk.holds_king(3)
+    front = as_typed(advice, "to take them off, type ", "back 1... e5")
     desk.types(f"{front}back 1... e5", asks=True)
-    desk.hall.until_text(3, "1. e4 e5 *")
-    desk.puts_king(3)
     desk.has(3, "1. e4 e5 *")
     thinks(4, SPANISH[:2])
     thinks(4, SPANISH[2:], presses=False, pace=1.5)
     advice = desk.advice(4, "LOOK at 4... Nf6")
-    front = as_typed(advice, "to take them off, lift a king and hold it until all is typed: ", "back 2. Nf3")
+    front = as_typed(advice, "to take them off, type ", "back 2. Nf3")
     desk.types(f"{front}back 2. Nf3")
     desk.types(f"{front}back 2. Nf3")
     desk.hall.until_text(4, "1. e4 e5 2. Nf3 *")
@@ -219,8 +211,22 @@ def advice_about_doubts(folder: pathlib.Path) -> None:
     until(lambda: "LOOK since " in desk.state(5), f"LOOK since, and not {desk.state(5)}", 0.05)
     since = desk.state(5).partition("LOOK since ")[2].partition(";")[0]
     advice = desk.advice(5, "LOOK since")
-    desk.types(as_typed(advice, "to take them off, lift a king and hold it until all is typed: ", f"back {since}") + f"back {since}")
+    desk.types(as_typed(advice, "to take them off, type ", f"back {since}") + f"back {since}")
     desk.hall.until_text(5, "1. e4 e5 2. Nf3 Nc6 *" if since == "2... Nc6" else "1. e4 e5 2. Nf3 Nc6 3. Bb5 *")
+    thinks(3, KNIGHTS[2:4])
+    thinks(3, ["f1b5"], presses=False, pace=4.0, runs=False)
+    desk.types("3 1-0")
+    desk.hall.until_over(desk.live, 3, "1-0")
+    advice = desk.advice(3, "LOOK since 2... Nc6; over 1-0")
+    front = as_typed(advice, "to take it off, put its piece back, and type ", "back 2... Nc6; then the result again")
+    desk.types(f"{front}back 2... Nc6")
+    until_line(desk.live, "3 refused: back 2... Nc6: the board still shows 3. Bb5: it would come back at once")
+    boards[2].play("b5f1")
+    until_dumped(boards[2], desk.hall.name(3))
+    desk.types(f"{front}back 2... Nc6")
+    desk.has(3, "1. e4 e5 2. Nf3 Nc6 *")
+    desk.types("3 1-0")
+    desk.hall.until_text(3, "1. e4 e5 2. Nf3 Nc6 1-0")
     stop(desk.live)
 
 

@@ -187,6 +187,63 @@ def text_not_made(folder: pathlib.Path) -> None:
     same(stop(live), 0)
 
 
+def line_undone(folder: pathlib.Path) -> None:
+    """Moves were typed for the wrong board, and a result ended the wrong game, in which two more moves were made: `undo` with the board's number
+    takes each back, and only there. A game that was over, and goes on without its last plies, is over again. Once its board isn't heard any
+    more, nothing is undone."""
+    hall = Hall(folder, 2)
+    live = hall.record(typed=True)
+    hall.begun(live)
+    hall.play(0, 2)
+    live.type("1 Nf3 Nc6")
+    until_line(live, f"1: added to {hall.name(1)}: Nf3 Nc6")
+    hall.until_text(1, "1. e4 e5 2. Nf3 Nc6 *")
+    live.type("undo")
+    until_line(live, "of which board? Type its number first, as 2 undo")
+    live.type("2 undo")
+    until_line(live, "2 refused: nothing was typed since this recording began")
+    live.type("1 undo")
+    done = 'undone: "Nf3 Nc6"; taken off: 2. Nf3 Nc6; 2 plies again, the last one 1... e5. What the board had sent is kept in'
+    until_line(live, f"1: {hall.name(1)}: {done} {hall.name(1)}.before-1.dgt")
+    hall.until_text(1, "1. e4 e5 *")
+    says(live, 1, "agrees; ")
+    live.type("2 1-0")
+    hall.until_over(live, 2, "1-0")
+    for move in ("c2c4", "e7e6"):
+        hall.boards[1].play(move)
+        until_dumped(hall.boards[1], hall.name(2))
+    until_line(live, "LOOK after 1... d5: 2 moves were made")
+    live.type("2 undo")
+    done = 'undone: "1-0"; 4 plies again, the last one 2... e6; the result 1-0 is gone. What the board had sent is kept in'
+    until_line(live, f"2: {hall.name(2)}: {done} {hall.name(2)}.before-1.dgt")
+    hall.until_text(2, "1. d4 d5 2. c4 e6 *")
+    live.type("2 ok")
+    says(live, 2, "agrees; ")
+    live.type("1 0-1")
+    hall.until_over(live, 1, "0-1")
+    hall.boards[0].lift("e1")
+    until_dumped(hall.boards[0], hall.name(1))
+    live.type("1 back")
+    until_line(live, "back to 1. e4; taken off: 1... e5; the result 0-1 is gone. What the board had sent is kept in")
+    hall.until_text(1, "1. e4 *")
+    live.type("1 undo")
+    until_line(live, 'undone: "back"; 2 plies again, the last one 1... e5; the result 0-1 again. What the board had sent is kept in')
+    says(live, 1, "over 0-1")
+    hall.until_text(1, "1. e4 e5 0-1")
+    hall.until_round()
+    hall.boards[0].set_up([])
+    until(lambda: not has_open(live.process.pid, hall.boards[0].device), "that the board isn't heard any more")
+    live.type("1 undo")
+    until_line(live, "1 refused: undo takes back what was typed while the game is recorded")
+    same(stop(live), 0)
+    again = hall.record(typed=True)
+    hall.until_over(again, 1, "0-1")
+    hall.boards[1].play("b1c3")
+    hall.until_text(2, "1. d4 d5 2. c4 e6 3. Nc3 *")
+    same(stop(again), 0)
+    same((hall.text(1), bytes_of(hall.name(1) + ".end") != b""), ("1. e4 e5 0-1", True))
+
+
 def last_screen(live: Live) -> str:
     """The table with the messages below it, as it was drawn whole last."""
     return " ".join(words.plain(live.told.read().rpartition("\x1b[H\x1b[2J")[2]).split())

@@ -53,8 +53,6 @@ def another_round(folder: pathlib.Path) -> None:
     until_line(live, "  3  White is now Ida; Black is now Jan\n")
     assert "Kim" not in live.lines(), live.lines()
     write("Anna,Ben", "Gus,Nora", "Ida,Jan", "Kim,Lea")
-    live.type("2 name White=Gus")
-    until_line(live, "2 refused: name White=Gus: the names of a round are in its table: change them there, save it, and type r")
     live.type("r")
     until_line(live, "  2  White is now Gus, and was Müller; Black is now Nora, and was Hal\n")
     until(lambda: tags(2) == "Gus - Nora", "both names of board 2")

@@ -3,9 +3,11 @@
 import { HEARD } from '../child/attended.js';
 import { lasting } from '../../live/show/page/chess.js';
 import { message } from '../../live/show/page/message.js';
+import { ASKED_ANEW, NOTHING_ASKED, Refused } from '../game/typed.js';
 import { Kind, stateOf } from './state.js';
 
 const SAID = [Kind.WRONG, Kind.NO_START]; // states that are reported as lines too
+const READ = 1; // seconds in which nobody can have read a question and answered it
 const UNSEEN = ['UNPLUGGED', 'SILENT', 'WAITS']; // states in which the board may have shown nothing
 
 /** When a board was away that was heard last at this time, if it was, and is heard again now; null if nobody knows: the page has slept too.
@@ -23,10 +25,11 @@ export class Presence {
     this.isSilent = false; // whether no board answers
     this.hasShown = false; // whether the board has shown something
     /** @type {Stands} */
-    this.said = { kind: 'WAITS', lasted: null, squares: [], hint: '' }; // `saidAt` is when
+    this.said = { kind: 'WAITS', lasted: null, squares: [], hint: '', fits: '' }; // `saidAt` is when
     this.saidAt = session.guard.now();
     this.clockStopped = false; // by both sides, and it ran before
     this.lastNews = ''; // of its state
+    this.question = { fits: '', at: 0, differs: '' }; // what was last asked about, as it is typed; when; where the board differed then
   }
 
   /** @type {(now: number) => void} the board is heard now; the page may have slept too */
@@ -80,9 +83,26 @@ export class Presence {
     return stateOf(this.said, this.saidAt, playing.differs, beside);
   }
 
+  /** What somebody accepts by `y`, as it is typed: the change that was last asked about. Refused if nothing is asked; if nobody can have read
+   * the question; or if the board shows something else by now, which is asked about as soon as it explains the board. */
+  accepts() {
+    const { question } = this;
+    this.look();
+    if (!this.question.fits) throw new Refused(NOTHING_ASKED);
+    const isSame = question === this.question && question.differs === this.differs;
+    if (!isSame || this.session.guard.now() < question.at + READ) throw new Refused(ASKED_ANEW);
+    return question.fits;
+  }
+
+  /** Where the board differs, as its report has named it last. */
+  get differs() {
+    return this.session.playing.differs.join(' ');
+  }
+
   /** Once a second: an alarm of the state is reported, once. */
   look() {
     const { state } = this;
+    if (state.fits !== this.question.fits) this.question = { fits: state.fits, at: this.session.guard.now(), differs: this.differs };
     const { cable, guard, isOver, record } = this.session;
     const news = JSON.stringify([record.game.id, ...state.news]);
     const isNew = news !== this.lastNews;

@@ -2,14 +2,15 @@
 // of a round. The program decides which state it is. Pure.
 
 import { NO_TIME } from '../child/report.js';
-import { clocksOf } from '../game/course.js';
+import { NO_PLIES, clocksOf } from '../game/course.js';
 import { countingForfeit, scoreOf } from '../game/forfeits.js';
 import { written } from '../game/options.js';
+import { YES } from '../game/typed.js';
 import { DISK_FULL } from '../kept/capture.js';
 import { lasting } from '../../live/show/page/chess.js';
 import { linked, message } from '../../live/show/page/message.js';
 
-/** @typedef {{ squares?: string[], result?: string, hint?: Words, disk?: Words, look?: Words, clockStopped?: boolean }} Beside */
+/** @typedef {{ squares?: string[], result?: string, hint?: Words, disk?: Words, look?: Words, clockStopped?: boolean, fits?: string }} Beside */
 
 const MOST_LISTED = 8;
 export const TURNED_ROUND = message('state.turned_round');
@@ -36,7 +37,7 @@ const WITH_CLOCK = [Kind.AGREES, Kind.IN_HAND, Kind.WRONG]; // states in which a
 /** The state at a moment. `since` is null if it isn't known for how long it has been so. */
 export class State {
   /** @param {Message} kind @param {number | null} since @param {Beside} beside */
-  constructor(kind, since, { squares = [], result = '', hint = '', disk = '', look = '', clockStopped = false } = {}) {
+  constructor(kind, since, { squares = [], result = '', hint = '', disk = '', look = '', clockStopped = false, fits = '' } = {}) {
     this.kind = kind;
     this.since = since;
     this.squares = squares;
@@ -45,6 +46,12 @@ export class State {
     this.disk = disk;
     this.look = look;
     this.clockStopped = clockStopped;
+    this.fits = fits; // what is typed for the change of the game that alone explains the board
+  }
+
+  /** The question whether it was played so; empty if nothing is asked. */
+  get asks() {
+    return this.fits ? askedOf(this.fits) : '';
   }
 
   /** Whether somebody must go to the board, or to the disk. */
@@ -64,8 +71,8 @@ export class State {
 
   /** What makes a state news: it is reported when this changes, not when only time passes. */
   get news() {
-    const { kind, result, hint, disk, look, clock, squares } = this;
-    return [kind, result, hint, disk, look, clock, kind === Kind.WRONG ? squares : []];
+    const { kind, result, hint, disk, look, clock, squares, fits } = this;
+    return [kind, result, hint, disk, look, clock, kind === Kind.WRONG ? squares : [], fits];
   }
 
   /** The state in words: those before its duration, and those after. Beyond a limit, squares are only counted.
@@ -91,6 +98,7 @@ export class State {
       front = this.look;
     }
     if (this.clock) rest = linked('semicolon', [rest, this.clock]);
+    if (this.asks) rest = linked('semicolon', [rest, this.asks]);
     return [this.disk ? linked('comma', [this.disk, front]) : front, rest];
   }
 
@@ -104,13 +112,22 @@ export class State {
   }
 }
 
+/** @type {(fits: string) => Message} the question whether it was played so: moves, or others instead, or the last ones were taken back */
+function askedOf(fits) {
+  const [, word, rest] = /^(?:(back|instead) )?(.*)$/.exec(fits) || [];
+  let question = message('state.played', { moves: rest });
+  if (word === 'instead') question = message('state.played_instead', { moves: rest });
+  if (word === 'back') question = rest === NO_PLIES ? message('state.taken_back_to_the_start') : message('state.taken_back', { last: rest });
+  return message('state.if_so', { question, yes: YES });
+}
+
 /** The state that the program has said at this time. `differs` are the squares that its report has named last; `beside` has the game's
  * result, and what else the page knows.
  * @type {(said: Stands, at: number, differs: string[], beside: { result: string, disk: Words, look: Words, clockStopped: boolean }) => State} */
-export function stateOf({ kind, lasted, squares, hint }, at, differs, { result, ...beside }) {
+export function stateOf({ kind, lasted, squares, hint, fits }, at, differs, { result, ...beside }) {
   const since = lasted === null ? null : at - lasted / 1000;
   const named = KINDS[kind] === Kind.IN_HAND ? differs : squares;
-  return new State(KINDS[kind], since, { ...beside, squares: named, result: result.replace('*', ''), hint: HINTS[hint] || '' });
+  return new State(KINDS[kind], since, { ...beside, squares: named, result: result.replace('*', ''), hint: HINTS[hint] || '', fits });
 }
 
 /** @type {(course: Course) => string[]} the clocks as they run; if there is no clock, each player's time after his last move */

@@ -1,17 +1,18 @@
 // What somebody types for a board that is recorded, or whose game is over. The program decides what it means; here its
 // answers come into the capture.
 
+import { BACK } from '../child/attended.js';
 import { shortOf } from '../child/report.js';
 import { shortOfLook } from '../game/alarms.js';
 import { NO_PLIES, gameOf, lastDumpIn } from '../game/course.js';
-import { BOTH, resultOf, whyPlayed, wordsOfForfeit } from '../game/forfeits.js';
+import { BOTH, askedUnplayed, resultOf, whyPlayed, wordsOfForfeit } from '../game/forfeits.js';
 import { ofTyping, optionsOf } from '../game/options.js';
 import {
-  ABSENT, AS_IT_IS, Asked, CUT, HELP, REFUSED, Refused, THIS, UNPLAYED, askedOf, isStillShown, meaning, placeOf, playedSince, question,
-  reached, readAnswer, readBack, readInstead, readWords, refusal, refuse, refuseBack, refuseInstead, refuseNothing, settled, takenUp,
-  whichGame, wordsOfBack, wordsOfInstead,
+  ABSENT, AS_IT_IS, Asked, CUT, HELP, REFUSED, Refused, THIS, UNDO, UNPLAYED, alike, askedOf, cannot, isStillShown, meaning,
+  placeOf, playedSince, question, reached, readAnswer, readBack, readInstead, readWords, refusal, refuse, refuseBack, refuseInstead,
+  refuseNothing, settled, takenOut, takenUp, whichGame, wordsOfBack, wordsOfInstead, wordsOfUndone,
 } from '../game/typed.js';
-import { DISK_FULL } from '../kept/capture.js';
+import { DISK_FULL, MOST } from '../kept/capture.js';
 import { joined } from '../line/protocol.js';
 import { isSame, linked, message } from '../../live/show/page/message.js';
 
@@ -39,6 +40,11 @@ function aboutLooks(before, left) {
   return gone.length > 0 ? [message('look.settled', { looks: linked('comma', gone) })] : [];
 }
 
+/** @type {(typed: import('../game/typed.js').Typed, line: string) => ChangeTyped} what changes the game: a question that is accepted is done as if its line had been typed */
+function asked(typed, line) {
+  return /** @type {ChangeTyped} */ (typed.kind === 'accepted' ? readWords(line) : typed);
+}
+
 export class Typing {
   /** @param {Session} session */
   constructor(session) {
@@ -46,6 +52,10 @@ export class Typing {
     this.last = /** @type {Promise<unknown>} */ (Promise.resolve());
     this.answered = /** @type {Promise<unknown>} */ (Promise.resolve()); // ends when all lines typed so far are answered
     this.asked = /** @type {Words} */ (''); // the last question, which the same line answers if it is typed again
+    this.lastLine = /** @type {Obeyed | null} */ (null); // the line that was obeyed last
+    this.put = /** @type {PutIn | null} */ (null); // what the present line has put in
+    /** @type {PutIn['before']} */
+    this.before = { end: null }; // what was known of the game then
   }
 
   /** Does this while all that comes waits: none of it is taken or shown meanwhile.
@@ -85,9 +95,14 @@ export class Typing {
       if (typed.kind === 'nothing') return { done: true, said: '' };
       if (typed.kind === 'helped') return { done: true, said: HELP };
       if (typed.kind === 'quit') throw new Refused(message('press.stop'));
-      if (typed.kind === 'acknowledged') return { done: true, said: session.acknowledge() };
+      if (typed.kind === 'acknowledged') {
+        const seen = session.acknowledge();
+        this.obeyed(text, null, message('undo.look'));
+        return { done: true, said: seen };
+      }
       if (session.capture.trouble) throw new Refused(unkept(session.capture));
-      const said = await this.does(typed);
+      const line = typed.kind === 'accepted' ? session.presence.accepts() : text;
+      const said = await this.does(asked(typed, line), line);
       session.says(said);
       return { done: true, said: session.capture.trouble ? linked('stop', [said, message('keep.not_yet')]) : said };
     } catch (error) {
@@ -95,15 +110,43 @@ export class Typing {
     }
   }
 
-  /** @type {(typed: ChangeTyped) => Promise<Words>} does what changes the game */
-  async does(typed) {
-    if (typed.kind === 'forfeit') return this.forfeit(typed.forfeit);
+  /** @type {(typed: ChangeTyped, text: string) => Promise<Words>} does what changes the game */
+  async does(typed, text) {
+    const { session } = this;
+    this.put = null;
+    if (typed.kind === 'undo') return this.undo();
+    if (typed.kind === 'forfeit') {
+      const notPlayed = await this.forfeit(typed.forfeit);
+      this.obeyed(text, null, message('undo.forfeit'));
+      return notPlayed;
+    }
+    const { forfeit } = session.record.game;
     const said = await this.changes(typed);
-    await this.session.forfeits('');
+    const put = /** @type {PutIn | null} */ (this.put);
+    const isResultOff = typed.kind === 'reopened';
+    const why = isResultOff ? message('undo.result_off') : message('undo.other_way');
+    this.obeyed(text, put && !forfeit && !isResultOff ? put : null, why);
+    await session.forfeits('');
     return said;
   }
 
-  /** @type {(typed: Exclude<ChangeTyped, { kind: 'forfeit' }>) => Promise<Words>} */
+  /** @type {(line: string, put: PutIn | null, why: Words) => void} this line was obeyed last; what it has put in, or why that stays */
+  obeyed(line, put, why) {
+    const { capture, name, record } = this.session;
+    this.lastLine = { line: line.trim().split(/\s+/u).join(' '), game: record.game.id, name, capture, put, why };
+  }
+
+  /** @type {(kept: number, made: number) => void} a new capture has taken the place of one with so many bytes */
+  hasMade(kept, made) {
+    this.put = { kept, made, from: made, to: made, before: this.before };
+  }
+
+  /** @type {(from: number, to: number) => void} the capture has got these bytes */
+  hasAdded(from, to) {
+    this.put = { kept: 0, made: 0, before: this.before, ...this.put, from, to };
+  }
+
+  /** @type {(typed: Exclude<ChangeTyped, { kind: 'forfeit' } | { kind: 'undo' }>) => Promise<Words>} */
   changes(typed) {
     switch (typed.kind) {
       case 'added':
@@ -165,6 +208,8 @@ export class Typing {
     await session.attending.read();
     if (session.guard.ended) throw new Refused(message('typed.interrupted'));
     if (session.next.beginning.isOn || !this.isStill(seen)) throw new Refused(message('typed.ended_meanwhile'));
+    const { end, typedTo, overTo } = session.record.game;
+    if (this.put === null) this.before = { end, typedTo, overTo };
     return put(answer);
   }
 
@@ -210,8 +255,11 @@ export class Typing {
         /** @type {TimesOf} */
         const timesOf = (game, capture) => session.times.upTo(end, game, capture, put.length);
         await session.renew(content, false, { end: typedTo, typedTo, overTo }, timesOf);
+        this.hasAdded(end, typedTo);
       } else {
+        const from = session.capture.size;
         await session.add(put);
+        this.hasAdded(from, from + put.length);
       }
       const gone = said.kind === 'moves' && result !== '*' ? [message('result.gone', { result })] : [];
       const added = message('typed.added_by_hand', { what: linked('semicolon', [meaning(said, text, plies.map(shortOf)), ...gone]) });
@@ -221,13 +269,13 @@ export class Typing {
   }
 
   /** A result may be meant for the game before, unless this one is over. Throws Refused if this game has no move yet. Returns a question if
-   * the game before has no result; else an empty text.
+   * the game before has no result, or there is none and no move was made yet; else an empty text.
    * @type {(outcome: string) => Words} */
   whichGame(outcome) {
     const { around, course, isOver, name } = this.session;
     const before = around.gameBefore;
     const meant = isOver ? THIS : whichGame(course.plies.length, before && before.isUnended);
-    if (!before || meant === THIS) return '';
+    if (!before || meant === THIS) return isOver || course.plies.length > 0 ? '' : askedUnplayed(outcome);
     const isThat = message('which.press_beside', { before: before.name, result: outcome });
     if (meant !== UNPLAYED) {
       const why = message('which.no_result', { name: before.name });
@@ -266,7 +314,9 @@ export class Typing {
     return this.decided(decide, async ({ shown, cut, added, stood }) => {
       if (shown.kind === 'signed' && this.session.cable.isOpen) throw refuseBack(shown, outcome, plies);
       if (cut === null || !added.put || !stood) throw refuse({ kind: 'board', words: [] }, outcome, '');
+      const { size } = this.session.capture;
       await this.session.endsAnew(cut, added.put, lastDumpIn(stood));
+      this.hasMade(size, this.session.capture.size);
       const what = linked('semicolon', [meaning(added, outcome, plies.map(shortOf)), message('back.result_gone', { result })]);
       return linked('stop', [message('typed.added_by_hand', { what }), KEPT]);
     });
@@ -308,8 +358,14 @@ export class Typing {
     const { looks } = session.playing.alarms;
     const left = looks.without(settled(plies, stays));
     const done = wordsOfBack(plies, stays, result);
-    if (end !== null) await session.endWith(end, left.kept);
-    else if (put) await session.renew(put, true, { end: null, typedTo: put.length, looks: left.kept, goneBack: session.goneBack + 1 });
+    const { size } = session.capture;
+    if (end !== null) {
+      await session.endWith(end, left.kept);
+      this.hasAdded(size, size);
+    } else if (put) {
+      await session.renew(put, true, { end: null, typedTo: put.length, looks: left.kept, goneBack: session.goneBack + 1 });
+      this.hasMade(size, put.length);
+    }
     return linked('stop', [done, ...aboutLooks(looks, left), staysOver ? message('back.still_over') : KEPT]);
   }
 
@@ -332,7 +388,68 @@ export class Typing {
     const { looks } = session.playing.alarms;
     const left = looks.without(settled(plies, stays));
     const done = wordsOfInstead(plies, stays, line, result);
-    await session.renew(put, true, { end: null, typedTo: put.length, looks: left.kept, goneBack: session.goneBack + 1 });
+    const { size } = session.capture;
+    const now = await gameOf(session.hall.calls, session.options, put);
+    /** @type {TimesOf} */
+    const timesOf = (game, capture, words) => session.times.next(game, capture, 0, now.result === '*' ? words : [BACK]); // else mate ends it
+    await session.renew(put, true, { end: null, typedTo: put.length, looks: left.kept, goneBack: session.goneBack + 1 }, timesOf);
+    this.hasMade(size, put.length);
+    return linked('stop', [done, ...aboutLooks(looks, left), KEPT]);
+  }
+
+  /** @type {() => Promise<Words>} takes back the line that was obeyed last: the game is what it would be without it */
+  async undo() {
+    const { line, put } = this.toUndo();
+    const { hall: { calls }, options } = this.session;
+    /** @param {Seen} seen */
+    const decide = async ({ capture, size }) => {
+      const kept = await this.keptBefore(put);
+      const content = takenOut(put, capture.view(size), kept.bytes);
+      if (content.length > MOST) throw new Refused(message('back.capture_full'));
+      const { end } = put.before;
+      return { kept, content, now: await gameOf(calls, options, end === null ? content : content.subarray(0, end)) };
+    };
+    const said = await this.decided(decide, ({ kept, content, now }) => this.putBack(line, put, kept, content, now));
+    this.obeyed(UNDO, null, message('undo.twice', { line }));
+    return said;
+  }
+
+  /** @type {() => { line: string, put: PutIn }} the line that was obeyed last, and what it has put in. Throws Refused if it can't be undone */
+  toUndo() {
+    const { lastLine: last, session: { capture, name, record } } = this;
+    if (last === null) throw new Refused(message('undo.nothing'));
+    const { line, put, why } = last;
+    if (line === UNDO) throw new Refused(why);
+    if (put !== null && last.capture === capture) return { line, put };
+    const isOther = put !== null && last.game !== record.game.id;
+    throw new Refused(isOther ? message('undo.begun_since', { line, name, how: message('undo.beside', { name: last.name }) }) : cannot(line, why));
+  }
+
+  /** @type {(put: PutIn) => Promise<{ bytes: Uint8Array, times: string }>} the capture from before a line that has made another one; else nothing */
+  async keptBefore({ kept }) {
+    if (kept === 0) return { bytes: new Uint8Array(0), times: '' };
+    const { name, record, hall } = this.session;
+    const found = (await hall.database.before()).filter(({ game }) => game === record.game.id).pop();
+    if (!found || found.bytes.length !== kept) throw new Refused(message('undo.kept_is_gone', { kept: name }));
+    return found;
+  }
+
+  /** @type {(line: string, put: PutIn, kept: { times: string }, content: Uint8Array, now: import('../game/course.js').Course) => Promise<Words>} */
+  async putBack(line, put, kept, content, now) {
+    const { session } = this;
+    const { course, playing: { alarms: { looks } } } = session;
+    const left = looks.without(settled(course.plies, alike(course.plies, now.plies)));
+    const size = put.kept > 0 ? put.kept : put.from;
+    const text = put.kept > 0 ? kept.times : session.times.all;
+    const goesOn = put.before.end === null && now.result === '*';
+    const done = wordsOfUndone(line, course, now);
+    /** @type {TimesOf} */
+    const timesOf = (game, capture, words) => {
+      const told = goesOn ? words : [];
+      return text && size > 0 ? session.times.upTo(size, game, capture, 0, text, told) : session.times.next(game, capture, 0, told);
+    };
+    const typedTo = goesOn ? content.length : put.before.typedTo;
+    await session.renew(content, true, { ...put.before, typedTo, looks: left.kept, goneBack: session.goneBack + 1 }, timesOf);
     return linked('stop', [done, ...aboutLooks(looks, left), KEPT]);
   }
 

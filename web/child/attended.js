@@ -19,6 +19,7 @@ export const UNPLAYED = 'UNPLAYED'; // nobody may have played these moves
 
 const OVER_SO = /^([A-Z-]+) (1-0|0-1|1\/2-1\/2|\*) ([0-9]+) (sure|unsure)$/;
 const COUNTS = ['played', 'begins'];
+const [FITS, GAME] = ['fits', 'game']; // behind which come as many bytes as they say, as behind `kept`
 const RAISED = new RegExp(`^(?:(${SUSPICION}) ([0-9]+)|(${AT}|${AFTER}|${SINCE}) ([0-9]+) ([A-Z-]+)(?: ([0-9]+))?)$`);
 
 /** A line that stands in no answer. */
@@ -48,7 +49,7 @@ const spanOf = (word) => (word === '-' ? null : Number(word));
 /** @type {(words: string[]) => Stands} how the board stands */
 function stateOf([kind, lasted, ...rest]) {
   const hint = ALARMED.includes(rest[rest.length - 1]) ? String(rest.pop()) : '';
-  return { kind, lasted: spanOf(lasted), squares: rest, hint };
+  return { kind, lasted: spanOf(lasted), squares: rest, hint, fits: '' };
 }
 
 /** @type {(text: string) => Raised} what somebody must look at, as `at 27 LATE`, `since 24 STOPPED 3` or `SUSPECT 3` says it */
@@ -73,7 +74,8 @@ const noEnd = () => ({ over: null, played: null, begins: null });
 export class Answers {
   constructor() {
     this.line = /** @type {string[]} */ ([]); // parts of the line that has begun
-    this.filled = new Uint8Array(0); // what `kept` or `game` has told
+    this.filled = new Uint8Array(0); // what `kept`, `fits` or `game` has told
+    this.fits = new Uint8Array(0); // what explains the board, before its state is read
     this.lacks = 0; // bytes of it that are still to come
     this.answer = noAnswer();
   }
@@ -110,10 +112,11 @@ export class Answers {
     const [word, ...rest] = line.split(' ');
     if (/^[0-9]+$/.test(word)) {
       answer.report.push(line);
-    } else if (word === KEPT || word === 'game') {
+    } else if (word === KEPT || word === FITS || word === GAME) {
       this.lacks = Number(rest[0]);
       this.filled = new Uint8Array(this.lacks);
       if (word === KEPT) answer.kept = this.filled;
+      else if (word === FITS) this.fits = this.filled;
       else answer.game = this.filled;
     } else if (word === KEEP || word === HOLD || word === OTHER) {
       answer.handling = word;
@@ -127,7 +130,8 @@ export class Answers {
     } else if (line === CLOCK_STOPPED || line === CLOCK_RUNS) {
       answer.clockStopped = line === CLOCK_STOPPED;
     } else if (word === 'state') {
-      answer.state = stateOf(rest);
+      answer.state = { ...stateOf(rest), fits: String.fromCharCode(...this.fits).trim() };
+      this.fits = new Uint8Array(0);
     } else if (word === 'over') {
       answer.end = { ...(answer.end || noEnd()), over: readOver(rest.join(' ')) };
     } else if (COUNTS.includes(word)) {

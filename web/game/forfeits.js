@@ -63,5 +63,12 @@ export function whyPlayed(kind, plies, result) {
   return kind === BOTH && result !== NO_RESULT ? message('forfeit.has_result', { result, reopens: NO_RESULT }) : '';
 }
 
+/** @type {(result: string) => Words} what is asked about the result of a game without a move: perhaps a player hasn't come */
+export function askedUnplayed(result) {
+  const forfeit = Object.keys(SCORES).find((kind) => resultOf(kind) === result);
+  if (!forfeit || forfeit === BOTH) return message('press.no_move', { result });
+  return message('press.no_move_or_absent', { side: message(forfeit === WHITE ? 'side.black' : 'side.white'), forfeit, result });
+}
+
 /** @type {(kind: string) => Tags} the tag of what is published of a forfeited game */
 export const tagsOfForfeit = (kind) => (kind ? { Termination: TERMINATION } : {});

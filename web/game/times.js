@@ -116,6 +116,15 @@ export function cut(text, found, size, first) {
   return parts.join('');
 }
 
+/** What the file of a new capture begins with, which goes on from so many bytes of the one with these times, and begins with `first`; empty if
+ * they can't be read.
+ * @type {(text: string, generation: number, size: number, first: Uint8Array) => string} */
+export function begunWith(text, generation, size, first) {
+  const found = kept(text);
+  if (!found || found.version !== undefined) return '';
+  return heading(generation, first.subarray(0, found.size)) + cut(text, found, size, first).split('\n').slice(2).join('\n');
+}
+
 /** A capture with its times in parts of so many bytes or up to twice as many; the text is empty if there are no times. Told one after the
  * other they tell what they tell whole. Bytes that came before a call are told before it, without a time.
  * @type {(text: string, capture: Uint8Array, most: number) => { text: string, bytes: Uint8Array }[]} */

@@ -3,21 +3,27 @@
 
 import { ProgramError, endedWith } from '../child/program.js';
 import { shortOf } from '../child/report.js';
+import { joined } from '../line/protocol.js';
 import { Complaint, linked, message, plural } from '../../live/show/page/message.js';
 import { BOTH, typedForfeit } from './forfeits.js';
 
 /** What is asked for: the program is to go back to a ply, or to read a line; the game isn't played; or a word alone, where `reopened` says
  * that a result is to be taken off.
- * @typedef {ChangeTyped | { kind: 'nothing' } | { kind: 'quit' } | { kind: 'acknowledged' } | { kind: 'helped' }} Typed */
+ * @typedef {ChangeTyped | { kind: 'nothing' } | { kind: 'quit' } | { kind: 'acknowledged' } | { kind: 'accepted' } |
+ * { kind: 'helped' }} Typed */
 
+export const YES = 'y'; // it was played as the page has asked
 const NOUGHTS = '0-0'; // a result, or castling typed with noughts
 export const WAYS = message('typed.ways');
 export const ABSENT = message('typed.absent'); // what can be typed too if the game has no move
 export const HELP = message('typed.all_ways_or_absent', { absent: ABSENT });
 export const BOTH_LOSE = message('typed.noughts', { noughts: NOUGHTS });
 export const WHICH_PLY = message('back.which_ply');
+export const NOTHING_ASKED = message('typed.nothing_asked');
+export const ASKED_ANEW = message('typed.asked_anew');
 export const WHICH_MOVES = message('instead.which_moves');
-const HELPS = ['help', '?', 'undo'];
+const HELPS = ['help', '?'];
+export const UNDO = 'undo';
 const SHOWN = 60; // characters of what was typed that an answer repeats
 const SHORT = 20; // characters of a word that it repeats
 
@@ -35,10 +41,13 @@ export function readWords(text) {
   if (HELPS.includes(first)) return { kind: 'helped' };
   if (first === 'back') return { kind: 'back', to: plyOf(words.slice(1).join(' ')) };
   if (first === 'instead') return { kind: 'instead', line: movesOfLine(words.slice(1).join(' ')) };
+  if (first === UNDO && words.length > 1) throw new Refused(message('undo.alone'));
   const alone = words.length === 1 ? first : '';
   if (alone === 'q' || alone === 'quit') return { kind: 'quit' };
   if (alone === 'ok') return { kind: 'acknowledged' };
+  if (alone === YES) return { kind: 'accepted' };
   if (alone === '*') return { kind: 'reopened' };
+  if (alone === UNDO) return { kind: 'undo' };
   const forfeit = typedForfeit(text);
   if (forfeit) return { kind: 'forfeit', forfeit };
   if (withAHyphen(words.join('')) === NOUGHTS) throw new Refused(message('forfeit.noughts', { no_score: BOTH_LOSE, both: BOTH }));
@@ -324,6 +333,32 @@ export function wordsOfInstead(plies, stays, line, result) {
   if (result !== '*') parts.push(message('back.result_gone', { result }));
   return linked('semicolon', parts);
 }
+
+/** The capture as if a line hadn't been typed that has put this in, given all that it has now, and what is kept from before the line.
+ * @type {(put: Pick<PutIn, 'made' | 'from' | 'to'>, sent: Uint8Array, kept: Uint8Array) => Uint8Array} */
+export const takenOut = ({ made, from, to }, sent, kept) => joined(kept, sent.subarray(made, Math.max(made, from)), sent.subarray(Math.max(made, to)));
+
+/** @type {(before: Move[], now: Move[]) => number} with how many plies two games begin alike */
+export function alike(before, now) {
+  const other = before.findIndex(({ san }, at) => !now[at] || now[at].san !== san);
+  return other < 0 ? before.length : other;
+}
+
+/** What a typed line has done is undone: the game had these plies and this result, and has those now.
+ * @type {(line: string, before: { plies: Move[], result: string }, now: { plies: Move[], result: string }) => Words} */
+export function wordsOfUndone(line, before, now) {
+  const gone = before.plies.slice(alike(before.plies, now.plies));
+  const parts = [message('undo.done', { line: printable([...line].slice(0, SHOWN).join('')) })];
+  if (gone.length > 0) parts.push(message('back.taken_off', { plies: movesOf(gone) }));
+  const { length } = now.plies;
+  parts.push(length > 0 ? plural('undo.plies', length, { last: reached(now.plies) }) : message('undo.no_ply'));
+  if (now.result === NO_RESULT && before.result !== NO_RESULT) parts.push(message('back.result_gone', { result: before.result }));
+  else if (now.result !== before.result) parts.push(message('undo.result', { result: now.result }));
+  return linked('semicolon', parts);
+}
+
+/** @type {(line: string, why: Words) => Message} the line that was obeyed last can't be undone */
+export const cannot = (line, why) => message('undo.cannot', { line: printable([...line.trim()].slice(0, SHOWN).join('')), why });
 
 /** How far the program is asked to go back, given all that the board has sent, if a game with this result and so many plies is over and goes
  * on. What was played since stays, but behind no result: then that may be a set-up, or what was taken off.

@@ -262,7 +262,7 @@ export class Seat {
   /** What somebody must look at, in full; and whether the board seems to be turned round. */
   get asks() {
     const { playing, presence } = this.recording;
-    return { looks: playing.alarms.looks.all, otherwise: playing.isPlayedOn ? ISNT_OVER : '', hint: presence.state.hint };
+    return { looks: playing.alarms.looks.all, otherwise: playing.isPlayedOn ? ISNT_OVER : '', hint: presence.state.hint, fit: presence.state.asks };
   }
 
   /** The last game before the one that is on, if it has no result; else null. */

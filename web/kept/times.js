@@ -4,7 +4,7 @@
 import { ADDED, ASKED, AWAY, BEGIN, HEARD, OVER } from '../child/attended.js';
 import { otherName } from '../game/names.js';
 import {
-  HEADED, adding, cut, heading, isOf, kept, lineAfter, lines, toldOf, toldOfMissing, toldOfOther, toldOfTrouble,
+  HEADED, adding, begunWith, cut, heading, isOf, kept, lineAfter, lines, toldOf, toldOfMissing, toldOfOther, toldOfTrouble,
 } from '../game/times.js';
 import { Complaint, isSame, message } from '../../live/show/page/message.js';
 import { LARGEST } from './capture.js';
@@ -179,17 +179,17 @@ export class Times {
   }
 
   /** Those of a new capture that begins with so many bytes of this one, or of the one with these lines; then come those that somebody has
-   * added, if any.
-   * @type {(size: number, game: Game, capture: Capture, added?: number, text?: string) => Times} */
-  upTo(size, game, capture, added = 0, text = this.all) {
+   * added, if any; and then these words are noted.
+   * @type {(size: number, game: Game, capture: Capture, added?: number, text?: string, words?: string[]) => Times} */
+  upTo(size, game, capture, added = 0, text = this.all, words = []) {
     const times = this.of(game, capture);
-    if (text) times.lines.text = cut(text, /** @type {Found} */ (kept(text)), size, capture.bytes(Math.min(HEADED, size)));
+    times.lines.text = begunWith(text, game.goneBack || 0, size, capture.bytes(Math.min(HEADED, size)));
     /** @type {Counted[]} */
     const over = game.end === null ? [] : [[OVER, game.end]];
     /** @type {Counted} */
     const begin = [BEGIN, capture.size];
     const [[, begins], ...events] = added > 0 ? adding(size, added, capture.size) : [begin, ...over];
-    times.begin(0, begins);
+    times.begin(0, begins, 0, words);
     if (events.length === 0) return times;
     events.forEach(([what, count]) => times.note(what, count));
     times.begin(0);

@@ -3,6 +3,7 @@
 import { TURNED_ROUND } from '../board/state.js';
 import { pgnDate } from '../game/names.js';
 import { UNKNOWN, written } from '../game/options.js';
+import { YES } from '../game/typed.js';
 import { OF_ALL } from '../hall/rounds.js';
 import { allOf, save } from '../hall/saving.js';
 import { say } from '../../live/show/page/diagram.js';
@@ -37,6 +38,7 @@ export class Panel {
       pressed.addEventListener('click', () => this.giveResult(String(pressed.dataset.before)));
     }
     at('ok').addEventListener('click', () => this.type('ok'));
+    at('yes').addEventListener('click', () => this.type(YES));
     at('turned').addEventListener('click', () => this.turnRound());
     for (const input of fields()) {
       input.addEventListener('change', () => this.edit(input));
@@ -179,13 +181,15 @@ export class Panel {
 
   /** @type {(seat: Seat | null) => void} what somebody must do, with the button for it */
   showAsked(seat) {
-    const { looks, otherwise, hint } = seat ? seat.asks : { looks: '', otherwise: '', hint: '' };
+    const { looks, otherwise, hint, fit } = seat ? seat.asks : { looks: '', otherwise: '', hint: '', fit: '' };
     const isTurned = hint === TURNED_ROUND;
-    at('asks').hidden = !looks && !isTurned;
+    at('asks').hidden = !looks && !isTurned && !fit;
     at('turned').hidden = !isTurned;
     at('ok').hidden = !looks;
+    at('yes').hidden = !fit;
     const capital = otherwise && message('join.capital', { text: otherwise });
-    say(at('ask'), linked('stop', [looks, capital, isTurned ? message('ask.turned_round') : ''].filter((part) => part)));
+    const asked = fit && message('join.capital', { text: fit });
+    say(at('ask'), linked('stop', [looks, capital, isTurned ? message('ask.turned_round') : '', asked].filter((part) => part)));
   }
 
   chooseDevice() {

@@ -1,14 +1,15 @@
 //! The bytes of one game's capture to what they tell.
-ghost use Rattle.std.specs.Prelude.{◌≡◌, ◌≤◌, ◌+◌, ◌↔◌, ◌∷◌, [], ◌++◌, ℕ, Bool, false, List, IfOk, IsTrue, OnOk, length, take};
+ghost use Rattle.std.specs.Prelude.{◌≡◌, ◌≤◌, ◌+◌, ◌↔◌, ◌∷◌, [], ◌++◌, ℕ, Bool, false, List, IfOk, IsTrue, MatchOption, None, OnOk, Some, length, take};
 ghost use Rattle.board_captures.specs.Reading.{setting_of};
 ghost use Rattle.board_events.specs.Limits.{limit};
-ghost use Rattle.board_events.specs.Session.{HasTakenEvents};
+ghost use Rattle.board_events.specs.Session.{HasTakenEvents, entries_in};
 ghost use Rattle.board_events.specs.Settings.{Setting};
 ghost use Rattle.board_game.specs.Alarming.{AlarmsAre, ClockIsStopped};
 ghost use Rattle.board_game.specs.Ending.{IsEndDueOf, IsEndOf};
 ghost use Rattle.board_game.specs.Games.{HasBegun, IsDueOf, IsStateOf, StandsFor};
 ghost use Rattle.board_game.specs.History.{Bytes, Came, Item, Makes, News, events_of, room_of};
 ghost use Rattle.board_game.specs.Report.{IsReport, first_line};
+ghost use Rattle.settle_core.specs.Entries.{last_picture};
 
 use crate::following::Following;
 use crate::note::Note;
@@ -225,6 +226,17 @@ impl Game {
             → (items : List Item) × Makes setting recovers past items × HasTakenEvents result.now setting (events_of items) }
     {
         self.following.teller().watcher().session()
+    }
+
+    /// The session of the game so far, with what was put in, and the picture that the board was seen to show last; none where it has
+    /// shown nothing.
+    pub fn seen(&self) -> (&Session, Option<&[u8; 64]>)
+        ensures { (setting : Setting) (recovers : Bool) (past : List Came) (text : List ℕ) → StandsFor self.now setting recovers past text
+            → (items : List Item) × Makes setting recovers past items × HasTakenEvents result.0.now setting (events_of items)
+            × MatchOption result.1 (last_picture (entries_in setting (events_of items)) ≡ None) (λ seen. last_picture (entries_in setting (events_of items)) ≡ Some seen.now) }
+    {
+        let teller = self.following.teller();
+        (teller.watcher().session(), teller.pictures().seen())
     }
 
     /// For its clause: what was appended so far is the report of what came, behind its first line.

@@ -1,11 +1,12 @@
 //! The pictures of a board, compared with others.
-ghost use Rattle.std.specs.Prelude.{◌≡◌, ◌<◌, ◌∷◌, [], ℕ, List, false, length, slice_set, true};
+ghost use Rattle.std.specs.Prelude.{◌≡◌, ◌<◌, ◌∷◌, [], ℕ, List, MatchOption, None, Some, false, length, slice_set, true};
 ghost use Rattle.chess_rules.specs.Valid.{Valid};
 ghost use Rattle.dgt_frame.specs.declared.events.Event.{Event as EventOf};
+ghost use Rattle.settle_core.specs.Entries.{last_picture};
 ghost use Rattle.settle_core.specs.Masks.{IsDiff};
 ghost use Rattle.board_events.specs.History.{IsInRange};
 ghost use Rattle.board_events.specs.Pictures.{IsLast, pictures};
-ghost use Rattle.board_events.specs.Session.{TellsTaken};
+ghost use Rattle.board_events.specs.Session.{TellsTaken, entries_in};
 ghost use Rattle.board_events.specs.Settings.{Setting};
 ghost use Rattle.board_alarms.specs.Hearing.{HasMoved, IsShown as IsWhole, is_another as is_another_sight, moves as moves_sight, shown_at};
 ghost use Rattle.board_game.specs.Inside.Shown.{HasSeen, IsShown, is_another, moves as moves_of};
@@ -158,6 +159,18 @@ impl Pictures {
                     moves: moves(taken.seen),
                 }
             }
+        }
+    }
+
+    /// The picture that the board was seen to show last; none where it has shown nothing.
+    pub fn seen(&self) -> Option<&[u8; 64]>
+        ensures { (setting : Setting) (past : List EventOf) → HasSeen self.now setting past
+            → MatchOption result (last_picture (entries_in setting past) ≡ None) (λ picture. last_picture (entries_in setting past) ≡ Some picture.now) }
+    {
+        if self.has_shown {
+            Some(self.view.picture())
+        } else {
+            None
         }
     }
 

@@ -346,6 +346,13 @@ impl Teller {
         &self.watcher
     }
 
+    /// The pictures of the board.
+    pub fn pictures(&self) -> &Pictures
+        ensures { result.now ≡ self.now.pictures }
+    {
+        &self.pictures
+    }
+
     /// How the board stands.
     pub fn standing(&self) -> &Standing
         ensures { result.now ≡ self.now.standing }

@@ -1,5 +1,5 @@
 -- Moves that come in place of plies, move by move.
-use Rattle.std.proofs.Common.{◌≡◌, ◌+◌, ℕ, List, [], ◌∷◌, ◌++◌, MatchOption, length, inl, inr, refl, ap, ◌∙◌}
+use Rattle.std.proofs.Common.{◌≡◌, ℕ, List, [], ◌∷◌, ◌++◌, MatchOption, length, inl, inr, refl, ap, ◌∙◌}
 use Rattle.std.specs.Prelude.{slice_get}
 use Rattle.chess_rules.specs.declared.chess_move.Move.{Move}
 use Rattle.chess_rules.specs.declared.parts.Parts.{Parts}

@@ -1,9 +1,12 @@
 pub mod ChangeLemmas
 pub mod ComingLemmas
+pub mod FitLemmas
+pub mod FitListing
 pub mod Fronts
 pub mod LawLemmas
 pub mod NameLemmas
 pub mod NearLemmas
 pub mod Pairs
 pub mod PlaceLemmas
+pub mod ProposeLemmas
 pub mod TellLemmas

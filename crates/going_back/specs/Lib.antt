@@ -1,10 +1,12 @@
 pub mod Answers
 pub mod Back
 pub mod Coming
+pub mod Fitting
 pub mod Inside
 pub mod Laws
 pub mod Naming
 pub mod Nearest
 pub mod Placing
+pub mod Proposing
 pub mod Replacing
 pub mod Telling

@@ -1,6 +1,7 @@
-//! What holds of a game that went back.
-ghost use Rattle.going_back.specs.Laws.{WhatComesIsRecorded, WhatStaysIsRecorded, WhatWentStaysAway};
+//! What holds of a game that went back, and of the change that explains a board.
+ghost use Rattle.going_back.specs.Laws.{FitIsOne, FitSettlesIt, WhatComesIsRecorded, WhatStaysIsRecorded, WhatWentStaysAway};
 
+use chess_text::laws::moves_tell_texts;
 use dgt_frame::laws::shows_once;
 use settle_core::laws::folds_once;
 
@@ -29,3 +30,16 @@ pub fn what_comes_is_recorded()
 pub fn what_went_stays_away()
     ensures { WhatWentStaysAway }
 {}
+
+/// With the change that alone explains it, the board agrees.
+pub fn fit_settles_it()
+    ensures { FitSettlesIt }
+{}
+
+/// What is typed for the change that explains a board follows from the game and the picture.
+pub fn fit_is_one()
+    ensures { FitIsOne }
+{
+    // For its clause: a move has one text.
+    moves_tell_texts();
+}

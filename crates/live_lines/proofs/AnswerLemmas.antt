@@ -25,7 +25,7 @@ use Rattle.answer_lines.proofs.AnswerLemmas.{from_clock, from_done, from_number,
 use Rattle.answer_lines.proofs.CutLemmas.{cut_once, decimal_lacks_feed, lacks_append}
 use Rattle.answer_lines.proofs.WordLemmas.{behind, first_of}
 use Rattle.watched_streams.specs.Lines.{line}
-use Rattle.live_lines.specs.Answers.{game_text, kept_text, whole_text}
+use Rattle.live_lines.specs.Answers.{fits_text, game_text, kept_text, whole_text}
 use Rattle.live_lines.specs.Laws.{HasLines, IsPrinted, ReportLine, report_text}
 use Rattle.live_lines.proofs.EntryLemmas.{same_front}
 
@@ -306,24 +306,32 @@ report_once (l ∷ a) (m ∷ b) x y p q e =
 -- ---- the bytes that the capture gets
 
 -- a word with its blank, and a number
-abbrev counted : List ℕ → ℕ → List ℕ
-counted word n = word ++ decimal n
+abbrev with_count : List ℕ → ℕ → List ℕ
+with_count word n = word ++ decimal n
 
 -- It doesn't begin with `kept`.
 abbrev IsOther : List ℕ → Type 0
-IsOther text = (first_of text < 97) ⊎ (third_of text < 112)
+IsOther text = (first_of text < 107) ⊎ (third_of text < 112)
 
 is_kept : (text kept : List ℕ) → IsOther text → first_of kept ≡ 107 → third_of kept ≡ 112 → text ≡ kept → ⊥
 is_kept text kept (inl low) f t e = let same = ap first_of e in omega (arith, low, f, same)
 is_kept text kept (inr low) f t e = let same = ap third_of e in omega (arith, low, t, same)
 
-behind_line : (word : List ℕ) (n : ℕ) (bytes rest : List ℕ) → ((counted word n ++ 10 ∷ []) ++ bytes) ++ rest ≡ counted word n ++ 10 ∷ (bytes ++ rest)
-behind_line word n bytes rest = append_assoc (counted word n ++ 10 ∷ []) bytes rest ∙ append_assoc (counted word n) (10 ∷ []) (bytes ++ rest)
+-- It begins with no digit, and not as `kept` does.
+abbrev Begins : List ℕ → Type 0
+Begins text = (97 ≤ first_of text) × IsOther text
+
+opens_fits : (typed text : List ℕ) → Opens text → Begins (fits_text typed ++ text)
+opens_fits [] text h = (h.0, inr h.1)
+opens_fits (byte ∷ typed) text h = (omega arith, inl (omega arith))
+
+behind_line : (word : List ℕ) (n : ℕ) (bytes rest : List ℕ) → ((with_count word n ++ 10 ∷ []) ++ bytes) ++ rest ≡ with_count word n ++ 10 ∷ (bytes ++ rest)
+behind_line word n bytes rest = append_assoc (with_count word n ++ 10 ∷ []) bytes rest ∙ append_assoc (with_count word n) (10 ∷ []) (bytes ++ rest)
 
 some_once : (word a b x y : List ℕ) → lacks 10 word ≡ true → length a < 2 ^ 64 → length b < 2 ^ 64
-    → ((counted word (length a) ++ 10 ∷ []) ++ a) ++ x ≡ ((counted word (length b) ++ 10 ∷ []) ++ b) ++ y → (a ≡ b) × (x ≡ y)
+    → ((with_count word (length a) ++ 10 ∷ []) ++ a) ++ x ≡ ((with_count word (length b) ++ 10 ∷ []) ++ b) ++ y → (a ≡ b) × (x ≡ y)
 some_once word a b x y w f g e =
-    let cut = cut_once 10 (counted word (length a)) (a ++ x) (counted word (length b)) (b ++ y)
+    let cut = cut_once 10 (with_count word (length a)) (a ++ x) (with_count word (length b)) (b ++ y)
     (lacks_append 10 word (decimal (length a)) w (decimal_lacks_feed (length a) f)) (lacks_append 10 word (decimal (length b)) w (decimal_lacks_feed (length b) g))
     (sym (behind_line word (length a) a x) ∙ e ∙ behind_line word (length b) b y) in
     let same = decimal_injective (length a) (length b) f g (append_cancel_left word (decimal (length a)) (decimal (length b)) cut.0) in
@@ -336,9 +344,24 @@ kept_once [] (c ∷ b) x y f g p q e = absurd (is_kept x (kept_text (c ∷ b) ++
 kept_once (c ∷ a) [] x y f g p q e = absurd (is_kept y (kept_text (c ∷ a) ++ x) q refl refl (sym e))
 kept_once (c ∷ a) (d ∷ b) x y f g p q e = some_once (codes "kept ") (c ∷ a) (d ∷ b) x y refl f g e
 
-other : (lines : List ReportLine) (text : List ℕ) → Opens text → IsOther (report_text lines ++ text)
-other [] text h = inr h.1
-other (told ∷ lines) text h = inl (line_low told (report_text lines) text)
+low_enough : (n : ℕ) → n < 97 → n < 107
+low_enough n h = omega (arith, h)
+
+other : (lines : List ReportLine) (text : List ℕ) → Begins text → IsOther (report_text lines ++ text)
+other [] text h = h.1
+other (told ∷ lines) text h = inl (low_enough (first_of (report_text (told ∷ lines) ++ text)) (line_low told (report_text lines) text))
+
+-- ---- what explains the board
+
+is_fit : (text fit : List ℕ) → Opens text → third_of fit ≡ 116 → text ≡ fit → ⊥
+is_fit text fit opens t e = let same = ap third_of e in let low = opens.1 in omega (arith, low, t, same)
+
+fits_once : (a b x y : List ℕ) → length a < 2 ^ 64 → length b < 2 ^ 64 → Opens x → Opens y → fits_text a ++ x ≡ fits_text b ++ y
+    → (a ≡ b) × (x ≡ y)
+fits_once [] [] x y f g p q e = (refl, e)
+fits_once [] (c ∷ b) x y f g p q e = absurd (is_fit x (fits_text (c ∷ b) ++ y) p refl e)
+fits_once (c ∷ a) [] x y f g p q e = absurd (is_fit y (fits_text (c ∷ a) ++ x) q refl (sym e))
+fits_once (c ∷ a) (d ∷ b) x y f g p q e = some_once (codes "fits ") (c ∷ a) (d ∷ b) x y refl f g e
 
 -- ---- the text of the game
 
@@ -362,45 +385,51 @@ from_looks looks said more = looks_text looks ++ (said_text said ++ more)
 abbrev from_end : End → List Look → Said → List ℕ → List ℕ
 from_end end looks said more = end_text end ++ from_looks looks said more
 
-parts : (kept lines game : List ℕ) (end : End) (looks : List Look) (said : Said) (more : List ℕ) → whole_text kept lines game end looks said ++ more
-    ≡ kept_text kept ++ (lines ++ (game_text game ++ from_end end looks said more))
-parts kept lines game end looks said more =
-    append_assoc (kept_text kept ++ lines ++ game_text game ++ end_text end ++ looks_text looks) (said_text said) more
-    ∙ append_assoc (kept_text kept ++ lines ++ game_text game ++ end_text end) (looks_text looks) (said_text said ++ more)
-    ∙ append_assoc (kept_text kept ++ lines ++ game_text game) (end_text end) (from_looks looks said more)
-    ∙ append_assoc (kept_text kept ++ lines) (game_text game) (from_end end looks said more)
-    ∙ append_assoc (kept_text kept) lines (game_text game ++ from_end end looks said more)
+parts : (kept lines fits game : List ℕ) (end : End) (looks : List Look) (said : Said) (more : List ℕ) → whole_text kept lines fits game end looks said ++ more
+    ≡ kept_text kept ++ (lines ++ (fits_text fits ++ (game_text game ++ from_end end looks said more)))
+parts kept lines fits game end looks said more =
+    append_assoc (kept_text kept ++ lines ++ fits_text fits ++ game_text game ++ end_text end ++ looks_text looks) (said_text said) more
+    ∙ append_assoc (kept_text kept ++ lines ++ fits_text fits ++ game_text game ++ end_text end) (looks_text looks) (said_text said ++ more)
+    ∙ append_assoc (kept_text kept ++ lines ++ fits_text fits ++ game_text game) (end_text end) (from_looks looks said more)
+    ∙ append_assoc (kept_text kept ++ lines ++ fits_text fits) (game_text game) (from_end end looks said more)
+    ∙ append_assoc (kept_text kept ++ lines) (fits_text fits) (game_text game ++ from_end end looks said more)
+    ∙ append_assoc (kept_text kept) lines (fits_text fits ++ (game_text game ++ from_end end looks said more))
 
-by_lines : (kept others : List ℕ) (a b : List ReportLine) (game text more rest : List ℕ) (end last : End) (looks alarms : List Look) (one two : Said)
-    → length kept < 2 ^ 64 → length others < 2 ^ 64 → length game < 2 ^ 64 → length text < 2 ^ 64 → EndFits end → EndFits last → LooksFit looks → LooksFit alarms
-    → IsSaid one → IsSaid two
-    → whole_text kept (report_text a) game end looks one ++ more ≡ whole_text others (report_text b) text last alarms two ++ rest
-    → (kept ≡ others) × (report_text a ≡ report_text b) × (game ≡ text) × (end ≡ last) × (looks ≡ alarms) × (one ≡ two) × (more ≡ rest)
-by_lines kept others a b game text more rest end last looks alarms one two f g u v i j l m s t e =
+by_lines : (kept others : List ℕ) (a b : List ReportLine) (fits typed game text more rest : List ℕ) (end last : End) (looks alarms : List Look) (one two : Said)
+    → length kept < 2 ^ 64 → length others < 2 ^ 64 → length fits < 2 ^ 64 → length typed < 2 ^ 64 → length game < 2 ^ 64 → length text < 2 ^ 64
+    → EndFits end → EndFits last → LooksFit looks → LooksFit alarms → IsSaid one → IsSaid two
+    → whole_text kept (report_text a) fits game end looks one ++ more ≡ whole_text others (report_text b) typed text last alarms two ++ rest
+    → (kept ≡ others) × (report_text a ≡ report_text b) × (fits ≡ typed) × (game ≡ text) × (end ≡ last) × (looks ≡ alarms) × (one ≡ two) × (more ≡ rest)
+by_lines kept others a b fits typed game text more rest end last looks alarms one two f g c d u v i j l m s t e =
     let looks_one : List ℕ = from_looks looks one more in
     let looks_two : List ℕ = from_looks alarms two rest in
     let behind_one : List ℕ = from_end end looks one more in
     let behind_two : List ℕ = from_end last alarms two rest in
-    let x : List ℕ = game_text game ++ behind_one in
-    let y : List ℕ = game_text text ++ behind_two in
-    let p : Opens x = opens_game game behind_one (opens_end end looks_one (opens_looks looks (said_text one ++ more) (opens one more))) in
-    let q : Opens y = opens_game text behind_two (opens_end last looks_two (opens_looks alarms (said_text two ++ rest) (opens two rest))) in
+    let game_one : List ℕ = game_text game ++ behind_one in
+    let game_two : List ℕ = game_text text ++ behind_two in
+    let x : List ℕ = fits_text fits ++ game_one in
+    let y : List ℕ = fits_text typed ++ game_two in
+    let o : Opens game_one = opens_game game behind_one (opens_end end looks_one (opens_looks looks (said_text one ++ more) (opens one more))) in
+    let w : Opens game_two = opens_game text behind_two (opens_end last looks_two (opens_looks alarms (said_text two ++ rest) (opens two rest))) in
+    let p : Begins x = opens_fits fits game_one o in
+    let q : Begins y = opens_fits typed game_two w in
     let first = kept_once kept others (report_text a ++ x) (report_text b ++ y) f g (other a x p) (other b y q)
-    (sym (parts kept (report_text a) game end looks one more) ∙ e ∙ parts others (report_text b) text last alarms two rest) in
+    (sym (parts kept (report_text a) fits game end looks one more) ∙ e ∙ parts others (report_text b) typed text last alarms two rest) in
     let second = report_once a b x y p.0 q.0 first.1 in
+    let explained = fits_once fits typed game_one game_two c d o w second.1 in
     let third = game_once game text behind_one behind_two u v (says_end end looks_one (says_looks looks (said_text one ++ more) (says one more)))
-    (says_end last looks_two (says_looks alarms (said_text two ++ rest) (says two rest))) second.1 in
+    (says_end last looks_two (says_looks alarms (said_text two ++ rest) (says two rest))) explained.1 in
     let fourth = end_once end last looks_one looks_two i j (looks_rank looks (said_text one ++ more) (said_rank one more))
     (looks_rank alarms (said_text two ++ rest) (said_rank two rest)) third.1 in
     let final = looks_and_said_once looks alarms one two more rest l m s t fourth.1 in
-    (first.0, second.0, third.0, fourth.0, final.0, final.1, final.2)
+    (first.0, second.0, explained.0, third.0, fourth.0, final.0, final.1, final.2)
 
-pub answered_once : (kept others lines news game text more rest : List ℕ) (end last : End) (looks alarms : List Look) (one two : Said)
-    → length kept < 2 ^ 64 → length others < 2 ^ 64 → length game < 2 ^ 64 → length text < 2 ^ 64 → HasLines lines → HasLines news
-    → EndFits end → EndFits last → LooksFit looks → LooksFit alarms → IsSaid one → IsSaid two
-    → whole_text kept lines game end looks one ++ more ≡ whole_text others news text last alarms two ++ rest
-    → (kept ≡ others) × (lines ≡ news) × (game ≡ text) × (end ≡ last) × (looks ≡ alarms) × (one ≡ two) × (more ≡ rest)
-answered_once kept others lines news game text more rest end last looks alarms one two f g u v h k i j l m s t e =
-    let once = by_lines kept others h.0 k.0 game text more rest end last looks alarms one two f g u v i j l m s t
-    (ap (λ r. whole_text kept r game end looks one ++ more) (sym h.1) ∙ e ∙ ap (λ r. whole_text others r text last alarms two ++ rest) k.1) in
-    (once.0, h.1 ∙ once.1 ∙ sym k.1, once.2, once.3, once.4, once.5, once.6)
+pub answered_once : (kept others lines news fits typed game text more rest : List ℕ) (end last : End) (looks alarms : List Look) (one two : Said)
+    → length kept < 2 ^ 64 → length others < 2 ^ 64 → length fits < 2 ^ 64 → length typed < 2 ^ 64 → length game < 2 ^ 64 → length text < 2 ^ 64
+    → HasLines lines → HasLines news → EndFits end → EndFits last → LooksFit looks → LooksFit alarms → IsSaid one → IsSaid two
+    → whole_text kept lines fits game end looks one ++ more ≡ whole_text others news typed text last alarms two ++ rest
+    → (kept ≡ others) × (lines ≡ news) × (fits ≡ typed) × (game ≡ text) × (end ≡ last) × (looks ≡ alarms) × (one ≡ two) × (more ≡ rest)
+answered_once kept others lines news fits typed game text more rest end last looks alarms one two f g c d u v h k i j l m s t e =
+    let once = by_lines kept others h.0 k.0 fits typed game text more rest end last looks alarms one two f g c d u v i j l m s t
+    (ap (λ r. whole_text kept r fits game end looks one ++ more) (sym h.1) ∙ e ∙ ap (λ r. whole_text others r typed text last alarms two ++ rest) k.1) in
+    (once.0, h.1 ∙ once.1 ∙ sym k.1, once.2, once.3, once.4, once.5, once.6, once.7)

@@ -1,12 +1,12 @@
 -- Two runs that are told the same write the same.
-use Rattle.std.proofs.Common.{◌≡◌, ◌<◌, ◌≤◌, ◌+◌, ◌-◌, ℕ, zero, suc, Bool, true, false, List, [], ◌∷◌, ◌++◌, drop, length, map, reverse, take, Option, Some, None, refl, sym, ap, subst, ◌∙◌, append_assoc, append-nil, length-append, arith}
+use Rattle.std.proofs.Common.{◌≡◌, ◌<◌, ◌≤◌, ℕ, zero, suc, Bool, false, List, [], ◌∷◌, ◌++◌, length, map, reverse, take, Option, Some, None, sym, ap, subst, ◌∙◌, append_assoc, append-nil, length-append, arith}
 use Rattle.std.specs.Prelude.{⊤}
 use Rattle.std.specs.List.{AllByRecursion}
 use Rattle.std.proofs.lemmas.List.{reverse-reverse}
 use Rattle.chess_rules.specs.Valid.{Valid}
 use Rattle.chess_text.specs.Laws.{MovesTellTexts}
 use Rattle.dgt_frame.specs.declared.events.Event.{Event}
-use Rattle.dgt_frame.specs.Streams.{Shows, Timed}
+use Rattle.dgt_frame.specs.Streams.{Timed}
 use Rattle.unseen_pairs.specs.declared.pair.Recovery.{Recovery}
 use Rattle.unseen_pairs.specs.Laws.{RecoversOnce}
 use Rattle.pair_frames.specs.PutIn.{put_in}
@@ -17,7 +17,6 @@ use Rattle.board_cable.specs.Silence.{is_silent}
 use Rattle.board_cable.specs.Keeping.{kept}
 use Rattle.board_cable.specs.Laws.{IsToldOnce}
 use Rattle.board_cable.specs.Turns.{Turn, told}
-use Rattle.board_events.specs.declared.setup.Setup.{Setup}
 use Rattle.board_events.specs.Commands.{past_of}
 use Rattle.board_events.specs.Entries.{entry_at}
 use Rattle.board_events.specs.Limits.{limit}
@@ -26,17 +25,15 @@ use Rattle.board_listing.specs.GivenGame.{GameLine, text_of}
 use Rattle.board_listing.proofs.OffsetLemmas.{offsets_inside, reversed}
 use Rattle.board_alarms.specs.declared.chunk.Chunk.{Chunk}
 use Rattle.board_game.specs.declared.note.Note.{Note}
-use Rattle.board_game.specs.History.{Adds, Bytes, Came, Finds, Item, Makes, News, Noted, Pair, Sent, bytes_of, events_of, put_in_with, room_of, with_events, with_found}
+use Rattle.board_game.specs.History.{Adds, Bytes, Came, Item, Makes, News, Noted, Pair, Sent, bytes_of, events_of, put_in_with, room_of, with_events, with_found}
 use Rattle.board_game.specs.Report.{IsReport, Reports}
 use Rattle.board_game.proofs.OnceLemmas.{makes_once}
 use Rattle.board_game.proofs.PlainLemmas.{ShowsOnce}
 use Rattle.board_live.specs.Coming.{came, lined, silence, when, with_bytes, with_news}
 use Rattle.board_live.specs.Moments.{Moment, already, cabled, is_added, news_of}
-use Rattle.live_lines.specs.Heard.{Heard}
 use Rattle.live_lines.specs.Meaning.{moments}
 use Rattle.live_lines.specs.Once.{HasOneAnswer, HasOneReport, LaterChangesNothing, SaysOneThing}
 use Rattle.live_lines.specs.Recorder.{IsAnswered}
-use Rattle.live_lines.specs.Streams.{Writes}
 use Rattle.live_lines.proofs.ReportLemmas.{AreGood, IsGood, good}
 use Rattle.board_listing.proofs.SameTextLemmas.{event_lines_once}
 

@@ -1,6 +1,7 @@
 mod AnswerLemmas
 mod ClockLemmas
 mod EntryLemmas
+mod ExplainLemmas
 mod NewsLemmas
 mod NextLemmas
 mod OnceLemmas

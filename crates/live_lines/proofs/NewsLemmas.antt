@@ -22,6 +22,7 @@ use Rattle.live_lines.specs.History.{history_of}
 use Rattle.live_lines.specs.Laws.{TextsAreNoNews, as_wake, with_wakes}
 use Rattle.live_lines.specs.Meaning.{moment_by, moments, moments_by, time_of}
 use Rattle.live_lines.specs.Recorder.{IsAnsweredBy, IsSaidOf, SaysAlarms}
+use Rattle.live_lines.specs.Explaining.{ExplainsSaid}
 use Rattle.live_lines.specs.Text.{GivesText}
 
 as_before : {A : Type 0} (F : What → A) → F Wakes ≡ F WantsText → (what : What) → F (as_wake what) ≡ F what
@@ -96,6 +97,7 @@ said_like setup recovers heard past other turn turns more said e f s =
     let u = time_of heard other in
     let A : ℕ → List Moment → Type 0 = λ n ms. Answers (setting_of setup) recovers (moment_by n heard) ms turn turns s.answer in
     let G : ℕ → List Moment → Type 0 = λ n ms. GivesText (wants_text heard.entry.what) (setting_of setup) recovers setup.tags (came (moment_by n heard ∷ ms) (turn ∷ turns)) s.game in
+    let X : ℕ → List Moment → Type 0 = λ n ms. ExplainsSaid s.answer.state (setting_of setup) recovers (came (moment_by n heard ∷ ms) (turn ∷ turns)) s.fits in
     let L : ℕ → List Moment → Type 0 = λ n ms. SaysAlarms (setting_of setup) recovers (came (moment_by n heard ∷ ms) (turn ∷ turns)) s.answer.unsaid s.looks in
     let Q : ℕ → Type 0 = λ n. AsksAlike n (told (turn ∷ turns)) s.due in
     let H : ℕ → Type 0 = λ n. HandledAlike n (told (turn ∷ turns)) s.due in
@@ -105,12 +107,14 @@ said_like setup recovers heard past other turn turns more said e f s =
     let W : ℕ → List Moment → Type 0 = λ n ms. IsDue (setting_of setup) recovers (came (moment_by n heard ∷ ms) (turn ∷ turns)) (told (turn ∷ turns)) n s.due in
     record {
       answer = s.answer;
+      fits = s.fits;
       game = s.game;
       looks = s.looks;
       due = s.due;
-      text = s.text ∙ ap (λ n. answer_text n s.answer (kept (turn ∷ turns)) more s.game s.looks s.due) e;
+      text = s.text ∙ ap (λ n. answer_text n s.answer (kept (turn ∷ turns)) more s.fits s.game s.looks s.due) e;
       alarms = both L t u (moments past) (moments other) e f s.alarms;
       answers = both A t u (moments past) (moments other) e f s.answers;
+      explains = both X t u (moments past) (moments other) e f s.explains;
       gives = both G t u (moments past) (moments other) e f s.gives;
       asks = subst Q e s.asks;
       handling = subst H e s.handling;

@@ -28,6 +28,7 @@ use Rattle.live_lines.specs.Heard.{AreEventsOf, HasEvents, Heard, IsHeard, event
 use Rattle.live_lines.specs.History.{history_of}
 use Rattle.live_lines.specs.Meaning.{meaning_of, moment_by, moment_of, moments, moments_by, time_of}
 use Rattle.live_lines.specs.Recorder.{IsAnswered, IsAnsweredBy, SaysAlarms}
+use Rattle.live_lines.specs.Explaining.{ExplainsSaid}
 use Rattle.live_lines.specs.Text.{GivesText}
 
 not_so : false ≡ true → ⊥
@@ -50,10 +51,11 @@ given_text a b setting recovers t u past x y e f h g =
     subst X (sym h) (subst T f (subst A e g))
 
 pub answered : (setup : Setup) (recovers : Bool) (heard : Heard) (past : List Heard) (m : Moment) (at : ℕ) (answer : Answer) (due : Option ℕ)
-    (k ls more g : List ℕ) (looks : List Look) → m ≡ moment_by (time_of heard past) heard → at ≡ time_of heard past → ls ≡ more
+    (k ls more fit g : List ℕ) (looks : List Look) → m ≡ moment_by (time_of heard past) heard → at ≡ time_of heard past → ls ≡ more
     → ((turns : List Turn) → Told (cabled (m ∷ moments past)) turns → SaysAlarms (setting_of setup) recovers (came (m ∷ moments past) turns) answer.unsaid looks)
     → ((turns : List Turn) → Told (cabled (m ∷ moments past)) turns → k ≡ kept turns)
     → ((turn : Turn) (turns : List Turn) → Told (cabled (m ∷ moments past)) (turn ∷ turns) → Answers (setting_of setup) recovers m (moments past) turn turns answer)
+    → ((turns : List Turn) → Told (cabled (m ∷ moments past)) turns → ExplainsSaid answer.state (setting_of setup) recovers (came (m ∷ moments past) turns) fit)
     → ((turns : List Turn) → Told (cabled (m ∷ moments past)) turns → GivesText (wants_text heard.entry.what) (setting_of setup) recovers setup.tags (came (m ∷ moments past) turns) g)
     → ((turns : List Turn) → Told (cabled (m ∷ moments past)) turns → AsksAlike at (told turns) due)
     → ((turns : List Turn) → Told (cabled (m ∷ moments past)) turns → HandledAlike at (told turns) due)
@@ -61,15 +63,16 @@ pub answered : (setup : Setup) (recovers : Bool) (heard : Heard) (past : List He
     → ((turns : List Turn) → Told (cabled (m ∷ moments past)) turns → IfSome due (λ d. MayChange (setting_of setup) recovers (came (m ∷ moments past) turns) (told turns) at d))
     → ((turns : List Turn) → Told (cabled (m ∷ moments past)) turns → EndStays (setting_of setup) recovers (came (m ∷ moments past) turns) at due)
     → ((turns : List Turn) → Told (cabled (m ∷ moments past)) turns → IsDue (setting_of setup) recovers (came (m ∷ moments past) turns) (told turns) at due)
-    → (turns : List Turn) → Told (cabled (m ∷ moments past)) turns → IsAnsweredBy false setup recovers heard past more (answer_text at answer k ls g looks due)
-answered setup recovers heard past m at answer due k ls more g looks em ea el says keeps answers gives asks handles stays changes ends wakes [] none = absurd none
-answered setup recovers heard past m at answer due k ls more g looks em ea el says keeps answers gives asks handles stays changes ends wakes (turn ∷ turns) happened =
+    → (turns : List Turn) → Told (cabled (m ∷ moments past)) turns → IsAnsweredBy false setup recovers heard past more (answer_text at answer k ls fit g looks due)
+answered setup recovers heard past m at answer due k ls more fit g looks em ea el says keeps answers explains gives asks handles stays changes ends wakes [] none = absurd none
+answered setup recovers heard past m at answer due k ls more fit g looks em ea el says keeps answers explains gives asks handles stays changes ends wakes (turn ∷ turns) happened =
     let now : ℕ = time_of heard past in
     let ps : List Moment = moments past in
     let T : Moment → Type 0 = λ x. Told (cabled (x ∷ ps)) (turn ∷ turns) in
     let h : T (moment_of heard past) = subst T em happened in
     let K : Moment → Type 0 = λ x. Told (cabled (x ∷ ps)) (turn ∷ turns) → k ≡ kept (turn ∷ turns) in
     let A : Moment → Type 0 = λ x. Told (cabled (x ∷ ps)) (turn ∷ turns) → Answers (setting_of setup) recovers x ps turn turns answer in
+    let X : Moment → Type 0 = λ x. Told (cabled (x ∷ ps)) (turn ∷ turns) → ExplainsSaid answer.state (setting_of setup) recovers (came (x ∷ ps) (turn ∷ turns)) fit in
     let G : Moment → Type 0 = λ x. Told (cabled (x ∷ ps)) (turn ∷ turns)
     → GivesText (wants_text heard.entry.what) (setting_of setup) recovers setup.tags (came (x ∷ ps) (turn ∷ turns)) g in
     let L : Moment → Type 0 = λ x. Told (cabled (x ∷ ps)) (turn ∷ turns)
@@ -92,13 +95,15 @@ answered setup recovers heard past m at answer due k ls more g looks em ea el sa
       h,
       record {
         answer = answer;
+        fits = fit;
         game = g;
         looks = looks;
         due = due;
-        text = ap (λ n. answer_text n answer k ls g looks due) ea ∙ ap (λ x. answer_text now answer x ls g looks due) (subst K em (keeps (turn ∷ turns)) h)
-            ∙ ap (λ x. answer_text now answer (kept (turn ∷ turns)) x g looks due) el;
+        text = ap (λ n. answer_text n answer k ls fit g looks due) ea ∙ ap (λ x. answer_text now answer x ls fit g looks due) (subst K em (keeps (turn ∷ turns)) h)
+            ∙ ap (λ x. answer_text now answer (kept (turn ∷ turns)) x fit g looks due) el;
         alarms = subst L em (says (turn ∷ turns)) h;
         answers = subst A em (answers turn turns) h;
+        explains = subst X em (explains (turn ∷ turns)) h;
         gives = subst G em (gives (turn ∷ turns)) h;
         asks = subst Qn ea (subst Q em (asks (turn ∷ turns)) h);
         handling = subst Hn ea (subst H em (handles (turn ∷ turns)) h);

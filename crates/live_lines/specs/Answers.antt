@@ -1,5 +1,5 @@
--- What a recorder answers to an entry: the bytes that the capture gets, the new lines of the report, the text of the game, how it
--- ends, alarms, and then what is said.
+-- What a recorder answers to an entry: the bytes that the capture gets, the new lines of the report, what explains the board, the text
+-- of the game, how it ends, alarms, and then what is said.
 use Rattle.std.specs.Prelude.{◌-◌, ℕ, true, List, [], ◌∷◌, ◌++◌, codes, decimal, length, Option, Some, None}
 use Rattle.answer_lines.specs.declared.said.Said.{Said}
 use Rattle.answer_lines.specs.Answers.{answer_text as said_text}
@@ -11,19 +11,26 @@ use Rattle.board_live.specs.declared.live.Answer.{Answer}
 use Rattle.board_alarms.specs.declared.look.Look.{Look}
 use Rattle.board_standing.specs.declared.state.State.{State}
 
--- the bytes that the capture gets, if there are any, behind a line that says how many
+-- bytes, if there are any, behind a line with a word that says how many
+abbrev pub counted : List ℕ → List ℕ → List ℕ
+counted word [] = []
+counted word (byte ∷ bytes) = word ++ decimal (length (byte ∷ bytes)) ++ codes "\n" ++ (byte ∷ bytes)
+
+-- the bytes that the capture gets
 abbrev pub kept_text : List ℕ → List ℕ
-kept_text [] = []
-kept_text (byte ∷ bytes) = codes "kept " ++ decimal (length (byte ∷ bytes)) ++ codes "\n" ++ (byte ∷ bytes)
+kept_text bytes = counted (codes "kept ") bytes
 
--- the text of the game, if the entry asks for it, behind a line that says how many bytes it has
+-- what is typed for the change that alone explains the board
+abbrev pub fits_text : List ℕ → List ℕ
+fits_text typed = counted (codes "fits ") typed
+
+-- the text of the game, if the entry asks for it
 abbrev pub game_text : List ℕ → List ℕ
-game_text [] = []
-game_text (byte ∷ bytes) = codes "game " ++ decimal (length (byte ∷ bytes)) ++ codes "\n" ++ (byte ∷ bytes)
+game_text bytes = counted (codes "game ") bytes
 
--- these bytes, these lines of the report, this text of the game, how it ends, these alarms, and what is said
-abbrev pub whole_text : List ℕ → List ℕ → List ℕ → End → List Look → Said → List ℕ
-whole_text kept lines game end looks said = kept_text kept ++ lines ++ game_text game ++ end_text end ++ looks_text looks ++ said_text said
+-- these bytes, these lines of the report, what explains the board, this text of the game, how it ends, these alarms, and what is said
+abbrev pub whole_text : List ℕ → List ℕ → List ℕ → List ℕ → End → List Look → Said → List ℕ
+whole_text kept lines fits game end looks said = kept_text kept ++ lines ++ fits_text fits ++ game_text game ++ end_text end ++ looks_text looks ++ said_text said
 
 -- for how long it has been so since a time, and in how long a time comes
 abbrev pub lasting : ℕ → Option ℕ → Option ℕ
@@ -52,12 +59,12 @@ said_of now answer due =
       due = wake_in now due;
     }
 
-abbrev pub answer_text : ℕ → Answer → List ℕ → List ℕ → List ℕ → List Look → Option ℕ → List ℕ
-answer_text now answer kept lines game looks due = whole_text kept lines game answer.end looks (said_of now answer due)
+abbrev pub answer_text : ℕ → Answer → List ℕ → List ℕ → List ℕ → List ℕ → List Look → Option ℕ → List ℕ
+answer_text now answer kept lines fits game looks due = whole_text kept lines fits game answer.end looks (said_of now answer due)
 
 -- A capture of the calls before is answered by its report alone.
 abbrev pub nothing_said : Said
 nothing_said = record { handling = None; number = None; request = None; is_whole = true; is_clock_stopped = None; state = None; due = None }
 
 abbrev pub capture_text : List ℕ → List ℕ
-capture_text lines = whole_text [] lines [] no_end [] nothing_said
+capture_text lines = whole_text [] lines [] [] no_end [] nothing_said

@@ -33,7 +33,6 @@ use Rattle.live_lines.specs.Heard.{Heard, IsHeard}
 use Rattle.live_lines.specs.History.{bytes_in, history_of}
 use Rattle.live_lines.specs.Next.{IsNext, IsUnfinished, Tells}
 use Rattle.live_lines.specs.Recorder.{IsAnswered}
-use Rattle.live_lines.specs.Streams.{Writes}
 use Rattle.live_lines.specs.Text.{IsTextOf}
 
 -- A text begins with one entry at most.
@@ -78,14 +77,14 @@ report_text (told ∷ lines) = line told.offset told.words ++ report_text lines
 abbrev pub HasLines : List ℕ → Type 0
 HasLines text = (lines : List ReportLine) × (text ≡ report_text lines)
 
--- Answers that stand one behind the other are read in one way: which bytes the capture gets, which lines are the report's, what the
--- text of the game is, how it ends, which alarms there are, and what is said.
+-- Answers that stand one behind the other are read in one way: which bytes the capture gets, which lines are the report's, what
+-- explains the board, what the text of the game is, how it ends, which alarms there are, and what is said.
 abbrev pub IsAnsweredInOneWay : Type 0
-IsAnsweredInOneWay = (kept others lines news game text more rest : List ℕ) (end last : End) (looks alarms : List Look) (one other : Said)
-    → length kept < 2 ^ 64 → length others < 2 ^ 64 → length game < 2 ^ 64 → length text < 2 ^ 64 → HasLines lines → HasLines news
-    → EndFits end → EndFits last → LooksFit looks → LooksFit alarms → IsSaid one → IsSaid other
-    → whole_text kept lines game end looks one ++ more ≡ whole_text others news text last alarms other ++ rest
-    → (kept ≡ others) × (lines ≡ news) × (game ≡ text) × (end ≡ last) × (looks ≡ alarms) × (one ≡ other) × (more ≡ rest)
+IsAnsweredInOneWay = (kept others lines news fits typed game text more rest : List ℕ) (end last : End) (looks alarms : List Look) (one other : Said)
+    → length kept < 2 ^ 64 → length others < 2 ^ 64 → length fits < 2 ^ 64 → length typed < 2 ^ 64 → length game < 2 ^ 64 → length text < 2 ^ 64
+    → HasLines lines → HasLines news → EndFits end → EndFits last → LooksFit looks → LooksFit alarms → IsSaid one → IsSaid other
+    → whole_text kept lines fits game end looks one ++ more ≡ whole_text others news typed text last alarms other ++ rest
+    → (kept ≡ others) × (lines ≡ news) × (fits ≡ typed) × (game ≡ text) × (end ≡ last) × (looks ≡ alarms) × (one ≡ other) × (more ≡ rest)
 
 -- From a valid start, what a report has more after more has come has such lines.
 abbrev pub ReportsHaveLines : Type 0

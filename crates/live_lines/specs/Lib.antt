@@ -1,6 +1,7 @@
 pub mod Answers
 pub mod Clock
 pub mod Entries
+pub mod Explaining
 pub mod Heard
 pub mod History
 pub mod Kept

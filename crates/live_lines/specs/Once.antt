@@ -7,6 +7,7 @@ use Rattle.board_events.specs.Limits.{limit}
 use Rattle.board_game.specs.History.{Came, bytes_of}
 use Rattle.board_game.specs.Report.{IsReport}
 use Rattle.chess_game.specs.Values.{TagValues}
+use Rattle.live_lines.specs.Explaining.{Explains}
 use Rattle.live_lines.specs.Heard.{Heard}
 use Rattle.live_lines.specs.Recorder.{IsAnswered}
 use Rattle.live_lines.specs.Streams.{Writes}
@@ -16,6 +17,11 @@ use Rattle.live_lines.specs.Text.{IsTextOf}
 abbrev pub HasOneText : Type 0
 HasOneText = (setting : Setting) (recovers : Bool) (tags : TagValues) (past : List Came) (one other : List ℕ) → Valid setting.start
     → IsTextOf setting recovers tags past one → IsTextOf setting recovers tags past other → one ≡ other
+
+-- From a valid start what is said to explain the board follows from what came.
+abbrev pub IsExplainedOnce : Type 0
+IsExplainedOnce = (setting : Setting) (recovers : Bool) (past : List Came) (one other : List ℕ) → Valid setting.start
+    → Explains setting recovers past one → Explains setting recovers past other → one ≡ other
 
 -- From a valid start an entry has one answer, byte for byte: it follows from what was told, and from what the report has more with it.
 abbrev pub HasOneAnswer : Type 0

@@ -20,6 +20,7 @@ use Rattle.live_lines.specs.declared.recorder.Recorder.{Recorder}
 use Rattle.live_lines.specs.Answers.{answer_text, capture_text}
 use Rattle.live_lines.specs.Clock.{clock_after}
 use Rattle.live_lines.specs.Entries.{brings_capture, wants_text}
+use Rattle.live_lines.specs.Explaining.{ExplainsSaid}
 use Rattle.live_lines.specs.Heard.{Heard, waiting}
 use Rattle.live_lines.specs.Meaning.{moment_of, moments, time_of}
 use Rattle.live_lines.specs.Text.{GivesText}
@@ -38,16 +39,18 @@ HasBegun recorder = LiveHasBegun recorder.live
 abbrev pub SaysAlarms : Setting → Bool → List Came → ℕ → List Look → Type 0
 SaysAlarms setting recovers past unsaid looks = (alarms : List Look) × AlarmsAre setting recovers past alarms × (looks ≡ drop unsaid alarms)
 
--- This is said to the last entry, with these new lines of the report: what `board_live` answers to it, the text of the game if the
--- entry asks for it, alarms, and when the recorder is to be woken.
+-- This is said to the last entry, with these new lines of the report: what `board_live` answers to it, what explains the board if it
+-- is said to be wrong, the text of the game if the entry asks for it, alarms, and when the recorder is to be woken.
 pub record IsSaidOf (setup : Setup) (recovers : Bool) (heard : Heard) (past : List Heard) (turn : Turn) (turns : List Turn) (more said : List ℕ) : Type 0 where
   pub answer : Answer
+  pub fits : List ℕ
   pub game : List ℕ
   pub looks : List Look
   pub due : Option ℕ
-  pub text : said ≡ answer_text (time_of heard past) answer (kept (turn ∷ turns)) more game looks due
+  pub text : said ≡ answer_text (time_of heard past) answer (kept (turn ∷ turns)) more fits game looks due
   pub alarms : SaysAlarms (setting_of setup) recovers (came (moment_of heard past ∷ moments past) (turn ∷ turns)) answer.unsaid looks
   pub answers : Answers (setting_of setup) recovers (moment_of heard past) (moments past) turn turns answer
+  pub explains : ExplainsSaid answer.state (setting_of setup) recovers (came (moment_of heard past ∷ moments past) (turn ∷ turns)) fits
   pub gives : GivesText (wants_text heard.entry.what) (setting_of setup) recovers setup.tags (came (moment_of heard past ∷ moments past) (turn ∷ turns)) game
   pub asks : AsksAlike (time_of heard past) (told (turn ∷ turns)) due
   pub handling : HandledAlike (time_of heard past) (told (turn ∷ turns)) due

@@ -1,7 +1,7 @@
-//! What a recorder answers: the bytes that the capture gets, the new lines of the report, the text of the game, and the lines of
-//! `answer_lines`.
+//! What a recorder answers: the bytes that the capture gets, the new lines of the report, what explains the board, the text of the
+//! game, and the lines of `answer_lines`.
 ghost use Rattle.std.specs.Prelude.{◌≡◌, ◌++◌, ℕ, List, IfOk, OnOk};
-ghost use Rattle.live_lines.specs.Answers.{answer_text, capture_text, game_text, kept_text, lasting, said_of, state_for, wake_in};
+ghost use Rattle.live_lines.specs.Answers.{answer_text, capture_text, counted, fits_text, game_text, kept_text, lasting, said_of, state_for, wake_in};
 
 use answer_lines::{Said, add_answer as add_said, add_end, add_looks};
 use board_alarms::Look;
@@ -10,32 +10,18 @@ use board_standing::State;
 use itoa::Buffer;
 use std::alloc::{AllocError, Global};
 
-/// Adds the bytes that the capture gets, behind a line that says how many, if there are any.
-fn add_kept(kept: &[u8], out: &mut Vec<u8>) -> Result<(), AllocError>
-    ensures { IfOk result (λ _. out.new.items ≡ out.old.items ++ kept_text kept.now) }
+/// Adds bytes behind a line with a word that says how many, if there are any.
+fn add_counted(word: &[u8], bytes: &[u8], out: &mut Vec<u8>) -> Result<(), AllocError>
+    ensures { IfOk result (λ _. out.new.items ≡ out.old.items ++ counted word.now bytes.now) }
 {
-    if kept.is_empty() {
+    if bytes.is_empty() {
         return Ok(());
     }
     let mut buffer = Buffer::new();
-    out.extend_from_slice(b"kept ")?;
-    out.extend_from_slice(buffer.format(kept.len() as u64).as_bytes())?;
+    out.extend_from_slice(word)?;
+    out.extend_from_slice(buffer.format(bytes.len() as u64).as_bytes())?;
     out.extend_from_slice(b"\n")?;
-    out.extend_from_slice(kept)
-}
-
-/// Adds the text of the game, behind a line that says how many bytes it has, if it is wanted.
-fn add_game(game: &[u8], out: &mut Vec<u8>) -> Result<(), AllocError>
-    ensures { IfOk result (λ _. out.new.items ≡ out.old.items ++ game_text game.now) }
-{
-    if game.is_empty() {
-        return Ok(());
-    }
-    let mut buffer = Buffer::new();
-    out.extend_from_slice(b"game ")?;
-    out.extend_from_slice(buffer.format(game.len() as u64).as_bytes())?;
-    out.extend_from_slice(b"\n")?;
-    out.extend_from_slice(game)
+    out.extend_from_slice(bytes)
 }
 
 /// How long it has been so since this time.
@@ -88,24 +74,39 @@ fn said_of(now: u64, answer: &Answer, due: Option<u64>) -> Said
     }
 }
 
-/// Adds what is answered at this time, with the bytes that the capture gets, the new lines of the report, the text of the game if it is
-/// wanted, alarms, and when to wake.
+/// Adds the bytes that the capture gets, the new lines of the report, what explains the board, and the text of the game.
+fn add_bytes(
+    kept: &[u8],
+    lines: &[u8],
+    fits: &[u8],
+    game: &[u8],
+    out: &mut Vec<u8>,
+) -> Result<(), AllocError>
+    ensures { IfOk result (λ _. out.new.items ≡ out.old.items ++ (kept_text kept.now ++ lines.now ++ fits_text fits.now ++ game_text game.now)) }
+{
+    add_counted(b"kept ", kept, out)?;
+    out.extend_from_slice(lines)?;
+    add_counted(b"fits ", fits, out)?;
+    add_counted(b"game ", game, out)
+}
+
+/// Adds what is answered at this time, with the bytes that the capture gets, the new lines of the report, what explains the board, the
+/// text of the game if it is wanted, alarms, and when to wake.
 pub fn add_answer(
     alloc: Global,
     now: u64,
     answer: &Answer,
     kept: &[u8],
     lines: &[u8],
+    fits: &[u8],
     game: &[u8],
     looks: &[Look],
     due: Option<u64>,
     out: &mut Vec<u8>,
 ) -> Result<(), AllocError>
-    ensures { IfOk result (λ _. out.new.items ≡ out.old.items ++ answer_text now answer.now kept.now lines.now game.now looks.now due) }
+    ensures { IfOk result (λ _. out.new.items ≡ out.old.items ++ answer_text now answer.now kept.now lines.now fits.now game.now looks.now due) }
 {
-    add_kept(kept, out)?;
-    out.extend_from_slice(lines)?;
-    add_game(game, out)?;
+    add_bytes(kept, lines, fits, game, out)?;
     add_end(answer.end, out)?;
     add_looks(looks, out)?;
     add_said(alloc, said_of(now, answer, due), out)

@@ -1,6 +1,6 @@
 //! What holds of each text.
 ghost use Rattle.live_lines.specs.Laws.{EachByteComesOnce, IsAnsweredInOneWay, IsToldOnce, ReportsHaveLines, TextsAreNoNews, TextsAreRecorded, TimesGoOn, WaitsForIt, WrittenIsTold};
-ghost use Rattle.live_lines.specs.Once.{HasOneAnswer, HasOneReport, HasOneText, LaterChangesNothing, SaysOneThing};
+ghost use Rattle.live_lines.specs.Once.{HasOneAnswer, HasOneReport, HasOneText, IsExplainedOnce, LaterChangesNothing, SaysOneThing};
 ghost use Rattle.live_lines.specs.Kept.{FilesAreAsFiled};
 ghost use Rattle.live_lines.specs.Recovered.{TextsAreRecovered};
 
@@ -8,6 +8,7 @@ use board_cable::laws::is_told_once as cable_is_told_once;
 use board_live::laws::{is_answered_once, wakes_once};
 use chess_text::laws::{fens_are_plain, moves_tell_texts, texts_are_plain};
 use dgt_frame::laws::shows_once;
+use going_back::laws::fit_is_one;
 use pgn_book::laws::one_text;
 use recovery::laws::woven_bytes_show_what_is_put_in;
 use unseen_pairs::laws::recovers_once;
@@ -94,6 +95,18 @@ pub fn has_one_text()
     one_text();
 }
 
+/// From a valid start, what explains the board is said in one way.
+pub fn is_explained_once()
+    ensures { IsExplainedOnce }
+{
+    // For its clause: the bytes show one list of events.
+    shows_once();
+    // For its clause: at an event one pair is recovered, or none.
+    recovers_once();
+    // For its clause: one line is typed for a change.
+    fit_is_one();
+}
+
 /// From a valid start, an entry has one answer.
 pub fn has_one_answer()
     ensures { HasOneAnswer }
@@ -102,6 +115,8 @@ pub fn has_one_answer()
     cable_is_told_once();
     // For its clause: what came has one text.
     has_one_text();
+    // For its clause: what explains the board is said in one way.
+    is_explained_once();
     // For its clause: one history has one answer.
     is_answered_once();
     // For its clause: one time to wake is named.

@@ -2,13 +2,14 @@
 //!
 //! `entries.rt` has what is told, and `next.rt` reads the next entry of what came so far. `recorder.rt` takes it: `clock.rt` counts
 //! on from one call to the next, `meaning.rt` says what an entry is to the board, and `answers.rt` writes what is answered, most of
-//! it by `answer_lines`; `text.rt` makes the text of the game. `history.rt` tells a board what was kept of the calls before. `stream.rt` does all of it over streams.
+//! it by `answer_lines`; `explaining.rt` says what explains a board that is wrong, and `text.rt` makes the text of the game. `history.rt` tells a board what was kept of the calls before. `stream.rt` does all of it over streams.
 //! `laws.rt` says that what is told and what is answered are read in one way, and that times go on.
 #![tactic(auto)]
 
 mod answers;
 mod clock;
 mod entries;
+mod explaining;
 mod history;
 pub mod laws;
 mod meaning;

@@ -11,6 +11,7 @@ ghost use Rattle.live_lines.specs.Recorder.{HasBegun, IsAnswered, Reports, Stand
 use crate::answers::{add_answer, end_report};
 use crate::clock::Clock;
 use crate::entries::{Entry, What};
+use crate::explaining::explain_if;
 use crate::history::{events_for, tell_history};
 use crate::meaning::meaning_of;
 use crate::text::text_if;
@@ -91,7 +92,8 @@ impl Recorder {
         }
     }
 
-    /// Takes an entry with the bytes behind it, and appends what is answered, with the text of the game if the entry wants it. A file of times waits for its capture, which comes
+    /// Takes an entry with the bytes behind it, and appends what is answered: what explains the board where it is said to be wrong, and
+    /// the text of the game if the entry wants it. A file of times waits for its capture, which comes
     /// behind it. Then both are told to the board: what was kept of the calls before.
     ///
     /// # Errors
@@ -156,6 +158,7 @@ impl Recorder {
         let kept = self.live.kept();
         let is_wanted = entry.what.wants_text();
         let board = self.live.game();
+        let fits = explain_if(self.alloc, answer.state, board)?;
         let game = text_if(self.alloc, is_wanted, board, &self.tags)?;
         let looks = said(self.live.alarms(), answer.unsaid);
         add_answer(
@@ -164,6 +167,7 @@ impl Recorder {
             &answer,
             kept,
             self.lines.as_slice(),
+            fits.as_slice(),
             game.as_slice(),
             looks,
             due,

@@ -65,6 +65,8 @@ mod doubted;
 #[cfg(test)]
 mod ended;
 #[cfg(test)]
+mod fits;
+#[cfg(test)]
 mod game_over_page;
 #[cfg(test)]
 mod games;

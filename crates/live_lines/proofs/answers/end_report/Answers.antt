@@ -6,4 +6,4 @@ use Rattle.live_lines.proofs.answers.end_report.Goals as goal
 pub returns : goal.returns
 returns c before report e =
     let said = said_text nothing_said in
-    c.in_ok-add_answer.ensures.ok ∙ ap (λ text. text ++ said) e ∙ append_assoc before report said ∙ ap (λ text. before ++ (text ++ said)) (sym (append-nil report) ∙ sym (append-nil (report ++ [])) ∙ sym (append-nil ((report ++ []) ++ [])))
+    c.in_ok-add_answer.ensures.ok ∙ ap (λ text. text ++ said) e ∙ append_assoc before report said ∙ ap (λ text. before ++ (text ++ said)) (sym (append-nil report) ∙ sym (append-nil (report ++ [])) ∙ sym (append-nil ((report ++ []) ++ [])) ∙ sym (append-nil (((report ++ []) ++ []) ++ [])))

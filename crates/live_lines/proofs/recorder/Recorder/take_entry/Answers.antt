@@ -6,6 +6,7 @@ use Rattle.board_live.specs.Moments.{Moment}
 use Rattle.live_lines.specs.declared.clock.Clock.{Clock}
 use Rattle.live_lines.specs.Answers.{answer_text}
 use Rattle.live_lines.specs.Clock.{clock_after, next_clock}
+use Rattle.live_lines.specs.Explaining.{ExplainsSaid}
 use Rattle.live_lines.specs.Entries.{brings_capture, wants_text}
 use Rattle.live_lines.specs.Heard.{Heard, waiting_by}
 use Rattle.live_lines.specs.Meaning.{moments, time_of}
@@ -26,18 +27,22 @@ returns-clause-stands c = λ setup recovers past text s.
     let L : List Moment → Type 0 = λ x. LiveStands c.take.new.self (setting_of setup) recovers x (text ++ more) in (
       heard,
       more,
-      answer_text c.take-at.result c.in_ok-answer.answer c.kept-kept.result.now c.as_slice.result.now c.as_slice-2.result.now c.said-looks.result.now c.due-due.result,
+      answer_text c.take-at.result c.in_ok-answer.answer c.kept-kept.result.now c.as_slice.result.now c.as_slice-2.result.now c.as_slice-3.result.now c.said-looks.result.now c.due-due.result,
       refl,
       refl,
       is_heard heard past other refl,
       c.in_ok-add_answer.ensures,
-      is_answered setup recovers heard past more _ other (answered setup recovers heard past m c.take-at.result c.in_ok-answer.answer c.due-due.result c.kept-kept.result.now c.as_slice.result.now more c.as_slice-2.result.now c.said-looks.result.now
+      is_answered setup recovers heard past more _ other (answered setup recovers heard past m c.take-at.result c.in_ok-answer.answer c.due-due.result c.kept-kept.result.now c.as_slice.result.now more c.as_slice-2.result.now c.as_slice-3.result.now c.said-looks.result.now
           is now lines
           (λ turns h. (c.alarms.result.now, c.alarms.ensures (setting_of setup) recovers (m ∷ moments past) (text ++ more) turns took.2 h, c.said-looks.ensures))
           (λ turns h. c.kept-kept.ensures (setting_of setup) recovers (m ∷ moments past) (text ++ more) turns took.2 h)
           (λ turn turns h. c.in_ok-answer.ensures.answers (setting_of setup) recovers (moments past) text turn turns s.live h)
+          (λ turns h. subst (λ (line : List ℕ). ExplainsSaid c.in_ok-answer.answer.state (setting_of setup) recovers (came (m ∷ moments past) turns) line)
+          (sym c.as_slice-2.ensures.value)
+          (c.in_ok-fits.ensures (setting_of setup) recovers (came (m ∷ moments past) turns) (text ++ more)
+          (c.game-board.ensures.stands (setting_of setup) recovers (m ∷ moments past) (text ++ more) turns took.2 h)))
           (λ turns h. given_text c.wants_text-is_wanted.result (wants_text heard.entry.what) (setting_of setup) recovers c.args.self.now.tags setup.tags
-          (came (m ∷ moments past) turns) c.in_ok-game.game.items c.as_slice-2.result.now c.wants_text-is_wanted.ensures s.tags c.as_slice-2.ensures.value
+          (came (m ∷ moments past) turns) c.in_ok-game.game.items c.as_slice-3.result.now c.wants_text-is_wanted.ensures s.tags c.as_slice-3.ensures.value
           (c.in_ok-game.ensures (setting_of setup) recovers (came (m ∷ moments past) turns) (text ++ more)
           (c.game-board.ensures.stands (setting_of setup) recovers (m ∷ moments past) (text ++ more) turns took.2 h)))
           (λ turns h. c.due-due.ensures.asks (setting_of setup) recovers (m ∷ moments past) (text ++ more) turns took.2 h)
