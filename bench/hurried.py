@@ -163,8 +163,8 @@ def castled(
     return pieces[1] + pieces[0] if way < 0.2 else pieces[0] + pieces[1]
 
 
-def play(chance: random.Random, game: Game, row: Row, slides: float) -> List[Tuple[int, int]]:
-    """The squares as they change, in order. A hand that begins early keeps off the squares that the other one has still to
+def timed(chance: random.Random, game: Game, row: Row, slides: float) -> List[Tuple[float, int, int]]:
+    """When which square changes, in order. A hand that begins early keeps off the squares that the other one has still to
     change, and nobody begins his next move before he has made his last one."""
     done: List[Tuple[float, int, int]] = []
     last: List[Tuple[float, int, int]] = [(0.0, 0, 0)]  # the move before
@@ -182,7 +182,12 @@ def play(chance: random.Random, game: Game, row: Row, slides: float) -> List[Tup
             made.append((now, touch.square, touch.code))
         done += made
         ready, last = last[-1][0], made
-    return [(square, code) for _, square, code in sorted(done, key=lambda change: change[0])]
+    return sorted(done, key=lambda change: change[0])
+
+
+def play(chance: random.Random, game: Game, row: Row, slides: float) -> List[Tuple[int, int]]:
+    """The squares as they change, in order."""
+    return [(square, code) for _, square, code in timed(chance, game, row, slides)]
 
 
 class Line:
