@@ -420,8 +420,9 @@ IN_MEMORY = Message("advice.in_memory")
 AT_THE_CABLE = Message("advice.at_the_cable")
 PLUG_IN = Message("advice.plug_in")
 AT_THE_SERVER = Message("advice.at_the_server")
-# plies that go, if the players took them back or changed them, or only tried them
-GO_BACK: Dict[str, int] = {WHY["TAKEN-BACK"]: 4, WHY["MOVED-ON"]: 4, WHY["UNPRESSED"]: 5}
+# plies that go, if the players took them back, or only tried them
+GO_BACK: Dict[str, int] = {WHY["TAKEN-BACK"]: 4, WHY["UNPRESSED"]: 5}
+CHANGED = 4  # plies, of which the players changed two
 
 WITH_A_LINE = (
     *("advice.fits", "advice.missing", "advice.wrong", "advice.no_start", "advice.cables", "advice.look", "advice.no_result"),
@@ -439,15 +440,22 @@ class Moves:
 
     def before(self, ply: str, count: int = 1) -> Optional[str]:
         """The ply that is the last one if so many go, of which this is the last; 0 if none is left, and None if it isn't known."""
-        at = next((at for at in reversed(range(len(self.plies))) if self.plies[at] == ply), None)
+        at = self._at(ply)
         if at is None or at + 1 < count:
             return None
         return self.plies[at - count] if at >= count else NO_PLIES
 
-    def from_on(self, where: str, ply: str) -> Optional[str]:
-        """The number of the first ply that may be wrong, at this ply or after it; empty if none has come yet, and None if it isn't known."""
-        at = next((at for at in reversed(range(len(self.plies))) if self.plies[at] == ply), None)
-        return None if at is None else "".join(self.plies[at + (where == "after") :][:1]).partition(" ")[0]
+    def from_on(self, where: str, ply: str, count: int = 1) -> Optional[str]:
+        """The number of the first ply that may be wrong, of so many up to this ply, or the one after it; empty if that hasn't come yet, and
+        None if it isn't known."""
+        at = self._at(ply)
+        if at is None or (where != "after" and at + 1 < count):
+            return None
+        first = at + 1 if where == "after" else at + 1 - count
+        return "".join(self.plies[first : first + 1]).partition(" ")[0]
+
+    def _at(self, ply: str) -> Optional[int]:
+        return next((at for at in reversed(range(len(self.plies))) if self.plies[at] == ply), None)
 
 
 def missing(typed: Typed) -> str:
@@ -519,9 +527,12 @@ def if_not(look: Look, typed: Typed, moves: Moves) -> str:
     if look.why in GO_BACK:
         last = moves.before(ply, GO_BACK[look.why])
         return "" if last is None else Message("advice.take_off", back=typed(f"{BACK} {last}"))
-    number = moves.from_on(where, ply)
+    is_changed = look.why == WHY["MOVED-ON"]
+    number = moves.from_on(where, ply, CHANGED if is_changed else 1)
     if number is None:
         return ""
+    if is_changed:
+        return Message("advice.change_them", instead=typed(f"{INSTEAD} {number}"))
     if not number:
         return Message("advice.moves_missing_at_the_end", moves=typed(MOVES))
     return Message("advice.moves_missing", instead=typed(f"{INSTEAD} {number}"))

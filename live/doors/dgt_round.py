@@ -49,9 +49,8 @@ The same command goes on with all games. FILE is a table, saved as CSV:
   board,device,white,black
   1,/dev/ttyUSB0,Anna,Ben
 and if needed rotated (yes), first (white or black), fen, name (of files),
-result, recover (yes or no), serial (the board's number), WhiteElo and so on. A
-line that is wrong stops no other. dgt_live --devices lists devices, numbers.
-While it records, type
+result, recover (yes or no), serial (the board's number), WhiteElo and so on.
+dgt_live --devices lists devices and numbers. While it records, type
   3 1-0       the result of board 3: 1-0, 0-1, 1/2-1/2; by forfeit +-, -+, --
   3 Nf3 Nc6   moves that board 3 has missed; 3 back takes one off, 3 * a result
   3 name White=Anna   a name that is wrong in FILE, until FILE changes there

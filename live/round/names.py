@@ -13,7 +13,7 @@ from live.game.opening import turned
 from live.game.options import OPTION_OF, PLAYERS, TAG, UNKNOWN, Options, assigned, read_names
 from live.game.tags import known_name, value_of
 from live.run.refused import Refused
-from live.table.pairings import Pairing, Pairings, Wrong
+from live.table.pairings import Pairing, Pairings
 from live.words.message import Complaint, Message, linked
 
 IN_NO_COLUMN = tuple(tag for tag, option in OPTION_OF.items() if option not in PLAYERS)
@@ -94,29 +94,27 @@ def given_in(text: str, board: int) -> Dict[str, str]:
 
 def named(read: Pairings, kept: Names, of_all: Options) -> Named:
     """A table with what was typed for its pairs. What was typed for a board without a line stays."""
-    left: List[TypedName] = [*kept]
-    told: List[str] = []
+    lines: Dict[int, Pairing] = {}
+    for pairing in (*read.boards, *read.absent, *(one for wrong in read.wrong for one in (wrong.pairing, wrong.unplaced) if one)):
+        lines.setdefault(pairing.board, pairing)
+    found = [counted(pairing, kept, of_all) for pairing in lines.values()]
+    left = (*(name for name in kept if name.board not in lines), *(name for names, _ in found for name in names))
 
-    def take(pairing: Optional[Pairing]) -> Optional[Pairing]:
-        if pairing is None:
-            return None
-        names = [name for name in kept if name.board == pairing.board]
-        left[:] = [name for name in left if name.board != pairing.board]
-        if names:
-            own, is_same = own_options(of_all, pairing), is_pair_of(names, pairing)
-            stay = [name for name in names if is_same and value_in(own, name.tag) == name.own]
-            told.extend(told_of_gone([name for name in names if name not in stay], is_same))
-            left.extend(replace(name, white=pairing.white, black=pairing.black) for name in stay)
-        return with_names(pairing, left)
+    def typed(pairing: Pairing) -> Pairing:
+        return with_names(pairing, left) if pairing is lines[pairing.board] else pairing
 
-    def of_lines(lines: Sequence[Pairing]) -> Tuple[Pairing, ...]:
-        return tuple(line for line in map(take, lines) if line)
+    wrong = (replace(one, pairing=one.pairing and typed(one.pairing), unplaced=one.unplaced and typed(one.unplaced)) for one in read.wrong)
+    read = replace(read, boards=tuple(map(typed, read.boards)), absent=tuple(map(typed, read.absent)), wrong=tuple(wrong))
+    return Named(read, left, tuple(line for _, told in found for line in told))
 
-    def of_wrong(wrong: Wrong) -> Wrong:
-        return replace(wrong, pairing=take(wrong.pairing), unplaced=take(wrong.unplaced))
 
-    lines = replace(read, boards=of_lines(read.boards), absent=of_lines(read.absent), wrong=tuple(map(of_wrong, read.wrong)))
-    return Named(lines, tuple(left), tuple(dict.fromkeys(told)))
+def counted(pairing: Pairing, kept: Names, of_all: Options) -> Tuple[Names, List[str]]:
+    """What was typed for a line and still counts, now of its pair; and the messages about the rest."""
+    names = [name for name in kept if name.board == pairing.board]
+    own, is_same = own_options(of_all, pairing), bool(names) and is_pair_of(names, pairing)
+    stay = [name for name in names if is_same and value_in(own, name.tag) == name.own]
+    told = told_of_gone([name for name in names if name not in stay], is_same)
+    return tuple(replace(name, white=pairing.white, black=pairing.black) for name in stay), told
 
 
 def is_pair_of(names: Sequence[TypedName], pairing: Pairing) -> bool:

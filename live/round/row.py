@@ -380,7 +380,7 @@ class Row:
             answered(answer)
 
         if is_naming(text):
-            self._name(text, answers)
+            self._name(text, answered)
         else:
             self.board.add(text, answers, functools.partial(self._screen.obeys, of_table), is_sure=of_table)
 
@@ -403,7 +403,9 @@ class Row:
             self._lacks_names = answer[0] != DONE
             if self._lacks_names and not self.board.is_recorded:
                 self._begins_otherwise()
-            answered(answer if self._lacks_names and self.board.is_recorded else (DONE, told))
+            answer = answer if self._lacks_names and self.board.is_recorded else (DONE, told)
+            self._screen.answers(answer)
+            answered(answer)
 
         if self.board.is_recorded:
             begins = functools.partial(self._screen.obeys, False)

@@ -112,12 +112,23 @@ ADVISED: List[Tuple[str, Tuple[str, ...], str]] = [
     ("after the start", PLIES, ""),
     ("after the start", (), ""),
 ]
+# The plies of a game whose last four are two, and two in their place; and the number of the first that changes.
+CHANGED: List[Tuple[Tuple[str, ...], str]] = [
+    (("1. Nf3", "1... Nf6", "2. Nd4", "2... Nd5"), "1."),
+    (("1. e4", "1... Nf6", "2. Nf3", "2... Nd5", "3. Nd4"), "1..."),
+    (("1. e4", "1... e5", "2. Nf3", "2... Nf6", "3. Nd4", "3... Nd5"), "2."),
+    (("1... Nf6", "2. Nd4", "2... Nd5"), ""),
+]
 
 
 def missing_moves() -> None:
     """What to type where moves may be missing: the number of the first ply that may be wrong, or the moves alone at the end."""
     for what, plies, expected in ADVISED:
         same(f"{what} {plies}", if_not(Look(what, "why", "about"), lambda typed: f"3 {typed}", Moves(plies)), expected)
+    why = "both players moved the same pieces again, and nobody pressed the clock: if they changed their moves, change them here too"
+    for plies, number in CHANGED:
+        expected = number and f"to change them, type 3 instead {number} and all that was played from there on"
+        same(f"changed {plies}", if_not(Look(f"at {plies[-1]}", why), lambda typed: f"3 {typed}", Moves(plies)), expected)
 
 
 TABLES = [from_the_start, told_once, agreements, tried_from_the_start, missing_moves]

@@ -97,6 +97,8 @@ def counts() -> None:
     found = named(apart, (WHITE, OF_SIX), ALL).lines
     same("a line that is wrong for its device", [line.pairing and line.pairing.typed for line in found.wrong], [(("White", "Carlsen"),), None])
     same("a pair whose board isn't found", found.absent[0].typed, (("White", "Ewa"),))
+    twice = named(Pairings((LINE,), (Wrong(9, 5, "no device", unplaced=replace(LINE, line=9, white="Dora")),)), (WHITE,), ALL)
+    same("a board that has a second line", (twice.left, twice.told, twice.lines.boards[0].typed), ((WHITE,), (), (("White", "Carlsen"),)))
 
 
 def gets() -> None:

@@ -250,7 +250,7 @@ class Room:
             self.move_unseen(move)
         self.type("1 Nf3 Nc6")
         yield lambda: "Nc6" in movetext(self.path), 0.6
-        for text in ("1 Qh5 Qxh9", "1", "hello", "9 1-0"):
+        for text in ("1 Qh5 Qxh9", "1", "hello", "9 1-0", f"1 name WhiteElo={2000 + self.games % 100}"):
             self.type(text)
         self.first.pull()
         yield (lambda: self.lines.has("  1  UNPLUGGED")), 0.6

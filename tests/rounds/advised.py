@@ -134,12 +134,12 @@ def advice_about_states(folder: pathlib.Path) -> None:
 
 
 def advice_about_doubts(folder: pathlib.Path) -> None:
-    """Moves that may be missing, before the last one and after it; moves that were taken back, that nobody pressed the clock for, and that
+    """Moves that may be missing, before the last one and after it; moves that were taken back or changed, that nobody pressed the clock for, and that
     were tried while it stood. Each is put right as the alarm says, and nobody touches a piece; only one that was pushed before a result is
     put back."""
-    desk = Desk(folder, 6)
-    boards, lever, left = desk.hall.boards, [False] * 6, [[TIME, TIME] for _ in range(6)]  # while the lever is up, Black's time runs
-    desk.begin(1, 2, 3, 4, 5, 6)
+    desk = Desk(folder, 7)
+    boards, lever, left = desk.hall.boards, [False] * 7, [[TIME, TIME] for _ in range(7)]  # while the lever is up, Black's time runs
+    desk.begin(1, 2, 3, 4, 5, 6, 7)
 
     def thinks(number: int, moves: List[str], presses: bool = True, pace: float = 2.0, runs: bool = True) -> None:
         board, at = boards[number - 1], number - 1
@@ -199,6 +199,14 @@ def advice_about_doubts(folder: pathlib.Path) -> None:
     front = as_typed(advice, "to take them off, type ", "back 1... e5")
     desk.types(f"{front}back 1... e5", asks=True)
     desk.has(3, "1. e4 e5 *")
+    thinks(7, [*KNIGHTS, "f1c4", "f8c5"], pace=1.0)
+    rest(3.0)
+    thinks(7, ["c4b5", "c5b4"], presses=False, pace=0.3)
+    waits(7)
+    advice = desk.advice(7, "LOOK at 4... Bb4")
+    front = as_typed(advice, "to change them, type ", "instead 3. and all that was played from there on")
+    desk.types(f"{front}instead 3. Bb5 Bb4")
+    desk.has(7, "1. e4 e5 2. Nf3 Nc6 3. Bb5 Bb4 *")
     thinks(4, SPANISH[:2])
     thinks(4, SPANISH[2:], presses=False, pace=1.5)
     advice = desk.advice(4, "LOOK at 4... Nf6")

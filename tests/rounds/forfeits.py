@@ -55,7 +55,7 @@ def not_played(folder: pathlib.Path) -> None:
         ("4 --", f"4: {hall.games}/04: forfeit 0-0: it isn't played"),
         ("4 0-0", "4 refused: 0-0: do both lose? PGN has no such result: leave the game without one, and note it. Castling is O-O"),
         ("4 0-0", "If neither player has come, type --"),
-        ("4 help", "* (no result), ok, or +- (Black has not come; -+ White, -- both)"),
+        ("4 help", "* (no result), name White=Anna, ok, or +- (Black has not come; -+ White, -- both)"),
     ):
         live.type(text)
         until_line(live, answer)
