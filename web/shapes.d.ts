@@ -115,7 +115,8 @@ type Instead =
   | { kind: 'plies'; stays: number; come: number; put: Uint8Array; words?: undefined }
   | { kind: string; words: string[]; stays?: undefined; come?: undefined; put?: undefined };
 
-type ChangeTyped = { kind: 'back'; to: string } | { kind: 'instead'; line: string } | { kind: 'added'; line: string } | { kind: 'forfeit'; forfeit: string } | { kind: 'reopened' } | { kind: 'undo' };
+type ChangeTyped = { kind: 'back'; to: string } | { kind: 'instead'; line: string }
+  | { kind: 'recover'; moves: string } | { kind: 'added'; line: string } | { kind: 'forfeit'; forfeit: string } | { kind: 'reopened' } | { kind: 'undo' };
 
 /** What a typed line has put into a capture: so many bytes that it has `made` in place of all that the kept one has, if any; and what it has
  * added, from one offset to another. And what was known of the game before it. */

@@ -27,10 +27,11 @@ from live.game.changing import add_and_make, add_by_name, ask_first, change_clos
 from live.game.files import Paths, open_regular, part_of
 from live.game.game import Course, Game, end_mark, forget_question, game_of, keep_other
 from live.game.kept import Capture
+from live.game.hidden import put_between
 from live.game.looks import acknowledge
 from live.game.opening import Chooses, Opened, named
 from live.game.options import IN_A_TABLE, is_naming
-from live.game.typed import ALL, BOARD, LONG, NO_RESULT, ONE_BOARD, UNENDED, UNPLAYED, WAYS, Accepted, Acknowledged, Added, Back, Changes, Forfeit, Instead, Nothing, Quit, Reopened, Said, Typed, Undo, Way, ask_for_way, ask_to_add, drop_forfeit, is_unended, keep_forfeit, kept_forfeit, meaning, no_way, not_added, nothing_goes, place_of, read_typed, read_words, refuse_played, result_typed, way_of, which_game, with_more
+from live.game.typed import ALL, BOARD, LONG, NO_RESULT, ONE_BOARD, UNENDED, UNPLAYED, WAYS, Accepted, Acknowledged, Added, Anew, Back, Forfeit, Instead, Nothing, Quit, Recover, Reopened, Said, Typed, Undo, Way, ask_for_way, ask_to_add, drop_forfeit, is_unended, keep_forfeit, kept_forfeit, meaning, no_way, not_added, nothing_goes, place_of, read_typed, read_words, refuse_played, result_typed, way_of, which_game, with_more
 from live.game.undone import Obeyed, Undone, put_in, put_undone, to_undo, undone
 from live.run.loop import Callback, Resume, Steps, beside, walk
 from live.run.refused import DGT_LIVE, DONE, UNDO, Answer, Asked, NotDone, Refused, refusal, shown
@@ -189,7 +190,7 @@ class Arbiter:
             accepted = self._asked_and_so(before)
             return (yield from self._plays_on(read_words(accepted), accepted, True))
         if before:
-            status, answer = yield from self._add_before(before, text, isinstance(typed, (Reopened, Back, Instead)))
+            status, answer = yield from self._add_before(before, text, isinstance(typed, (Reopened, Back, Instead, Recover)))
             if status == DONE:
                 self._not_undone(text, Message("undo.by_name", name=before.name))
             return status, answer
@@ -213,7 +214,7 @@ class Arbiter:
         end, generation, was_forfeited = end_mark(game.paths), game.times.generation, kept_forfeit(game.paths)
         if isinstance(typed, Reopened):
             answer = yield from self._take_result_off()
-        elif isinstance(typed, (Back, Instead)):
+        elif isinstance(typed, (Back, Instead, Recover)):
             answer = yield from self.go_back(typed)
         elif isinstance(typed, Added):
             answer = yield from self._add(typed.line, sure)
@@ -350,7 +351,7 @@ class Arbiter:
         yield from self._go_on(said)
         return DONE, said
 
-    def go_back(self, typed: Changes) -> Steps[Answer]:
+    def go_back(self, typed: Anew) -> Steps[Answer]:
         """Takes plies off, or puts others in their place, and a game that was over goes on; between two games of a series it stays over if
         the board still shows what was taken off."""
         game, now = self.session.game, self.session.now
@@ -403,11 +404,15 @@ class Arbiter:
             session.ups.append(News.OVER)
         return linked("colon", (game.paths.name, done))
 
-    def _put(self, typed: Changes) -> Steps[str]:
+    def _put(self, typed: Anew) -> Steps[str]:
         """The recorded game changes so. Returns what was done."""
         session = self.session
-        game, line = session.game, typed.line if isinstance(typed, Instead) else ""
-        said = yield from self._asked(TAKEN_OFF, lambda sent: ask_for_way(game.program, game.options, sent, typed))
+        if isinstance(typed, Recover):
+            between = yield from self._asked(ADDED, functools.partial(put_between, session.game, typed.moves))
+            session.hold()
+            return (yield from self._replace(between))
+        game, line, changes = session.game, typed.line if isinstance(typed, Instead) else "", typed
+        said = yield from self._asked(TAKEN_OFF, lambda sent: ask_for_way(game.program, game.options, sent, changes))
         session.hold()
         way = way_of(said, session.course.plies, line)
         if said.put and way is None:  # not all of it has been reported yet

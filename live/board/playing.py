@@ -8,6 +8,7 @@ import os
 from dataclasses import dataclass, field
 from typing import Callable, Iterator, List, Optional, Sequence, Tuple
 
+from live.board.hidden import Hidden
 from live.board.plan import SAID, BeginsBehind, CameBack, Ended, Means, News, Reason, Rules, Up
 from live.board.state import DISK_FULL, IN_MEMORY, Moves, Standing, lasting, mend_of, told_of, told_of_exchange, trouble_of
 from live.child.lines import STOOD, SUSPECT, Answer, Differs, Doubt, Event, Fault, Line, Move, Over, Picture, Reported, Result
@@ -335,6 +336,7 @@ class Playing:
         self._is_large = False  # and that was said
         self._suspected: List[int] = []  # the boards with which its cable may have been exchanged, until somebody has looked
         self._maker = Maker(means.guard, means.worker, game, self._made)
+        self._hidden = Hidden(means, game, self.standing)
         game.capture.limit = largest(game.options)
         if opened.old.lines:
             self._tell_old()
@@ -414,6 +416,7 @@ class Playing:
         for told, answer in attended.counts_late():
             self._says(told, answer)
         self._maker.wake()
+        self._hidden.look()
         if self._faults:
             more = len(self._faults) - 1
             self.attended.means.screen.note(Message("board.faults", fault=self._faults[0], count=more) if more else self._faults[0])

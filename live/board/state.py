@@ -28,7 +28,7 @@ from live.game.looks import ABOUT_CLOCK, ABOUT_RESULT, AFTER_RESULT, OVER, THE_S
 from live.game.typed import NO_PLIES, NO_RESULT
 from live.line.protocol import differing, picture_of_placement
 from live.run.loop import Turns
-from live.run.refused import BACK, INSTEAD, OK, REOPENS, YES, NotDone
+from live.run.refused import BACK, INSTEAD, OK, RECOVERS, REOPENS, YES, NotDone
 from live.words.message import Message, has, is_of, linked, plural
 
 MOST_LISTED = 8
@@ -149,6 +149,8 @@ def asked_of(fits: str, yes: str) -> str:
     word, _, rest = fits.partition(" ")
     if word == BACK:
         asked = Message("state.taken_back", last=rest) if rest != NO_PLIES else Message("state.taken_back_to_the_start")
+    elif word == RECOVERS:
+        asked = Message("state.missed", moves=rest)
     else:
         asked = Message("state.played_instead", moves=rest) if word == INSTEAD else Message("state.played", moves=fits)
     return Message("state.if_so", question=asked, yes=yes)
@@ -177,12 +179,18 @@ class BoardState:
     unplugged_since: Optional[float] = None  # a serial server may be there without a board
     line: str = ""  # what to do so that its line is there again
     clock_stopped: bool = False  # whether both sides have stopped a clock that ran
+    hidden: str = ""  # what is typed for two plies that no picture showed, if some are found
     _stood: Stood = Stood("WAITS")
     _since: float = 0.0
 
     def stands(self, now: float, stood: Stood) -> None:
         """The program has said this."""
         self._stood, self._since = stood, now - (stood.lasted or 0) / 1000
+
+    @property
+    def is_explained(self) -> bool:
+        """Whether a change of the game alone explains what the board shows."""
+        return bool(self._stood.fits)
 
     @property
     def is_seen(self) -> bool:
@@ -198,8 +206,9 @@ class BoardState:
         squares = self.differs if kind is Kind.IN_HAND else stood.squares
         hint = {"": "", "TURNED-ROUND": self.turned_hint, "OTHER-BOARD": OTHER_BOARD}[stood.hint]
         result = self.result if kind is Kind.RESULT else ""
-        asks = asked_of(stood.fits, self.yes) if stood.fits else ""
-        return State(kind, self._since, squares, result, hint, self.disk, self.look, self.line, self.clock_stopped, stood.fits, asks)
+        fits = stood.fits or self.hidden
+        asks = asked_of(fits, self.yes) if fits else ""
+        return State(kind, self._since, squares, result, hint, self.disk, self.look, self.line, self.clock_stopped, fits, asks)
 
 
 @dataclass(frozen=True)
@@ -263,9 +272,21 @@ class Standing:
         self.show()
         if not self._question.fits:
             raise NotDone(NOTHING_ASKED)
-        if question != self._question or self.board.differs != question.differs or self._loop.now() < question.at + READ:
+        is_shown = question.fits.startswith(RECOVERS) or self.board.differs == question.differs  # the game goes on behind hidden plies
+        if question != self._question or not is_shown or self._loop.now() < question.at + READ:
             raise NotDone(ASKED_ANEW)
         return question.fits
+
+    @property
+    def is_explained(self) -> bool:
+        """Whether a change of the game alone explains what the board shows."""
+        return self.board.is_explained
+
+    def finds(self, hidden: str) -> None:
+        """Asks about plies that no picture showed, given as they are typed; empty if there are none."""
+        if hidden != self.board.hidden:
+            self.board.hidden = hidden
+            self.show()
 
     def lasts(self) -> None:
         """Call this each second: a terminal shows how long it has lasted."""

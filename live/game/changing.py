@@ -25,7 +25,7 @@ from live.game.opening import Chooses, named
 from live.game.options import Options, is_naming
 from live.game.tags import published
 from live.game.times import ADDED, BACK, LOOKED, OVER, REOPENED
-from live.game.typed import ALL, ANEW, AS_IT_IS, BOARD, CUT, NO_RESULT, PLACED, PLIES, SIGNED, STILL_SHOWN, WAYS, Accepted, Acknowledged, Back, Changes, Forfeit, Instead, Nothing, Quit, Reopened, Said, Undo, Way, ask_for_way, ask_to_add, ask_to_go_back, asked_of, drop_forfeit, dump_at_end, forfeit_of, keep_forfeit, kept_forfeit, meaning, not_added, not_back, not_instead, nothing_goes, place_of, played_since, read_typed, refuse_played, result_typed, stays_of, taken_up, told_to_readers, way_of
+from live.game.typed import ALL, ANEW, AS_IT_IS, BOARD, CUT, NO_RESULT, PLACED, PLIES, SIGNED, STILL_SHOWN, WAYS, Accepted, Acknowledged, Anew, Back, Forfeit, Instead, Nothing, Quit, Recover, Reopened, Said, Undo, Way, ask_for_way, ask_to_add, ask_to_go_back, asked_of, drop_forfeit, dump_at_end, forfeit_of, keep_forfeit, kept_forfeit, meaning, not_added, not_back, not_instead, nothing_goes, place_of, played_since, read_typed, refuse_played, result_typed, stays_of, taken_up, told_to_readers, way_of
 from live.run.refused import DGT_LIVE, DONE, FAILED, Answer, Asked, NotDone, Refused, refusal
 from live.words.message import Message, linked
 
@@ -106,8 +106,10 @@ def _settle(paths: Paths, way: Way) -> str:
 # Games that nobody records, or that are over.
 
 
-def change_closed(game: Game, typed: Changes, listens: bool = False, may_stay: bool = False) -> str:
+def change_closed(game: Game, typed: Anew, listens: bool = False, may_stay: bool = False) -> str:
     """Changes a game that nobody records now, and makes its text, as the next two do."""
+    if isinstance(typed, Recover):
+        raise NotDone(Message("hidden.not_recorded"))
     return go_back_closed(game, typed.to, listens, may_stay) if isinstance(typed, Back) else put_instead_closed(game, typed, listens)
 
 
@@ -368,7 +370,7 @@ def add_by_name(program: Program, paths: Paths, text: str, patience: float) -> A
             drop_forfeit(paths)
             log_once(paths, told)
             return DONE, told
-        if isinstance(typed, (Back, Instead)):
+        if isinstance(typed, (Back, Instead, Recover)):
             done = change_closed(game, typed)
             drop_forfeit(paths)
             log_once(paths, done)

@@ -301,3 +301,24 @@ def size_of(path: AnyPath) -> int:
         return os.stat(path).st_size if os.path.isfile(path) else 0
     except OSError:
         return 0
+
+
+@dataclass(frozen=True)
+class PutIn:
+    """What a line has put into a capture: so many bytes that it has made in place of all that the `kept` capture has; and what it has
+    added. And where the game's end was marked before."""
+
+    kept: str = ""
+    size: int = 0  # bytes of the kept capture
+    made: int = 0
+    added: range = range(0)
+    end: Optional[int] = None
+
+    def taken_out(self, sent: bytes, kept: bytes) -> bytes:
+        """The capture as if the line hadn't been typed, given all that it has now."""
+        return kept + sent[self.made : max(self.made, self.added.start)] + sent[max(self.made, self.added.stop) :]
+
+    @property
+    def before(self) -> int:
+        """How many bytes there were before the line."""
+        return self.size if self.kept else self.added.start

@@ -11,11 +11,11 @@ from typing import Dict, List, Mapping, Optional, Sequence, Tuple, Union
 
 from live.child.lines import Move
 from live.child.program import Program, told_of_ending
-from live.game.files import Paths, beginning, existing, put_in_place, remove
+from live.game.files import Paths, PutIn, beginning, existing, put_in_place, remove
 from live.game.game import is_unplayed, result_of
 from live.game.options import RECOVER, Options
 from live.line.protocol import DUMP_BEGINS, DUMP_SIZE
-from live.run.refused import BACK, HELPS, INSTEAD, NO_TEXT, OK, REOPENS, UNDO, YES, Helped, NotDone
+from live.run.refused import BACK, HELPS, INSTEAD, NO_TEXT, OK, RECOVERS, REOPENS, UNDO, YES, Helped, NotDone
 from live.words.message import Message, linked, plural
 
 WAYS = Message("typed.ways")
@@ -73,6 +73,13 @@ class Instead:
 
 
 @dataclass(frozen=True)
+class Recover:
+    """Two plies that no picture showed are put in where the board has shown them since."""
+
+    moves: str
+
+
+@dataclass(frozen=True)
 class Undo:
     """The line that was obeyed last is taken back."""
 
@@ -83,7 +90,8 @@ class Nothing:
 
 
 Changes = Union[Back, Instead]  # makes the capture anew
-Typed = Union[Added, Acknowledged, Accepted, Reopened, Back, Instead, Undo, Quit, Nothing]
+Anew = Union[Changes, Recover]
+Typed = Union[Added, Acknowledged, Accepted, Reopened, Back, Instead, Recover, Undo, Quit, Nothing]
 
 
 def read_words(text: str) -> Typed:
@@ -108,6 +116,8 @@ def read_words(text: str) -> Typed:
         if len(words) > 1:
             raise NotDone(Message("undo.alone"))
         return Undo()
+    if words[0].lower() == RECOVERS:
+        return Recover(" ".join(words[1:]))
     if words[0].lower() in HELPS:
         raise Helped(ALL_WAYS)
     if with_a_hyphen("".join(words)) == NOUGHTS:
@@ -414,27 +424,6 @@ class Way:
             return []
         since = (reached(self.plies[: self.stays]), *gone)
         return [*(Message("look.at", ply=ply) for ply in gone), *(Message("look.since", ply=ply) for ply in since)]
-
-
-@dataclass(frozen=True)
-class PutIn:
-    """What a line has put into a capture: so many bytes that it has made in place of all that the `kept` capture has; and what it has
-    added. And where the game's end was marked before."""
-
-    kept: str = ""
-    size: int = 0  # bytes of the kept capture
-    made: int = 0
-    added: range = range(0)
-    end: Optional[int] = None
-
-    def taken_out(self, sent: bytes, kept: bytes) -> bytes:
-        """The capture as if the line hadn't been typed, given all that it has now."""
-        return kept + sent[self.made : max(self.made, self.added.start)] + sent[max(self.made, self.added.stop) :]
-
-    @property
-    def before(self) -> int:
-        """How many bytes there were before the line."""
-        return self.size if self.kept else self.added.start
 
 
 def way_of(said: Said, plies: Sequence[Move], line: str = "") -> Optional[Way]:

@@ -8,11 +8,11 @@ from typing import List, Optional, Sequence, Tuple
 
 from live.child.lines import Move
 from live.game.changing import and_made, made_of, put_way
-from live.game.files import existing, size_of
+from live.game.files import PutIn, existing, size_of
 from live.game.game import Game, end_mark, front_of, game_of, largest
 from live.game.kept import Capture
 from live.game.making_pgn import Text
-from live.game.typed import NO_RESULT, PutIn, Way, moves_of, reached
+from live.game.typed import NO_RESULT, Way, moves_of, reached
 from live.run.refused import NotDone, shown
 from live.words.message import Message, linked, plural
 

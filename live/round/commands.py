@@ -9,7 +9,7 @@ from typing import Callable, Optional, Sequence
 
 from live.child.program import Program
 from live.game.options import Options, is_naming
-from live.game.typed import ABSENT, ALL_WAYS, ILLEGAL, MEANT, MOVES, OK_NUMBERED, RESULT, UNKNOWN, Accepted, Acknowledged, Back, Instead, Reopened, Said, Undo, ask_to_add, moves_in, read_words, typed_forfeit
+from live.game.typed import ABSENT, ALL_WAYS, ILLEGAL, MEANT, MOVES, OK_NUMBERED, RESULT, UNKNOWN, Accepted, Acknowledged, Back, Instead, Recover, Reopened, Said, Undo, ask_to_add, moves_in, read_words, typed_forfeit
 from live.out.delay import clock_in
 from live.out.outputs import Outputs
 from live.run.loop import Turns
@@ -64,7 +64,7 @@ def ways(text: str, numbers: Sequence[int], said: Said = Said(UNKNOWN)) -> str:
 def is_command(text: str) -> bool:
     """Whether a text without a board's number would be a command for a board, and no moves or result."""
     try:
-        commands = (Back, Instead, Undo, Reopened, Acknowledged, Accepted)
+        commands = (Back, Instead, Recover, Undo, Reopened, Acknowledged, Accepted)
         return is_naming(text) or bool(typed_forfeit(text)) or isinstance(read_words(text), commands)
     except NotDone:
         return False

@@ -63,8 +63,9 @@ class Broken(Refused):
 
 
 HELPS = ("help", "?")
-BACK, INSTEAD, UNDO, OK, REOPENS, YES = "back", "instead", "undo", "ok", "*", "y"  # what messages say is to be typed: takes plies off; puts
-# others in their place; takes back the line before; acknowledges alarms; takes a result off; says that it was played as the recorder has asked
+BACK, INSTEAD, RECOVERS, UNDO, OK, REOPENS, YES = "back", "instead", "recover", "undo", "ok", "*", "y"  # what messages say is to be typed: takes
+# plies off; puts others in their place; puts in what no picture showed; takes back the line before; acknowledges alarms; takes a result off;
+# says that it was played as the recorder has asked
 NO_TEXT = Message("typed.no_text")
 REFUSALS = ("refused.why", "refused.line", "refused.too_long")  # the keys of messages that something isn't done
 SHOWN = 60  # characters of a line that an answer shows

@@ -52,13 +52,13 @@ Promise.all(['hidden', 'state'].map((name) => import(`/web/board/${name}.js`)).c
     };
     const capture = { size: 5, view: () => new Uint8Array(5) };
     const course = { plies: [], newest: '' };
-    const parts = { attending: { showing: { epoch: 1 } }, hall: { calls: { output: fails } }, presence: { state: { kind: Kind.WRONG } } };
+    const parts = { attending: { showing: { epoch: 1 } }, hall: { calls: { recover: fails } }, presence: { state: { kind: Kind.WRONG }, said: { fits: '' } } };
     const hidden = new Hidden({ ...parts, guard, capture, course, isOver: false, options: {} });
     hidden.look();
     now = 15;
     hidden.look();
     await new Promise((done) => setTimeout(done));
-    return [count, broke, guard.ended, hidden.advice];
+    return [count, broke, guard.ended, hidden.typed];
   },
 ).catch(String)
 """

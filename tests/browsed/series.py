@@ -3,7 +3,7 @@
 import pathlib
 
 from browsed.folders import Chosen, begin_in, names_of, until_recorded_so, until_text
-from browsed.games import QUEENS, QUEENS_SANS, RUY, RUY_SANS, begin, of_record, play, until_agrees
+from browsed.games import QUEENS, QUEENS_SANS, RUY, RUY_SANS, answered, begin, of_record, play, until_agrees
 from browsed.hall import Hall
 from browsed.stage import with_chromium
 from played.games import PARIS, PARIS_TEXT
@@ -113,8 +113,8 @@ def hidden_moves(folder: pathlib.Path) -> None:
 
 @with_chromium
 def hidden_moves_are_named(folder: pathlib.Path) -> None:
-    """Two hands hide a pair of moves, and the play goes on: when the board has been wrong for long, the card says that Recover finds them.
-    Ticked then, it does, and the advice goes. A board that is wrong for another reason isn't told of it."""
+    """Two hands hide a pair of moves, and the play goes on: when the board has been wrong for long, the page asks about them. A press on the
+    button puts them in, and what was played since. A board that is wrong for another reason isn't asked about."""
     with Hall(folder) as stage:
         page, port = begin(stage)
         until_agrees(stage, page)
@@ -122,16 +122,35 @@ def hidden_moves_are_named(folder: pathlib.Path) -> None:
         port.board.play("g8h5")
         stage.until(lambda: page.text("#state").startswith("WRONG"), "a knight where it can't go")
         stage.rest(18)
-        assert "Recover" not in page.text("#mend") and "Set the pieces" in page.text("#mend"), page.describe()
+        same((page.value("document.querySelector('#yes').hidden"), "Set the pieces" in page.text("#mend")), (True, True))
         port.board.play("h5g8")
         until_agrees(stage, page)
         hurried(port.board)
         port.board.play(RUY[4])
-        stage.until_part(page, "#mend", "Recover finds 3 more moves. Open Names and options, tick Recover moves")
+        stage.until_part(page, "#ask", "Did the board miss 2. Nf3 Nc6? If so, type y")
         same(page.moves, RUY_SANS[:2])
-        page.click("#recover")
+        stage.rest(1.5)
+        page.click("#yes")
+        stage.until_part(page, "#answer", "put in, as the board has shown since: 2. Nf3 Nc6; 5 plies, the last one 3. Bb5")
         stage.until_moves(page, RUY_SANS[:5])
-        stage.until(lambda: "Recover" not in page.text("#mend"), "no advice any more")
+        stage.until(lambda: page.value("document.querySelector('#yes').hidden"), "no question any more")
+
+
+@with_chromium
+def asked_and_accepted(folder: pathlib.Path) -> None:
+    """No picture showed a move whole before its reply: the page asks about both, and `y` puts them in. Nothing is asked before."""
+    with Hall(folder) as stage:
+        page, port = begin(stage)
+        until_agrees(stage, page)
+        play(stage, page, port, RUY[:2], RUY_SANS[:2])
+        answered(stage, page, "y", "nothing is asked at this board")
+        hurried(port.board)
+        stage.until_part(page, "#ask", "Was 2. Nf3 Nc6 played? If so, type y")
+        stage.rest(1.5)
+        answered(stage, page, "y", "added by hand: 2. Nf3 Nc6")
+        stage.until_moves(page, RUY_SANS[:4])
+        until_agrees(stage, page)
+        play(stage, page, port, RUY[4:5], RUY_SANS[4:5])
 
 
 @with_chromium

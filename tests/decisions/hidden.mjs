@@ -1,8 +1,8 @@
-/** How many moves Recover would add to a game, if none of it goes. */
-import { foundBeyond } from "/web/board/hidden.js";
+/** The plies that no picture showed, as `recover` reports them. */
+import { pairsIn } from "/web/game/hidden.js";
 
-const plies = (sans) => sans.map((san) => ({ san }));
-
-export function beyond(counts, cases) {
-  for (const [name, game, others, expected] of cases("beyond")) counts.same(name, foundBeyond(plies(game), plies(others)), expected);
+export function pairs(counts, cases) {
+  for (const [name, report, expected] of cases("pairs")) {
+    counts.same(name, pairsIn(report).map(({ moves, offset }) => [moves, offset]), expected);
+  }
 }

@@ -98,4 +98,32 @@ def gone_by_then(folder: pathlib.Path) -> None:
     is_whole(live)
 
 
-CASES = [others_instead, moves_unseen, only_taken_back, gone_by_then]
+def missed_pair(folder: pathlib.Path) -> None:
+    """The reply began before the move stood, and the game went on: the pair is asked about once the next move has confirmed it. It comes before
+    that, with nothing lost; `undo` takes it out again."""
+    board = a_board(folder)
+    live = Live(board.device, folder / "game", typed=True)
+    begun(live)
+    board.play("e2e4")
+    until_game(live.name, "1. e4 *")
+    answered(live, "recover 1... e5 2. Nf3", "the board has shown no moves that the record lacks")
+    hide_two(board)
+    board.play("b8c6")
+    board.play("f1b5")
+    until_line(live, "did the board miss 1... e5 2. Nf3? If so, type y")
+    board.play("a7a6")
+    rest(1.5)
+    answered(live, "recover 1... e5 2. Nc3", "what the board has shown is 1... e5 2. Nf3: type recover 1... e5 2. Nf3")
+    answered(live, "y", "put in, as the board has shown since: 1... e5 2. Nf3; 6 plies, the last one 3... a6. With --recover such moves are put in")
+    until_game(live.name, "1. e4 e5 2. Nf3 Nc6 3. Bb5 a6 *")
+    until_line(live, words.AGREES)
+    board.play("b5a4")
+    until_game(live.name, "1. e4 e5 2. Nf3 Nc6 3. Bb5 a6 4. Ba4 *")
+    is_whole(live)
+    answered(live, "undo", 'undone: "recover 1... e5 2. Nf3"')
+    until_game(live.name, "1. e4 *")
+    same(stop(live), 0)
+    is_whole(live)
+
+
+CASES = [missed_pair, others_instead, moves_unseen, only_taken_back, gone_by_then]

@@ -3,7 +3,7 @@
 import { HEARD } from '../child/attended.js';
 import { lasting } from '../../live/show/page/chess.js';
 import { message } from '../../live/show/page/message.js';
-import { ASKED_ANEW, NOTHING_ASKED, Refused } from '../game/typed.js';
+import { ASKED_ANEW, NOTHING_ASKED, RECOVERS, Refused } from '../game/typed.js';
 import { Kind, stateOf } from './state.js';
 
 const SAID = [Kind.WRONG, Kind.NO_START]; // states that are reported as lines too
@@ -78,9 +78,9 @@ export class Presence {
   }
 
   get state() {
-    const { capture, playing } = this.session;
+    const { capture, hidden, playing } = this.session;
     const beside = { result: playing.course.result, disk: capture.trouble, look: playing.alarms.looks.short, clockStopped: this.clockStopped };
-    return stateOf(this.said, this.saidAt, playing.differs, beside);
+    return stateOf({ ...this.said, fits: this.said.fits || hidden.typed }, this.saidAt, playing.differs, beside);
   }
 
   /** What somebody accepts by `y`, as it is typed: the change that was last asked about. Refused if nothing is asked; if nobody can have read
@@ -89,8 +89,8 @@ export class Presence {
     const { question } = this;
     this.look();
     if (!this.question.fits) throw new Refused(NOTHING_ASKED);
-    const isSame = question === this.question && question.differs === this.differs;
-    if (!isSame || this.session.guard.now() < question.at + READ) throw new Refused(ASKED_ANEW);
+    const isShown = question.fits.startsWith(RECOVERS) || question.differs === this.differs; // the game goes on behind hidden plies
+    if (question !== this.question || !isShown || this.session.guard.now() < question.at + READ) throw new Refused(ASKED_ANEW);
     return question.fits;
   }
 

@@ -5,7 +5,7 @@ import { NO_TIME } from '../child/report.js';
 import { NO_PLIES, clocksOf } from '../game/course.js';
 import { countingForfeit, scoreOf } from '../game/forfeits.js';
 import { written } from '../game/options.js';
-import { YES } from '../game/typed.js';
+import { RECOVERS, YES } from '../game/typed.js';
 import { DISK_FULL } from '../kept/capture.js';
 import { lasting } from '../../live/show/page/chess.js';
 import { linked, message } from '../../live/show/page/message.js';
@@ -114,8 +114,9 @@ export class State {
 
 /** @type {(fits: string) => Message} the question whether it was played so: moves, or others instead, or the last ones were taken back */
 function askedOf(fits) {
-  const [, word, rest] = /^(?:(back|instead) )?(.*)$/.exec(fits) || [];
+  const [, word, rest] = /^(?:(back|instead|recover) )?(.*)$/.exec(fits) || [];
   let question = message('state.played', { moves: rest });
+  if (word === RECOVERS) question = message('state.missed', { moves: rest });
   if (word === 'instead') question = message('state.played_instead', { moves: rest });
   if (word === 'back') question = rest === NO_PLIES ? message('state.taken_back_to_the_start') : message('state.taken_back', { last: rest });
   return message('state.if_so', { question, yes: YES });

@@ -6,6 +6,7 @@ import { shortOf } from '../child/report.js';
 import { shortOfLook } from '../game/alarms.js';
 import { NO_PLIES, gameOf, lastDumpIn } from '../game/course.js';
 import { BOTH, askedUnplayed, resultOf, whyPlayed, wordsOfForfeit } from '../game/forfeits.js';
+import { between } from '../game/hidden.js';
 import { ofTyping, optionsOf } from '../game/options.js';
 import {
   ABSENT, AS_IT_IS, Asked, CUT, HELP, REFUSED, Refused, THIS, UNDO, UNPLAYED, alike, askedOf, cannot, isStillShown, meaning,
@@ -14,7 +15,7 @@ import {
 } from '../game/typed.js';
 import { DISK_FULL, MOST } from '../kept/capture.js';
 import { joined } from '../line/protocol.js';
-import { isSame, linked, message } from '../../live/show/page/message.js';
+import { isSame, linked, message, plural } from '../../live/show/page/message.js';
 
 /** @typedef {{ capture: Capture, size: number, end: number | null }} Seen what the program decides about */
 
@@ -153,6 +154,8 @@ export class Typing {
         return this.add(typed.line);
       case 'instead':
         return this.putInstead(typed.line);
+      case 'recover':
+        return this.putBetween(typed.moves);
       default:
         return this.takeOff(typed.kind === 'reopened' ? '*' : typed.to);
     }
@@ -367,6 +370,22 @@ export class Typing {
       this.hasMade(size, put.length);
     }
     return linked('stop', [done, ...aboutLooks(looks, left), staysOver ? message('back.still_over') : KEPT]);
+  }
+
+  /** @type {(moves: string) => Promise<Words>} puts in two plies that no picture showed */
+  async putBetween(moves) {
+    const { session } = this;
+    /** @param {Seen} seen */
+    const decide = ({ capture, size }) => between(session.hall.calls, session.options, capture.view(size), moves);
+    return this.decided(decide, async ({ content, now }) => {
+      if (content.length > MOST) throw new Refused(message('back.capture_full'));
+      const { size } = session.capture;
+      const changes = { end: null, typedTo: content.length, looks: session.playing.alarms.looks.kept, goneBack: session.goneBack + 1 };
+      await session.renew(content, true, changes);
+      this.hasMade(size, content.length);
+      const done = [message('hidden.put_in', { moves }), plural('hidden.plies', now.plies.length, { last: reached(now.plies) })];
+      return linked('stop', [linked('semicolon', done), message('hidden.box'), KEPT]);
+    });
   }
 
   /** @type {(line: string) => Promise<Words>} other moves come in place of the last ones; a game that was over goes on */

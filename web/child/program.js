@@ -134,6 +134,11 @@ export class Program {
     return this.run(['instead', ...words, `--line=${line}`], sent);
   }
 
+  /** @type {(words: string[], sent: Uint8Array) => Promise<Outcome>} these bytes, with the plies put in that no picture shows */
+  recover(words, sent) {
+    return this.run(['recover', ...words], sent);
+  }
+
   /** @type {(words: string[], input?: Uint8Array) => Promise<Outcome>} calls it */
   async run(words, input = new Uint8Array(0)) {
     if (input.length >= LARGE) return this.runAlone(words, input);

@@ -13,6 +13,7 @@ import { BOTH, typedForfeit } from './forfeits.js';
  * { kind: 'helped' }} Typed */
 
 export const YES = 'y'; // it was played as the page has asked
+export const RECOVERS = 'recover'; // two plies are put in that no picture showed
 const NOUGHTS = '0-0'; // a result, or castling typed with noughts
 export const WAYS = message('typed.ways');
 export const ABSENT = message('typed.absent'); // what can be typed too if the game has no move
@@ -40,6 +41,7 @@ export function readWords(text) {
   const first = words[0].toLowerCase();
   if (HELPS.includes(first)) return { kind: 'helped' };
   if (first === 'back') return { kind: 'back', to: plyOf(words.slice(1).join(' ')) };
+  if (first === RECOVERS) return { kind: 'recover', moves: words.slice(1).join(' ') };
   if (first === 'instead') return { kind: 'instead', line: movesOfLine(words.slice(1).join(' ')) };
   if (first === UNDO && words.length > 1) throw new Refused(message('undo.alone'));
   const alone = words.length === 1 ? first : '';

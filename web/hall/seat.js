@@ -331,7 +331,7 @@ export class Seat {
       const mend = trouble ? '' : lockedDevice(systemOf(navigator));
       return { ...resting(message('state.not_recorded_why', { why })), alarm: true, mend };
     }
-    const { capture, cable, course, hidden, isOver, next, playing, presence, room } = session;
+    const { capture, cable, course, isOver, next, playing, presence, room } = session;
     const looks = playing.alarms.looks.short;
     if (playing.forfeit && !capture.trouble) return resting(wordsOfForfeit(playing.forfeit), looks);
     if (isOver && !capture.trouble) {
@@ -339,8 +339,7 @@ export class Seat {
       return resting(next.awaited ? message('state.over_set_up') : message('state.over'), looks, mend);
     }
     if (cable.isStopped) return resting(message('state.stopped'), looks);
-    const stands = standing(presence.state, now);
-    return { ...stands, mend: linked('space', [hidden.advice, stands.mend].filter((part) => part)) };
+    return standing(presence.state, now);
   }
 
   // What the session tells, and asks of the boards around it.
