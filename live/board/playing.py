@@ -495,6 +495,8 @@ class Playing:
         """What the report says of the board's squares, and of its result, is read with its state."""
         if isinstance(event, Differs):
             self.standing.board.differs = event.squares
+        elif isinstance(event, Picture):
+            self.standing.shows = event.placement
         elif isinstance(event, Result):
             self.standing.board.result = event.outcome
 

@@ -5,6 +5,7 @@ though no square shows it, and for boards with one number.
 
 - `agrees`: the board shows the game's position. `result 1-0`: it has shown the result, wherever the pieces are put afterwards.
 - `in hand g1 f3`: a few squares differ, each for no longer than a hand takes. `WRONG since 40 s: e2 d5`: these have differed for longer.
+  It may ask: `WRONG: e5 g1 f3; was 1... e5 2. Nf3 played? If so, type y`.
 - `setting up`: more squares differ than hands change in a move, and pieces are still moved or no move has been played. When few
   are left, they are `WRONG` once nothing has moved for so long. A game that hasn't agreed for a time is `WRONG`, whatever moves.
 - `NO START`: pieces are moved, but the board has never shown the start, and hasn't come nearer to it for a time.
@@ -32,7 +33,7 @@ from live.run.refused import BACK, INSTEAD, OK, RECOVERS, REOPENS, YES, NotDone
 from live.words.message import Message, has, is_of, linked, plural
 
 MOST_LISTED = 8
-NOTHING_ASKED, ASKED_ANEW = Message("typed.nothing_asked"), Message("typed.asked_anew")
+NOTHING_ASKED, JUST_ASKED, ASKED_ANEW = Message("typed.nothing_asked"), Message("typed.just_asked"), Message("typed.asked_anew")
 READ = 1.0  # seconds in which nobody can have read a question and answered it
 TURNED_ROUND = Message("state.turned_round")
 OTHER_BOARD = Message("state.other_board")
@@ -183,6 +184,10 @@ class BoardState:
     _stood: Stood = Stood("WAITS")
     _since: float = 0.0
 
+    def asks_nothing(self) -> None:
+        """Nothing is asked until the program says it."""
+        self.hidden, self._stood = "", self._stood._replace(fits="")
+
     def stands(self, now: float, stood: Stood) -> None:
         """The program has said this."""
         self._stood, self._since = stood, now - (stood.lasted or 0) / 1000
@@ -213,11 +218,11 @@ class BoardState:
 
 @dataclass(frozen=True)
 class Question:
-    """What is asked about, as it is typed; when; and the squares on which the board differed then."""
+    """What is asked about, as it is typed; when; and what the board showed then."""
 
     fits: str = ""
     at: float = 0.0
-    differs: Tuple[str, ...] = ()
+    shows: str = ""
 
 
 IN_A_SET_UP = (Kind.WAITS, Kind.AGREES, Kind.IN_HAND)  # states that say nothing while no game is played
@@ -235,7 +240,9 @@ class Standing:
         self._is_unknown = has_shown and before is None
         self.was_away = False  # unplugged or silent since it was last heard
         self._hint = ""
+        self.shows = ""  # the picture that the report has named last
         self._question = Question()  # that was asked last
+        self.board.asks_nothing()  # what was asked was asked about another capture
         self._closed = False
 
     @property
@@ -261,19 +268,20 @@ class Standing:
             self._screen.hint(state.hint)
         self._hint = state.hint
         if state.fits != self._question.fits:
-            self._question = Question(state.fits, self._loop.now(), self.board.differs)
+            self._question = Question(state.fits, self._loop.now(), self.shows)
             if state.asks:
                 self._screen.hint(state.asks)
 
     def accepts(self) -> str:
         """What somebody accepts by `y`, as it is typed: the change that was last asked about. Refused if nothing is asked; if nobody can have
-        read the question; or if the board shows something else by now, which is asked about as soon as it explains the board."""
+        read the question; or if the board shows something else by now. But a game goes on behind plies that no picture showed."""
         question = self._question
         self.show()
         if not self._question.fits:
             raise NotDone(NOTHING_ASKED)
-        is_shown = question.fits.startswith(RECOVERS) or self.board.differs == question.differs  # the game goes on behind hidden plies
-        if question != self._question or not is_shown or self._loop.now() < question.at + READ:
+        if question != self._question or self._loop.now() < question.at + READ:
+            raise NotDone(JUST_ASKED)
+        if self.shows != question.shows and not question.fits.startswith(RECOVERS):
             raise NotDone(ASKED_ANEW)
         return question.fits
 
@@ -296,7 +304,7 @@ class Standing:
     def stands(self, at: float, stood: Stood) -> None:
         """The program says that the board stood so at that time. This is shown with the rest of its answer."""
         self._is_unknown = False
-        self.board.stands(at, stood)
+        self.board.stands(at, stood if self.is_played else stood._replace(fits=""))
 
     def clock(self, stopped: bool) -> bool:
         """The program says that both sides have `stopped` the clock, or that it isn't stopped. Returns whether that is news, which is shown
@@ -490,10 +498,10 @@ def of_state(state: State, typed: Typed) -> List[str]:
     if state.disk:
         told.append(linked("colon", (mend_of(state.disk == DISK_FULL), IN_MEMORY)))
     if state.hint == OTHER_BOARD:
-        told.append(Message("advice.other_board", missing=missing(typed)))
+        told.append(_asking(state, Message("advice.other_board", missing=missing(typed))))
     elif state.kind is Kind.WRONG:
         wrong = Message("advice.wrong", missing=missing(typed), back=typed(BACK), back_to=typed(f"{BACK} {PLY}"))
-        told.append(Message("advice.fits", asks=Message("join.capital", text=state.asks), wrong=wrong) if state.asks else wrong)
+        told.append(_asking(state, wrong))
     elif state.kind is Kind.NO_START:
         told.append(Message("advice.no_start", moves=typed(FROM_THE_START)))
     elif state.kind is Kind.SILENT:
@@ -501,6 +509,11 @@ def of_state(state: State, typed: Typed) -> List[str]:
     elif state.kind is Kind.UNPLUGGED:
         told.append(Message("join.capital", text=state.line or PLUG_IN))
     return told
+
+
+def _asking(state: State, otherwise: str) -> str:
+    """The question, and what to do if it wasn't so; without a question that alone."""
+    return Message("advice.fits", asks=Message("join.capital", text=state.asks), wrong=otherwise) if state.asks else otherwise
 
 
 def of_line(is_server: bool, otherwise: str) -> str:

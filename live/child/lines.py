@@ -22,7 +22,8 @@ UNPLUGGED, SILENT, WAITS = UNSEEN = "UNPLUGGED", "SILENT", "WAITS"  # states in 
 HINTS = ("TURNED-ROUND", "OTHER-BOARD")
 CLOCK_LINES = {"clock stopped": True, "clock runs": False}
 END = re.compile(r"over ([A-Z-]+) (\S+) ([0-9]+) (sure|unsure)|played ([0-9]+)|begins ([0-9]+)")
-KEPT_LINE, FITS_LINE, GAME_LINE = COUNTED = b"kept ", b"fits ", b"game "  # behind which come as many bytes as they say
+KEPT_LINE, GAME_LINE = b"kept ", b"game "
+COUNTED = (KEPT_LINE, b"fits ", GAME_LINE)  # behind which come as many bytes as they say
 DIGITS = b"0123456789"  # one of these begins each line of the report
 REPORT_ENDS = re.compile(rb"\n[^0-9]")
 OFTEN = re.compile(rb"keep\n(?:ask ([A-Z]+)\n)?(?:state ([^ \n]+ [^\n]+)\n)?done ([0-9]+|-)\n")  # the end of most answers

@@ -79,7 +79,7 @@ def typed_names(pairing: Pairing, text: str, kept: Names, of_all: Options) -> Na
     own, names = own_options(of_all, pairing), {name.tag: name for name in kept if name.board == pairing.board}
     for tag, value in given_in(text, pairing.board).items():
         names.pop(tag, None)
-        if value.replace(UNKNOWN, "") != value_in(own, tag):
+        if ("" if value == UNKNOWN else value) != value_in(own, tag):
             names[tag] = TypedName(pairing.board, pairing.white, pairing.black, tag, value_in(own, tag), value)
     return (*(name for name in kept if name.board != pairing.board), *names.values())
 

@@ -476,7 +476,8 @@ class Row:
         front, rest, since, alarm = self._standing(state)
         if state and state.hint and not (state.disk or self.board.trouble or self.board.forfeit):
             front = OTHER if state.hint == OTHER_BOARD else TURNED
-            rest = linked("semicolon", ("", state.clock)) if state.clock else ""
+            more = [part for part in (state.clock, state.asks) if part]
+            rest = linked("semicolon", ("", *more)) if more else ""
         plies = self.board.plies
         last = plies[-1].short if plies else ""
         white, black = map(self.options.written, PLAYERS)

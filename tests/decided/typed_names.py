@@ -33,6 +33,7 @@ TYPED: List[Tuple[Names, str, Names]] = [
     ((WHITE,), "name White=Karlsen", (replace(WHITE, value="Karlsen"),)),
     ((WHITE, OF_SIX), "name White=Carlson", (OF_SIX,)),  # as the table has it
     ((), "name White=Carlson", ()),
+    ((), "name White=Carlson?", (of_five("White", "Carlson", "Carlson?"),)),
     ((WHITE,), "name WhiteElo=2839 Event=Open", (WHITE, EVENT, ELO)),
     ((replace(ELO, white="Eva"),), "name White=Carlsen", (WHITE,)),  # of another pair
     ((EVENT,), "name Event=Cup", ()),

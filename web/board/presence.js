@@ -3,7 +3,7 @@
 import { HEARD } from '../child/attended.js';
 import { lasting } from '../../live/show/page/chess.js';
 import { message } from '../../live/show/page/message.js';
-import { ASKED_ANEW, NOTHING_ASKED, RECOVERS, Refused } from '../game/typed.js';
+import { ASKED_ANEW, JUST_ASKED, NOTHING_ASKED, RECOVERS, Refused } from '../game/typed.js';
 import { Kind, stateOf } from './state.js';
 
 const SAID = [Kind.WRONG, Kind.NO_START]; // states that are reported as lines too
@@ -29,7 +29,7 @@ export class Presence {
     this.saidAt = session.guard.now();
     this.clockStopped = false; // by both sides, and it ran before
     this.lastNews = ''; // of its state
-    this.question = { fits: '', at: 0, differs: '' }; // what was last asked about, as it is typed; when; where the board differed then
+    this.question = { fits: '', at: 0, shows: '' }; // what was last asked about, as it is typed; when; what the board showed then
   }
 
   /** @type {(now: number) => void} the board is heard now; the page may have slept too */
@@ -57,6 +57,7 @@ export class Presence {
     this.hasShown = this.hasShown || !UNSEEN.includes(said.kind);
     this.said = said;
     this.saidAt = now;
+    this.asks();
     const isSilent = said.kind === 'SILENT';
     if (isSilent !== this.isSilent) this.silence(isSilent, word);
     this.session.changed(false);
@@ -78,31 +79,45 @@ export class Presence {
   }
 
   get state() {
-    const { capture, hidden, playing } = this.session;
+    const { capture, hidden, isOver, playing } = this.session;
+    const isAsked = !isOver && !playing.forfeit;
     const beside = { result: playing.course.result, disk: capture.trouble, look: playing.alarms.looks.short, clockStopped: this.clockStopped };
-    return stateOf({ ...this.said, fits: this.said.fits || hidden.typed }, this.saidAt, playing.differs, beside);
+    return stateOf({ ...this.said, fits: isAsked ? this.said.fits || hidden.typed : '' }, this.saidAt, playing.differs, beside);
   }
 
   /** What somebody accepts by `y`, as it is typed: the change that was last asked about. Refused if nothing is asked; if nobody can have read
-   * the question; or if the board shows something else by now, which is asked about as soon as it explains the board. */
+   * the question; or if the board shows something else by now. But a game goes on behind plies that no picture showed. */
   accepts() {
     const { question } = this;
-    this.look();
+    this.asks();
     if (!this.question.fits) throw new Refused(NOTHING_ASKED);
-    const isShown = question.fits.startsWith(RECOVERS) || question.differs === this.differs; // the game goes on behind hidden plies
-    if (question !== this.question || !isShown || this.session.guard.now() < question.at + READ) throw new Refused(ASKED_ANEW);
+    if (question !== this.question || this.session.guard.now() < question.at + READ) throw new Refused(JUST_ASKED);
+    if (question.shows !== this.shows && !question.fits.startsWith(RECOVERS)) throw new Refused(ASKED_ANEW);
     return question.fits;
   }
 
-  /** Where the board differs, as its report has named it last. */
-  get differs() {
-    return this.session.playing.differs.join(' ');
+  /** Another capture is recorded: nothing that was asked about the one before is asked any more. */
+  asksNothing() {
+    this.said = { ...this.said, fits: '' };
+    this.session.hidden.typed = '';
+    this.asks();
+  }
+
+  /** What is asked now, if that is news. */
+  asks() {
+    const { fits } = this.state;
+    if (fits !== this.question.fits) this.question = { fits, at: this.session.guard.now(), shows: this.shows };
+  }
+
+  /** What the board shows, as its report has named it last. */
+  get shows() {
+    return this.session.playing.course.placement;
   }
 
   /** Once a second: an alarm of the state is reported, once. */
   look() {
     const { state } = this;
-    if (state.fits !== this.question.fits) this.question = { fits: state.fits, at: this.session.guard.now(), differs: this.differs };
+    this.asks();
     const { cable, guard, isOver, record } = this.session;
     const news = JSON.stringify([record.game.id, ...state.news]);
     const isNew = news !== this.lastNews;

@@ -59,6 +59,7 @@ export class Session {
     this.attending.take(capture, times);
     this.playing.take(capture.size);
     this.presence.away = this.guard.away();
+    this.presence.asksNothing();
   }
 
   get capture() {

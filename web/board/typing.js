@@ -102,6 +102,7 @@ export class Typing {
         return { done: true, said: seen };
       }
       if (session.capture.trouble) throw new Refused(unkept(session.capture));
+      if (typed.kind === 'accepted') await session.attending.read();
       const line = typed.kind === 'accepted' ? session.presence.accepts() : text;
       const said = await this.does(asked(typed, line), line);
       session.says(said);

@@ -21,6 +21,7 @@ export const HELP = message('typed.all_ways_or_absent', { absent: ABSENT });
 export const BOTH_LOSE = message('typed.noughts', { noughts: NOUGHTS });
 export const WHICH_PLY = message('back.which_ply');
 export const NOTHING_ASKED = message('typed.nothing_asked');
+export const JUST_ASKED = message('typed.just_asked');
 export const ASKED_ANEW = message('typed.asked_anew');
 export const WHICH_MOVES = message('instead.which_moves');
 const HELPS = ['help', '?'];
