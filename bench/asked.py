@@ -3,7 +3,8 @@
 
 The games of bench/hurried_games.txt are played as bench/hurried.py plays them, on a board that `live` attends: it answers each request,
 and the clock is simulated. Where `live` says what alone explains the board, the arbiter looks at it, and answers five seconds later: `y` if
-it was played so and the board still shows it; else nothing.
+it was played so and the board still shows it; else nothing. So he is asked about a pair of plies that `recover` finds, while a board has
+stood otherwise for fifteen seconds, as the recorders ask.
 
 Prints a table, in some minutes.
 
@@ -26,11 +27,14 @@ from hurried import Game, Row, front, read_games, timed
 from attending.answers import Answer, Entry, brings  # noqa: E402  (hands has put its folder on the path)
 from attending.frames import UPDATE_ID  # noqa: E402
 from attending.host import Call, Host  # noqa: E402
+from live.game.hidden import between, pairs_in  # noqa: E402
 from recovering.frames import dump  # noqa: E402
 
 ROWS = (Row("honest hands"), Row("5 of 100 moves begun early", 5), Row("10 of 100", 10), Row("20 of 100", 20))
 LATE = 90  # milliseconds after which the board answers
 LOOKS = 5000  # milliseconds after which the arbiter answers
+LONG = 15000  # milliseconds in which a board stands otherwise before hidden plies are looked for, and from one time to the next
+OTHERWISE = ("WRONG", "IN-HAND", "SETTING-UP")
 REST = 40.0  # seconds after the last move
 
 
@@ -68,6 +72,7 @@ class Table:
         self.capture = bytearray()
         self.yes = self.questions = self.not_so = 0
         self._question: Optional[Question] = None
+        self._looks_at: Optional[int] = None  # when hidden plies are looked for
         self._begin(b"", 0)
 
     def plays(self, changes: List[Tuple[float, int, int]]) -> None:
@@ -94,7 +99,7 @@ class Table:
         while True:
             due = None if self._call.due is None else self._since + self._call.due
             answers = self._question.at if self._question else None
-            times = [at for at in (self._dump_at, due, answers) if at is not None and at <= until]
+            times = [at for at in (self._dump_at, due, answers, self._looks_at) if at is not None and at <= until]
             if not times:
                 return
             now = min(times)
@@ -103,6 +108,8 @@ class Table:
                 self._sends(now, dump(tuple(self.board), False))
             elif now == answers:
                 self._answer(now)
+            elif now == self._looks_at:
+                self._look(now)
             else:
                 self._tell(Entry(now - self._since, "wake"))
 
@@ -118,14 +125,44 @@ class Table:
             self._dump_at = now + LATE
         if answer.state:
             fits = answer.fits.decode().strip()
-            self._question = Question(fits, now + LOOKS, tuple(self.board)) if fits else None
+            is_hidden = self._question is not None and self._question.fits.startswith("recover ")
+            if fits or not is_hidden or answer.state.kind not in OTHERWISE:
+                self._question = Question(fits, now + LOOKS, tuple(self.board)) if fits else None
             self.questions += bool(fits)
+            if fits or answer.state.kind not in OTHERWISE:
+                self._looks_at = None
+            elif self._looks_at is None:
+                self._looks_at = now + LONG
         return answer
+
+    def _look(self, now: int) -> None:
+        """Plies that no picture showed are looked for."""
+        self._looks_at = now + LONG
+        pairs = pairs_in(recovered(bytes(self.capture))[1])
+        if pairs and self._question is None:
+            self._question = Question(f"recover {pairs[0].moves}", now + LOOKS, ())
+            self.questions += 1
+
+    def _put_between(self, now: int) -> None:
+        """The arbiter answers `y` if the plies were played that no picture showed."""
+        sent = bytes(self.capture)
+        pair = pairs_in(recovered(sent)[1])[0]
+        made = between(sent, recovered(sent[: pair.offset + 1])[0], pair.offset)
+        sans = moves_of(program(["record"], made))
+        if front(sans, self.game.sans) < len(sans):
+            self.not_so += 1
+            return
+        self.yes += 1
+        self._host.end()
+        self._begin(made, now)
 
     def _answer(self, now: int) -> None:
         """The arbiter answers `y` if it was played so, and the board still shows it."""
         question, self._question = self._question, None
         assert question
+        if question.fits.startswith("recover "):
+            self._put_between(now)
+            return
         if question.shown != tuple(self.board):
             return
         word, _, rest = question.fits.partition(" ")
@@ -148,13 +185,19 @@ class Table:
             self._begin(made, now)
 
 
+def recovered(sent: bytes) -> Tuple[bytes, str]:
+    """What `recover` makes of these bytes, and its report."""
+    done = subprocess.run([PROGRAM, "recover"], input=sent, stdout=subprocess.PIPE, stderr=subprocess.PIPE, check=True)
+    return done.stdout, done.stderr.decode()
+
+
 def trial(arguments: Tuple[int, Game, Row, float]) -> Counts:
     seed, game, row, slides = arguments
     table = Table(game)
     table.plays(timed(random.Random(f"{seed} {row}"), game, row, slides))
-    made = subprocess.run([PROGRAM, "recover"], input=bytes(table.sent), stdout=subprocess.PIPE, stderr=subprocess.DEVNULL, check=True).stdout
-    kept, recovered, asked = (front(moves_of(program(["record"], sent)), game.sans) for sent in (bytes(table.sent), made, bytes(table.capture)))
-    return Counts(len(game.sans), kept, recovered, asked, table.yes, table.questions, table.not_so)
+    made, _ = recovered(bytes(table.sent))
+    alone, after, asked = (front(moves_of(program(["record"], sent)), game.sans) for sent in (bytes(table.sent), made, bytes(table.capture)))
+    return Counts(len(game.sans), alone, after, asked, table.yes, table.questions, table.not_so)
 
 
 def line_of(row: Row, counts: Counts) -> str:

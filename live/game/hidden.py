@@ -12,6 +12,7 @@ from live.game.game import Game, game_of, largest
 from live.game.options import Options
 from live.game.typed import NO_RESULT, SLOWEST, Way, reached
 from live.game.undone import alike
+from live.line.protocol import frame_at
 from live.run.refused import NotDone
 from live.words.message import Message, linked, plural
 
@@ -67,6 +68,13 @@ def first_pair(program: Program, options: Options, sent: bytes) -> Optional[Pair
     return found[0] if found else None
 
 
+def between(sent: bytes, made: bytes, offset: int) -> bytes:
+    """The bytes of a board with the frames of a pair that `recover` has made behind this byte. They come before the frame that has confirmed
+    the pair: so the pair is in the game by then, and isn't found again."""
+    begins = frame_at(sent, offset)
+    return sent[:begins] + made[offset + 1 :] + sent[begins:]
+
+
 def put_between(game: Game, moves: str, sent: bytes) -> PutBetween:
     """The way to the game of these bytes with these plies, which are the first that `recover` finds, and no others. Refused if they aren't."""
     pair = first_pair(game.program, game.options, sent)
@@ -75,7 +83,7 @@ def put_between(game: Game, moves: str, sent: bytes) -> PutBetween:
     if pair.moves != moves:
         raise NotDone(Message("hidden.others", moves=pair.moves))
     made, _ = _recovered(game.program, game.options, sent[: pair.offset + 1])
-    content = made + sent[pair.offset + 1 :]
+    content = between(sent, made, pair.offset)
     if len(content) > largest(game.options):
         raise NotDone(Message("back.capture_full"))
     before, now = game_of(game.program, game.options, sent), game_of(game.program, game.options, content)

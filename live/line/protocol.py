@@ -19,6 +19,11 @@ LETTERS = ".PRNBKQprnbkq*"  # by piece code; `*` is one of the codes 13 to 15, w
 SQUARES = tuple(file + rank for rank in "87654321" for file in "abcdefgh")
 
 
+def frame_at(sent: bytes, end: int) -> int:
+    """Where the frame begins that has its last byte there: only its first byte has its top bit set."""
+    return next(at for at in range(end, -1, -1) if sent[at] & 0x80)
+
+
 def picture_of_placement(text: str) -> Picture:
     """The picture of a FEN, of its first field, or of a line of `pictures`. Raises ValueError if the text is none of them."""
     ranks = text.split(" ")[0].split("/")

@@ -1,6 +1,6 @@
 """The plies that no picture showed, as `recover` reports them: tests/decisions/hidden.json."""
 
-from live.game.hidden import pairs_in
+from live.game.hidden import between, pairs_in
 
 from decided.cases import cases
 from decided.table import same
@@ -11,4 +11,9 @@ def pairs() -> None:
         same(name, [[pair.moves, pair.offset] for pair in pairs_in(report)], expected)
 
 
-TABLES = [pairs]
+def put_in() -> None:
+    for name, sent, made, offset, expected in cases("hidden", "put in"):
+        same(name, list(between(bytes(sent), bytes(made), offset)), expected)
+
+
+TABLES = [pairs, put_in]

@@ -1,8 +1,14 @@
 /** The plies that no picture showed, as `recover` reports them. */
-import { pairsIn } from "/web/game/hidden.js";
+import { pairsIn, putBefore } from "/web/game/hidden.js";
 
 export function pairs(counts, cases) {
   for (const [name, report, expected] of cases("pairs")) {
     counts.same(name, pairsIn(report).map(({ moves, offset }) => [moves, offset]), expected);
+  }
+}
+
+export function putIn(counts, cases) {
+  for (const [name, sent, made, offset, expected] of cases("put in")) {
+    counts.same(name, [...putBefore(Uint8Array.from(sent), Uint8Array.from(made), offset)], expected);
   }
 }

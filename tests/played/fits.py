@@ -100,7 +100,7 @@ def gone_by_then(folder: pathlib.Path) -> None:
 
 def missed_pair(folder: pathlib.Path) -> None:
     """The reply began before the move stood, and the game went on: the pair is asked about once the next move has confirmed it. It comes before
-    that, with nothing lost; `undo` takes it out again."""
+    that, with nothing lost. So does the next such pair; `undo` takes that out again."""
     board = a_board(folder)
     live = Live(board.device, folder / "game", typed=True)
     begun(live)
@@ -117,11 +117,18 @@ def missed_pair(folder: pathlib.Path) -> None:
     answered(live, "y", "put in, as the board has shown since: 1... e5 2. Nf3; 6 plies, the last one 3... a6. With --recover such moves are put in")
     until_game(live.name, "1. e4 e5 2. Nf3 Nc6 3. Bb5 a6 *")
     until_line(live, words.AGREES)
-    board.play("b5a4")
-    until_game(live.name, "1. e4 e5 2. Nf3 Nc6 3. Bb5 a6 4. Ba4 *")
+    for square in ("b5", "g8"):
+        board.lift(square)
+    board.put("a4", 4)
+    board.put("f6", 9)
+    board.play("e1g1")
+    until_line(live, "did the board miss 4. Ba4 Nf6? If so, type y")
+    rest(1.5)
+    answered(live, "y", "put in, as the board has shown since: 4. Ba4 Nf6; 9 plies, the last one 5. O-O")
+    until_game(live.name, "1. e4 e5 2. Nf3 Nc6 3. Bb5 a6 4. Ba4 Nf6 5. O-O *")
     is_whole(live)
-    answered(live, "undo", 'undone: "recover 1... e5 2. Nf3"')
-    until_game(live.name, "1. e4 *")
+    answered(live, "undo", 'undone: "recover 4. Ba4 Nf6"')
+    until_game(live.name, "1. e4 e5 2. Nf3 Nc6 3. Bb5 a6 *")
     same(stop(live), 0)
     is_whole(live)
 

@@ -2,7 +2,7 @@
 
 import { ProgramError, endedWith } from '../child/program.js';
 import { lineOf } from '../child/report.js';
-import { joined } from '../line/protocol.js';
+import { frameAt, joined } from '../line/protocol.js';
 import { message } from '../../live/show/page/message.js';
 import { gameOf } from './course.js';
 import { ofBoard } from './options.js';
@@ -39,6 +39,14 @@ export async function firstPair(program, options, sent) {
   return pairs.length > 0 ? pairs[0] : null;
 }
 
+/** The bytes of a board with the frames of a pair that `recover` has made behind this byte. They come before the frame that has confirmed the
+ * pair: so the pair is in the game by then, and isn't found again.
+ * @type {(sent: Uint8Array, made: Uint8Array, offset: number) => Uint8Array} */
+export function putBefore(sent, made, offset) {
+  const begins = frameAt(sent, offset);
+  return joined(sent.subarray(0, begins), made.subarray(offset + 1), sent.subarray(begins));
+}
+
 /** These bytes with two plies put in, which are the first that `recover` finds, and no others; and the game that they give. Refused if they
  * aren't.
  * @type {(program: Program, options: Options, sent: Uint8Array, moves: string) => Promise<{ content: Uint8Array, now: Course }>} */
@@ -47,6 +55,6 @@ export async function between(program, options, sent, moves) {
   if (!pair) throw new Refused(message('hidden.none'));
   if (pair.moves !== moves) throw new Refused(message('hidden.others', { moves: pair.moves }));
   const { made } = await recovered(program, options, sent.subarray(0, pair.offset + 1));
-  const content = joined(made, sent.subarray(pair.offset + 1));
+  const content = putBefore(sent, made, pair.offset);
   return { content, now: await gameOf(program, options, content) };
 }

@@ -50,3 +50,10 @@ export function joined(...parts) {
   }
   return whole;
 }
+
+/** @type {(sent: Uint8Array, end: number) => number} where the frame begins that has its last byte there: only its first byte has its top bit set */
+export function frameAt(sent, end) {
+  let at = end;
+  while (sent[at] < 0x80) at -= 1;
+  return at;
+}
