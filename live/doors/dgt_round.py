@@ -54,7 +54,7 @@ dgt_live --devices lists devices and numbers. While it records, type
   3 1-0       the result of board 3: 1-0, 0-1, 1/2-1/2; by forfeit +-, -+, --
   3 Nf3 Nc6   moves that board 3 has missed; 3 back takes one off, 3 * a result
   3 name White=Anna   a name that is wrong in FILE, until FILE changes there
-  3, 3 moves, 3 ok, 3 undo   its state; game; LOOK was seen; undo what was typed
+  3, 3 moves, 3 ok, 3 undo, 3 y   state; game; LOOK seen; undo; played as asked
   r, messages, q     read FILE again, as HUP does; earlier messages; end
 OPTION, kept but *: --event, --place, --site, --date, --round; --tag NAME=VALUE
   --page [ADDRESS:]PORT     a page for spectators, as --page 8000
