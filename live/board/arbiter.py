@@ -145,7 +145,10 @@ class Arbiter:
 
     def rename(self, text: str, prepares: Callable[[], Chooses]) -> Steps[Answer]:
         """The names of a table, which somebody has read again by this."""
-        return (yield from self._ended(text, self._rename(prepares)))
+        renamed = yield from self._ended(text, self._rename(prepares))
+        if is_naming(text):
+            self._not_undone(text, Message("undo.name"))
+        return renamed
 
     def _ended(self, text: str, steps: Steps[Answer]) -> Steps[Answer]:
         before = self._edition
@@ -381,6 +384,7 @@ class Arbiter:
         else:
             way = yield from self._asked(TAKEN_OFF, functools.partial(undone, game, line, put))
             session.hold()
+            yield from self._beside(functools.partial(ask_first, game.paths, way))
             answer = DONE, (yield from self._replace(way) if put.end is None else self._end_again(way))
         self._last = Obeyed(UNDO, game.capture, why=Message("undo.twice", line=shown(line)))
         return answer

@@ -9,7 +9,7 @@ from typing import Optional
 from live.board.plan import Means
 from live.board.state import Kind, Standing
 from live.game.game import Game
-from live.game.hidden import Pair, first_pair
+from live.game.hidden import Pair, asked_pair
 from live.run.refused import RECOVERS
 
 LONG = 15.0  # seconds in which a board is otherwise before its capture is read so, and from one reading to the next
@@ -45,6 +45,6 @@ class Hidden:
 def _found(game: Game, sent: bytes) -> Optional[Pair]:
     """What is found; nothing if the program fails: a question isn't worth a recording."""
     try:
-        return first_pair(game.program, game.options, sent)
+        return asked_pair(game, sent)
     except OSError:
         return None

@@ -490,6 +490,7 @@ class Playing:
             if isinstance(event, Result):
                 self._hear_result(event.outcome)
         self.course.news.clear()
+        self.standing.board.has_gone_back = self.course.has_gone_back
 
     def _stands(self, event: Event) -> None:
         """What the report says of the board's squares, and of its result, is read with its state."""

@@ -181,6 +181,7 @@ class BoardState:
     line: str = ""  # what to do so that its line is there again
     clock_stopped: bool = False  # whether both sides have stopped a clock that ran
     hidden: str = ""  # what is typed for two plies that no picture showed, if some are found
+    has_gone_back: bool = False  # whether it shows a position from more than two plies ago: then more than one change explains it
     _stood: Stood = Stood("WAITS")
     _since: float = 0.0
 
@@ -211,7 +212,7 @@ class BoardState:
         squares = self.differs if kind is Kind.IN_HAND else stood.squares
         hint = {"": "", "TURNED-ROUND": self.turned_hint, "OTHER-BOARD": OTHER_BOARD}[stood.hint]
         result = self.result if kind is Kind.RESULT else ""
-        fits = stood.fits or self.hidden
+        fits = "" if self.has_gone_back else stood.fits or self.hidden
         asks = asked_of(fits, self.yes) if fits else ""
         return State(kind, self._since, squares, result, hint, self.disk, self.look, self.line, self.clock_stopped, fits, asks)
 
@@ -270,7 +271,7 @@ class Standing:
         if state.fits != self._question.fits:
             self._question = Question(state.fits, self._loop.now(), self.shows)
             if state.asks:
-                self._screen.hint(state.asks)
+                self._screen.asks(state.asks)
 
     def accepts(self) -> str:
         """What somebody accepts by `y`, as it is typed: the change that was last asked about. Refused if nothing is asked; if nobody can have

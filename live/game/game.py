@@ -249,6 +249,11 @@ def has_delay(paths: Paths) -> bool:
     return any(os.path.lexists(owner.delay) for owner in owners_of(paths))
 
 
+def placement_of(fen: str) -> str:
+    """The pieces of a position."""
+    return fen.partition(" ")[0]
+
+
 @dataclass
 class Shown:
     """What the board shows: its pieces, and its last state; its clocks, if they were reported, and when that came."""
@@ -312,6 +317,11 @@ class Course:
         del self.plies[kept:], self.ends[kept:], self.fens[kept + 1 :]
         self.result = result
         return gone
+
+    @property
+    def has_gone_back(self) -> bool:
+        """Whether the board shows a position that the game had more than two plies ago: perhaps all since was taken back."""
+        return any(placement_of(fen) == self.shown.placement for fen in self.fens[:-3])
 
     @property
     def is_given(self) -> bool:

@@ -8,7 +8,7 @@ from typing import List, Optional, Sequence, Tuple
 
 from live.child.lines import Move, Recovered, line_of
 from live.child.program import Program, told_of_ending
-from live.game.game import Game, game_of, largest
+from live.game.game import Course, Game, game_of, largest, placement_of
 from live.game.options import Options
 from live.game.typed import NO_RESULT, SLOWEST, Way, reached
 from live.game.undone import alike
@@ -66,6 +66,23 @@ def first_pair(program: Program, options: Options, sent: bytes) -> Optional[Pair
     """The first two plies that no picture of these bytes shows, and that are confirmed. Raises OSError if the program fails."""
     _, found = _recovered(program, options, sent)
     return found[0] if found else None
+
+
+def asked_pair(game: Game, sent: bytes) -> Optional[Pair]:
+    """The first pair, unless it leads back to an earlier position of the game: then the plies may have been taken back. Raises OSError if the
+    program fails."""
+    pair = first_pair(game.program, game.options, sent)
+    if pair is None:
+        return None
+    made, _ = _recovered(game.program, game.options, sent[: pair.offset + 1])
+    before, now = game_of(game.program, game.options, sent), game_of(game.program, game.options, between(sent, made, pair.offset))
+    return None if leads_back(now, alike(before.plies, now.plies)) else pair
+
+
+def leads_back(course: Course, stays: int) -> bool:
+    """Whether the two plies behind so many lead to a position that the game had before them."""
+    placements = [placement_of(fen) for fen in course.fens]
+    return placements[stays + 2 : stays + 3] != [] and placements[stays + 2] in placements[: stays + 1]
 
 
 def between(sent: bytes, made: bytes, offset: int) -> bytes:

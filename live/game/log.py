@@ -241,6 +241,11 @@ class Screen:
     def hint(self, text: str) -> None:
         """Shows a new hint, in addition to the state, which has it too."""
 
+    def asks(self, question: str) -> None:
+        """Asks what the state asks too. A terminal has it in a line of its own, since the state's may be too long for it."""
+        if self.shows_time:
+            self.say(Message("join.capital", text=question))
+
     def note(self, text: str) -> None:
         """Writes a line to the log alone."""
         self._write(self._clock(), text)

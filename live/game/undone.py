@@ -12,7 +12,7 @@ from live.game.files import PutIn, existing, size_of
 from live.game.game import Game, end_mark, front_of, game_of, largest
 from live.game.kept import Capture
 from live.game.making_pgn import Text
-from live.game.typed import NO_RESULT, Way, moves_of, reached
+from live.game.typed import NO_RESULT, WITHOUT_A_QUESTION, Way, moves_of, reached
 from live.run.refused import NotDone, shown
 from live.words.message import Message, linked, plural
 
@@ -48,6 +48,12 @@ class Undone(Way):
         elif self.has != self.result:
             parts.append(Message("undo.result", result=self.has))
         return linked("semicolon", parts)
+
+    @property
+    def question(self) -> str:
+        """The question before plies go that were made since; empty if they may go at once."""
+        since = self.gone[sum(word[0].isalpha() for word in self.typed.split()) :]
+        return Message("undo.asks", count=len(since), ply=since[0].short) if len(since) > WITHOUT_A_QUESTION else ""
 
     @property
     def front(self) -> bytes:

@@ -113,7 +113,7 @@ def counted(pairing: Pairing, kept: Names, of_all: Options) -> Tuple[Names, List
     names = [name for name in kept if name.board == pairing.board]
     own, is_same = own_options(of_all, pairing), bool(names) and is_pair_of(names, pairing)
     stay = [name for name in names if is_same and value_in(own, name.tag) == name.own]
-    told = told_of_gone([name for name in names if name not in stay], is_same)
+    told = told_of_gone([name for name in names if name not in stay and not (is_same and value_in(own, name.tag) == name.value)], is_same)
     return tuple(replace(name, white=pairing.white, black=pairing.black) for name in stay), told
 
 

@@ -153,6 +153,9 @@ class RowScreen(Screen):
 
     other_address = other_device
 
+    def asks(self, question: str) -> None:
+        self.hint(question)
+
     def hint(self, text: str) -> None:
         if self._has_table:
             self.tells(Line(linked("colon", (str(self._number), text))))

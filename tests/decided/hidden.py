@@ -1,6 +1,7 @@
 """The plies that no picture showed, as `recover` reports them: tests/decisions/hidden.json."""
 
-from live.game.hidden import between, pairs_in
+from live.game.game import Course
+from live.game.hidden import between, leads_back, pairs_in
 
 from decided.cases import cases
 from decided.table import same
@@ -16,4 +17,11 @@ def put_in() -> None:
         same(name, list(between(bytes(sent), bytes(made), offset)), expected)
 
 
-TABLES = [pairs, put_in]
+def back() -> None:
+    for name, fens, stays, expected in cases("hidden", "leads back"):
+        course = Course("")
+        course.fens = fens
+        same(name, leads_back(course, stays), expected)
+
+
+TABLES = [pairs, put_in, back]

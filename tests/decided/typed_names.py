@@ -68,7 +68,7 @@ COUNTS: List[Tuple[Pairing, Names, Tuple[Tuple[str, str], ...], Names, Tuple[str
     (replace(LINE, black="Dora"), (WHITE,), (), (), ("5: the table has another pair there now, so what was typed is gone: White=Carlsen",)),
     # The table gets the name that was typed: the pair is the same.
     (replace(LINE, white="Carlsen"), (WHITE, ELO), (("WhiteElo", "2839"),), (replace(ELO, white="Carlsen"),),
-     ("5: the table has another White there now, so the typed one, Carlsen, is gone",)),
+     ()),  # the table has what was typed
     (LINE, (replace(EVENT, own="Old cup"),), (), (), ("5: the round has another Event now, so the typed one, Open, is gone",)),
 ]  # fmt: skip
 NO_NAMES = [

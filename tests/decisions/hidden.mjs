@@ -1,5 +1,5 @@
 /** The plies that no picture showed, as `recover` reports them. */
-import { pairsIn, putBefore } from "/web/game/hidden.js";
+import { leadsBack, pairsIn, putBefore } from "/web/game/hidden.js";
 
 export function pairs(counts, cases) {
   for (const [name, report, expected] of cases("pairs")) {
@@ -11,4 +11,8 @@ export function putIn(counts, cases) {
   for (const [name, sent, made, offset, expected] of cases("put in")) {
     counts.same(name, [...putBefore(Uint8Array.from(sent), Uint8Array.from(made), offset)], expected);
   }
+}
+
+export function back(counts, cases) {
+  for (const [name, fens, stays, expected] of cases("leads back")) counts.same(name, leadsBack(fens, stays), expected);
 }

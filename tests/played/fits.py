@@ -80,6 +80,25 @@ def only_taken_back(folder: pathlib.Path) -> None:
     is_whole(live)
 
 
+def gone_back_further(folder: pathlib.Path) -> None:
+    """The players go back four plies: the board stands as after two knights that go home, which nobody has played. Nothing is asked."""
+    board, live = ruy(folder)
+    board.play("a7a6")
+    until(lambda: sans(live)[-1] == "a6", "the last ply")
+    text = movetext(live.name)
+    for square in ("a6", "b5", "c6", "f3"):
+        board.lift(square)
+    for square, code in (("a7", 7), ("f1", 4), ("b8", 9), ("g1", 3)):
+        board.put(square, code)
+    until_line(live, words.WRONG)
+    rest(3)
+    assert "type y" not in live.lines(), live.lines()
+    answered(live, "y", NOTHING_ASKED)
+    same(movetext(live.name), text)
+    same(stop(live), 0)
+    is_whole(live)
+
+
 def gone_by_then(folder: pathlib.Path) -> None:
     """The board shows something else by the time of the answer: nothing is put in."""
     board = a_board(folder)
@@ -133,4 +152,4 @@ def missed_pair(folder: pathlib.Path) -> None:
     is_whole(live)
 
 
-CASES = [missed_pair, others_instead, moves_unseen, only_taken_back, gone_by_then]
+CASES = [missed_pair, others_instead, moves_unseen, only_taken_back, gone_back_further, gone_by_then]

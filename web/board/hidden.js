@@ -1,7 +1,7 @@
 // A board that stays otherwise than its game, and that no change of it alone explains: its capture is read once more, as with Recover. If that
 // finds two plies, somebody is asked about them.
 
-import { firstPair } from '../game/hidden.js';
+import { askedPair } from '../game/hidden.js';
 import { RECOVERS } from '../game/typed.js';
 import { Kind } from './state.js';
 
@@ -34,10 +34,10 @@ export class Hidden {
   }
 
   async read() {
-    const { attending, capture, hall, options } = this.session;
+    const { attending, capture, course, hall, options } = this.session;
     const { epoch } = attending.showing;
     this.size = capture.size;
-    const pair = await firstPair(hall.calls, options, capture.view());
+    const pair = await askedPair(hall.calls, options, capture.view(), course.plies);
     if (epoch !== attending.showing.epoch || this.nextAt === null) return;
     this.typed = pair ? `${RECOVERS} ${pair.moves}` : '';
   }

@@ -80,7 +80,7 @@ export class Presence {
 
   get state() {
     const { capture, hidden, isOver, playing } = this.session;
-    const isAsked = !isOver && !playing.forfeit;
+    const isAsked = !isOver && !playing.forfeit && !playing.course.hasGoneBack;
     const beside = { result: playing.course.result, disk: capture.trouble, look: playing.alarms.looks.short, clockStopped: this.clockStopped };
     return stateOf({ ...this.said, fits: isAsked ? this.said.fits || hidden.typed : '' }, this.saidAt, playing.differs, beside);
   }

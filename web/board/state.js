@@ -142,7 +142,7 @@ export function standing(state, now) {
   const { kind, since, isAlarm, differing } = state;
   const words = new State(kind, now, state).text(now);
   const isWaiting = kind === Kind.WAITS || state.hint === TURNED_ROUND;
-  return { state: String(words), since: isWaiting ? null : since, alarm: isAlarm, differing, mend: mendOf(state) };
+  return { state: String(words), since: isWaiting ? null : since, alarm: isAlarm, differing, mend: state.asks ? message('mend.if_not', { mend: mendOf(state) }) : mendOf(state) };
 }
 
 /** @type {{ [kind: string]: Message }} */

@@ -10,7 +10,7 @@ import { between } from '../game/hidden.js';
 import { ofTyping, optionsOf } from '../game/options.js';
 import {
   ABSENT, AS_IT_IS, Asked, CUT, HELP, REFUSED, Refused, THIS, UNDO, UNPLAYED, alike, askedOf, cannot, isStillShown, meaning,
-  placeOf, playedSince, question, reached, readAnswer, readBack, readInstead, readWords, refusal, refuse, refuseBack, refuseInstead,
+  placeOf, playedSince, question, questionOfUndo, reached, readAnswer, readBack, readInstead, readWords, refusal, refuse, refuseBack, refuseInstead,
   refuseNothing, settled, takenOut, takenUp, whichGame, wordsOfBack, wordsOfInstead, wordsOfUndone,
 } from '../game/typed.js';
 import { DISK_FULL, MOST } from '../kept/capture.js';
@@ -39,11 +39,6 @@ async function resultIn(calls, text) {
 function aboutLooks(before, left) {
   const gone = before.open.filter((look) => !left.open.includes(look)).map(shortOfLook);
   return gone.length > 0 ? [message('look.settled', { looks: linked('comma', gone) })] : [];
-}
-
-/** @type {(typed: import('../game/typed.js').Typed, line: string) => ChangeTyped} what changes the game: a question that is accepted is done as if its line had been typed */
-function asked(typed, line) {
-  return /** @type {ChangeTyped} */ (typed.kind === 'accepted' ? readWords(line) : typed);
 }
 
 export class Typing {
@@ -104,7 +99,7 @@ export class Typing {
       if (session.capture.trouble) throw new Refused(unkept(session.capture));
       if (typed.kind === 'accepted') await session.attending.read();
       const line = typed.kind === 'accepted' ? session.presence.accepts() : text;
-      const said = await this.does(asked(typed, line), line);
+      const said = await this.does(typed.kind === 'accepted' ? /** @type {ChangeTyped} */ (readWords(line)) : typed, line);
       session.says(said);
       return { done: true, said: session.capture.trouble ? linked('stop', [said, message('keep.not_yet')]) : said };
     } catch (error) {
@@ -429,7 +424,11 @@ export class Typing {
       const { end } = put.before;
       return { kept, content, now: await gameOf(calls, options, end === null ? content : content.subarray(0, end)) };
     };
-    const said = await this.decided(decide, ({ kept, content, now }) => this.putBack(line, put, kept, content, now));
+    const said = await this.asking((asked) => this.decided(decide, ({ kept, content, now }) => {
+      const asks = questionOfUndo(line, this.session.course.plies.slice(alike(this.session.course.plies, now.plies)));
+      if (asks && !isSame(asks, asked)) throw new Asked(asks);
+      return this.putBack(line, put, kept, content, now);
+    }));
     this.obeyed(UNDO, null, message('undo.twice', { line }));
     return said;
   }

@@ -9,6 +9,9 @@ import { ofBoard, ofRecord, ofTyping } from './options.js';
 import { published } from './tags.js';
 import { readAnswer, readBack, refuseBack } from './typed.js';
 
+/** @type {(fen: string) => string} the pieces of a position */
+export const placementOf = (fen) => fen.split(' ')[0];
+
 /** The moves of a game with their positions, its result, and what the board shows. */
 export class Course {
   constructor() {
@@ -33,6 +36,11 @@ export class Course {
     } else if (event.kind === 'move' || event.kind === 'result') {
       this.takeChange(event, offset);
     }
+  }
+
+  /** Whether the board shows a position that the game had more than two plies ago: perhaps all since was taken back. */
+  get hasGoneBack() {
+    return this.fens.slice(0, -3).some((fen) => placementOf(fen) === this.placement);
   }
 
   /** What a card shows at once: how many plies there are, the last one, and the result. */

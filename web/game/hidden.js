@@ -4,9 +4,9 @@ import { ProgramError, endedWith } from '../child/program.js';
 import { lineOf } from '../child/report.js';
 import { frameAt, joined } from '../line/protocol.js';
 import { message } from '../../live/show/page/message.js';
-import { gameOf } from './course.js';
+import { gameOf, placementOf } from './course.js';
 import { ofBoard } from './options.js';
-import { Refused } from './typed.js';
+import { Refused, alike } from './typed.js';
 
 /** Two plies, as they are typed: `3. Bc4 Nc6`; and the offset of the byte with which the board has confirmed them.
  * @typedef {{ moves: string, offset: number }} Pair */
@@ -37,6 +37,21 @@ async function recovered(program, options, sent) {
 export async function firstPair(program, options, sent) {
   const { pairs } = await recovered(program, options, sent);
   return pairs.length > 0 ? pairs[0] : null;
+}
+
+/** The first pair, unless it leads back to an earlier position of a game with these plies: then the plies may have been taken back. Else null.
+ * @type {(program: Program, options: Options, sent: Uint8Array, plies: Move[]) => Promise<Pair | null>} */
+export async function askedPair(program, options, sent, plies) {
+  const pair = await firstPair(program, options, sent);
+  if (!pair) return null;
+  const { now } = await between(program, options, sent, pair.moves);
+  return leadsBack(now.fens, alike(plies, now.plies)) ? null : pair;
+}
+
+/** @type {(fens: string[], stays: number) => boolean} whether the two plies behind so many lead to a position that the game had before them */
+export function leadsBack(fens, stays) {
+  const placements = fens.map(placementOf);
+  return placements.length > stays + 2 && placements.slice(0, stays + 1).includes(placements[stays + 2]);
 }
 
 /** The bytes of a board with the frames of a pair that `recover` has made behind this byte. They come before the frame that has confirmed the

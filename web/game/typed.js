@@ -360,6 +360,12 @@ export function wordsOfUndone(line, before, now) {
   return linked('semicolon', parts);
 }
 
+/** @type {(line: string, gone: Move[]) => Words} the question before plies go that were made since a line; empty if they may go at once */
+export function questionOfUndo(line, gone) {
+  const since = gone.slice(line.split(/\s+/).filter((word) => /^[A-Za-z]/.test(word)).length);
+  return since.length > WITHOUT_A_QUESTION ? message('undo.asks', { count: since.length, ply: shortOf(since[0]) }) : '';
+}
+
 /** @type {(line: string, why: Words) => Message} the line that was obeyed last can't be undone */
 export const cannot = (line, why) => message('undo.cannot', { line: printable([...line.trim()].slice(0, SHOWN).join('')), why });
 
