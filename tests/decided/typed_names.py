@@ -114,10 +114,10 @@ def gets() -> None:
     same("in any letters", typed_options(ALL, with_names(LINE, (replace(WHITE, value="王"),))).written("--white"), "王")
     same("recorded so", typed_options(ALL, with_names(LINE, (replace(WHITE, value="王"),))).white, "White 5")
     for names, text, told in (
-        ((WHITE,), "name White=Carlsen", "so. This holds for this pair until its cell in the table changes"),
+        ((WHITE,), "name White=Carlsen", "so. It stays so for this pair until you change it in the table"),
         ((WHITE, EVENT), "name Event=Open", "so. This holds for this pair until the round gets another value"),
-        ((WHITE, EVENT), "name White=Carlsen Event=Open", "so. This holds for this pair until its cell in the table changes"),
-        ((WHITE,), "name WhiteElo=2850", "so. This is its own value in the round, so no typed one is kept"),
+        ((WHITE, EVENT), "name White=Carlsen Event=Open", "so. It stays so for this pair until you change it in the table"),
+        ((WHITE,), "name WhiteElo=2850", "so. That is what the table has, so nothing typed is kept"),
     ):
         same(text, told_of_typed("so", text, with_names(LINE, names)), told)
 

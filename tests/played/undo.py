@@ -116,7 +116,7 @@ def all_undone(folder: pathlib.Path) -> None:
     until_game(live.name, "*")
     answered(live, "e4", "added by hand: e4")
     until_game(live.name, "1. e4 *")
-    answered(live, "UNDO", 'undone: "e4"; taken off: 1. e4; no ply again')
+    answered(live, "UNDO", 'undone: "e4"; taken off: 1. e4; the game has no moves again')
     until_game(live.name, "*")
     board.play("d2d4")
     until_game(live.name, "1. d4 *")

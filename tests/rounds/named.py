@@ -13,8 +13,8 @@ from rounds.witness import served
 
 from live.game.tags import pairs_of
 
-HOLDS = "This holds for this pair until its cell in the table changes"
-OWN = "This is its own value in the round, so no typed one is kept"
+HOLDS = "It stays so for this pair until you change it in the table"
+OWN = "That is what the table has, so nothing typed is kept"
 
 
 class Named:

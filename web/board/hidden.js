@@ -34,11 +34,12 @@ export class Hidden {
   }
 
   async read() {
-    const { attending, capture, course, hall, options } = this.session;
+    const { attending, capture, course, hall, options, presence } = this.session;
     const { epoch } = attending.showing;
     this.size = capture.size;
     const pair = await askedPair(hall.calls, options, capture.view(), course.plies);
     if (epoch !== attending.showing.epoch || this.nextAt === null) return;
     this.typed = pair ? `${RECOVERS} ${pair.moves}` : '';
+    presence.asks();
   }
 }
