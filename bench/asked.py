@@ -72,6 +72,7 @@ class Table:
         self.capture = bytearray()
         self.yes = self.questions = self.not_so = 0
         self._question: Optional[Question] = None
+        self._dump_at: Optional[int] = None  # when the board answers
         self._looks_at: Optional[int] = None  # when hidden plies are looked for
         self._begin(b"", 0)
 
@@ -87,7 +88,8 @@ class Table:
     def _begin(self, capture: bytes, now: int) -> None:
         """`live` attends the board of a game with this capture from now on."""
         self._host = Host()
-        self._call, self._since, self._dump_at = Call(self._host), now, None
+        self._call, self._since = Call(self._host), now
+        self._dump_at = None
         self.capture = bytearray(capture)
         if capture:
             self._call.tell(brings(0, "capture", capture))

@@ -5,11 +5,11 @@ from types import SimpleNamespace
 from typing import Optional, cast
 
 from live.child.lines import Move
-from live.game.files import Paths
+from live.game.files import Paths, PutIn
 from live.game.game import Game
 from live.game.kept import Capture
 from live.game.looks import OVER, Look, Looks
-from live.game.typed import PutIn, Said, Way, asked_of, not_back, not_instead, nothing_goes, numbered, played_since, read_answer, stays_of, taken_up, way_of
+from live.game.typed import Said, Way, asked_of, not_back, not_instead, nothing_goes, numbered, played_since, read_answer, stays_of, taken_up, way_of
 from live.game.undone import Obeyed, Undone, alike, to_undo
 from live.run.refused import NotDone
 

@@ -8,11 +8,11 @@ from typing import List
 
 from live.child.program import Program
 from live.game.changing import add_by_name
-from live.game.files import Paths
+from live.game.files import Paths, PutIn
 from live.game.game import Game
 from live.game.kept import Times, open_game
 from live.game.options import Options
-from live.game.typed import PutIn, ask_to_add
+from live.game.typed import ask_to_add
 from live.game.undone import undone
 from live.run.refused import REFUSED
 from play_board import field
