@@ -348,14 +348,14 @@ def as_typed(words: Sequence[str]) -> List[str]:
 
 NAME = "name"
 OPTION_OF = {"Date": DATE, **{name: option for option, name in PUBLISHED.items()}}
-NEXT_PAIR = re.compile(r"\s+(?=[A-Za-z]+\s*=)")  # before the second pair in a line, and those after it
+NEXT_PAIR = re.compile(r",?\s+(?=[A-Za-z]+\s*=)")  # before the second pair in a line, and those after it
 PLACE_TYPED = re.compile(r"^\s*place\s*=", re.IGNORECASE)  # what PGN calls Site
 IN_A_TABLE = Message("naming.in_a_table")
 
 
 def is_naming(text: str) -> bool:
     """Whether a line gives names."""
-    return text.split()[:1] == [NAME]
+    return text.lower().split()[:1] == [NAME]
 
 
 def read_names(text: str, board: int = 0) -> Options:

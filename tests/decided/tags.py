@@ -142,6 +142,8 @@ def added_to_what_is_kept() -> None:
 NAMED = [
     ("name White=Anna", ("--white", "Anna")),
     ("name white = Anna Kern  ", ("--white", "Anna Kern")),
+    ("NAME White=Anna", ("--white", "Anna")),
+    ("name White=Kern, Anna, Black=Ott, Ben", ("--white", "Kern, Anna", "--black", "Ott, Ben")),
     ("name White=Anna Kern Black=Ben  Ott", ("--white", "Anna Kern", "--black", "Ben  Ott")),
     ("name Event=Club cup Round=3 Date=31.05.2024 Site=Basel",
      ("--event", "Club cup", "--round", "3", "--date", "31.05.2024", "--site", "Basel")),
